@@ -1,0 +1,2 @@
+mod StandardExamples
+pub mod HopLayers

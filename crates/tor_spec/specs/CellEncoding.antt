@@ -1,0 +1,23 @@
+-- How a cell lies on a link (tor-spec, "Cell format"; link protocol 4). Bytes are numbers below 256.
+use Rattle.std.specs.Prelude.{ℕ, ◌∷◌, ◌++◌, List, length, Bool, ◌==◌, ◌||◌, nat_le, if◌then◌else◌}
+use Rattle.std.specs.Int.{w16, w32, to_be_bytes}
+
+-- A cell's fields: the CircID, the command and the payload.
+pub record WireCell : Type 0 where
+  pub circuit : ℕ
+  pub command : ℕ
+  pub payload : List ℕ
+
+-- VERSIONS, and every command from 128 on, have a payload of variable length.
+abbrev pub is_variable : ℕ → Bool
+is_variable command = (command == 7) || nat_le 128 command
+
+-- CircID (4 bytes), command (1), for a variable-length cell the length (2), and the payload;
+-- numbers are big-endian.
+abbrev pub encoding : WireCell → List ℕ
+encoding c = to_be_bytes w32 c.circuit ++ c.command ∷
+    (if is_variable c.command then to_be_bytes w16 (length c.payload) ++ c.payload else c.payload)
+
+-- The first cell of a link, VERSIONS, has a CircID of 2 bytes (tor-spec, "Negotiating versions").
+abbrev pub first_encoding : WireCell → List ℕ
+first_encoding c = to_be_bytes w16 c.circuit ++ c.command ∷ (to_be_bytes w16 (length c.payload) ++ c.payload)

@@ -1,0 +1,15 @@
+pub mod Begin
+pub mod CellEncoding
+pub mod CellReading
+pub mod CellStream
+pub mod CircuitWindow
+pub mod Connected
+pub mod Decimal
+pub mod Ends
+pub mod Extend
+pub mod Netinfo
+pub mod RelayCell
+pub mod Resolve
+pub mod Sendme
+pub mod Text
+pub mod Versions
