@@ -1,0 +1,11 @@
+pub mod Bytes
+pub mod Circuit
+pub mod Eight
+pub mod Exchanges
+pub mod Keys
+pub mod Lanes
+pub mod Layers
+pub mod MixColumns
+pub mod Rows
+pub mod Shuffles
+pub mod States
