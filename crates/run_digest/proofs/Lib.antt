@@ -1,0 +1,7 @@
+mod Blocks
+mod Messages
+mod NextFour
+mod RoundSteps
+mod ScheduleWords
+mod Turn
+mod WordsInPlace
