@@ -1,0 +1,3 @@
+mod Collected
+mod Feeding
+mod Readings

@@ -1,0 +1,40 @@
+-- What a decoder keeps, and what it answers, in the words of a link's reading.
+use Rattle.std.specs.Prelude.{ℕ, ◌≡◌, ◌≢◌, [], ◌∷◌, ◌++◌, List, map, All, true, false, Some, None}
+use Rattle.std.specs.Int.{w16, to_be_bytes}
+use Rattle.tor_spec.specs.CellReading.{Unread, Reading, cell_at, first_at, wrong_start, refusal}
+use Rattle.cell_codec.specs.declared.cell.Cell.{Cell}
+use Rattle.cell_codec.specs.declared.cell.DecodeFault.{DecodeFault}
+use Rattle.cell_codec.specs.declared.cell.DecodeFault.TheVariants.{BadFirst, Short, Memory}
+use Rattle.cell_codec.specs.declared.decoder.Stage.{Stage}
+use Rattle.cell_codec.specs.declared.decoder.Stage.TheVariants.{Opening, Open, Refused}
+use Rattle.cell_codec.specs.Cells.{wire_cell, IsWellFormed}
+
+-- These are the cells of the reading, and these bytes, in which no cell has ended, are left.
+pub record Reads (r : Reading) (cells : List Cell) (left : List ℕ) : Type 0 where
+  pub read : map wire_cell cells ≡ r.cells
+  pub behind : r.left ≡ record { opening = false; bytes = left }
+  pub settled : cell_at left ≡ None
+  pub well_formed : All IsWellFormed cells
+
+-- A refused link keeps the three bytes that show why.
+abbrev pub unread_of : Stage → List ℕ → Unread
+unread_of Opening rest = record { opening = true; bytes = rest }
+unread_of Open rest = record { opening = false; bytes = rest }
+unread_of (Refused circ command) rest = record { opening = true; bytes = to_be_bytes w16 circ ++ command ∷ [] }
+
+-- No cell has ended in what is kept.
+abbrev pub IsSettled : Stage → List ℕ → Type 0
+IsSettled Opening rest = (wrong_start rest ≡ None) × (first_at rest ≡ None)
+IsSettled Open rest = cell_at rest ≡ None
+IsSettled (Refused circ command) rest = (rest ≡ []) × (wrong_start (to_be_bytes w16 circ ++ command ∷ []) ≡ Some (circ, command))
+
+-- BadFirst tells the link's wrong start; want of memory tells nothing.
+abbrev pub TellsRefusal : DecodeFault → Unread → Type 0
+TellsRefusal (BadFirst circ command) link = refusal link ≡ Some (circ, command)
+TellsRefusal Short link = ⊥
+TellsRefusal Memory link = Unit {0}
+
+-- Bytes of a cell that hasn't ended are left, and the link isn't refused.
+pub record IsUnfinished (link : Unread) : Type 0 where
+  pub bytes : link.bytes ≢ []
+  pub accepted : refusal link ≡ None

@@ -1,0 +1,19 @@
+-- What a write says of the bytes that a sink holds.
+use Rattle.std.specs.Prelude.{◌≡◌, ℕ, ◌<◌, ◌≤◌, List, ◌++◌, length, take, Option, Some, None}
+use Rattle.tr_io.specs.declared.sink.WriteAnswer.{WriteAnswer}
+use Rattle.tr_io.specs.declared.sink.WriteAnswer.TheVariants.{Took, Failed}
+
+-- A write takes at least one byte of a piece that has some, and at most all of it.
+abbrev pub TookWithin : WriteAnswer → List ℕ → Type 0
+TookWithin (Took n) piece = (n ≤ length piece) × (0 < length piece → 1 ≤ n)
+TookWithin Failed piece = Unit {0}
+
+-- Where the bytes written are told: what was taken stands behind them; a write that failed leaves them.
+abbrev pub Writes : WriteAnswer → List ℕ → List ℕ → Option (List ℕ) → Type 0
+Writes (Took n) piece written after = after ≡ Some (written ++ take n piece)
+Writes Failed piece written after = after ≡ Some written
+
+-- The same for a sink that may not tell: then it never tells.
+abbrev pub WritesTo : Option (List ℕ) → WriteAnswer → List ℕ → Option (List ℕ) → Type 0
+WritesTo None answer piece after = after ≡ None
+WritesTo (Some written) answer piece after = Writes answer piece written after
