@@ -1,0 +1,4 @@
+pub mod Encodings
+pub mod FirstCells
+pub mod Found
+pub mod Spellings
