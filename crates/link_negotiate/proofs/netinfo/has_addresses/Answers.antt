@@ -1,0 +1,19 @@
+use Rattle.std.proofs.Common.{◌≡◌, None, Some, is_some, sym, ap, ◌∙◌, arith}
+use Rattle.tor_spec.specs.Netinfo.{behind_address, behind_addresses}
+use Rattle.tor_spec.proofs.NetinfoSteps.{one_address, no_address, all_addresses}
+use Rattle.link_negotiate.proofs.netinfo.has_addresses.Goals as goal
+
+pub returns-in_default : goal.returns-in_default
+returns-in_default c =
+    let none : behind_address c.loop-missing.left.now ≡ None = c.in_default.ensures in
+    sym (ap (λ o. is_some o) (sym c.loop-missing.invariant ∙ no_address _ _ c.loop-missing-test.true none))
+
+pub loop-missing-preserved : goal.loop-missing-preserved
+loop-missing-preserved c =
+    let some : behind_address c.loop-missing.left.now ≡ Some c.in-Some.behind.now = c.in-Some.ensures in
+    sym (one_address _ _ _ c.loop-missing-test.true some) ∙ c.loop-missing.invariant
+
+pub returns : goal.returns
+returns c =
+    let zero : c.loop-missing.missing ≡ 0 = omega arith in
+    sym (ap (λ o. is_some o) (sym c.loop-missing.invariant ∙ ap (λ n. behind_addresses n c.loop-missing.left.now) zero ∙ all_addresses _))

@@ -1,0 +1,105 @@
+ghost use Rattle.std.specs.Prelude.{◌≡◌, ◌≢◌, true, false};
+ghost use Rattle.cell_codec.specs.Cells.{wire_cell};
+
+use crate::answer::LinkAnswer;
+use crate::greeting::{greeting, own_netinfo};
+use crate::phase::Phase;
+use crate::reading::{read_netinfo, read_versions};
+use cell_codec::{Cell, LinkFault};
+use std::alloc::Global;
+use std::marker::Model;
+
+/// One side's part in opening a link. Contracts see which side it is and where it stands.
+#[derive(Drop)]
+pub struct Negotiation {
+    alloc: Global,
+    opener: bool,
+    phase: Phase,
+}
+
+impl Model for Negotiation {
+    ghost use Rattle.link_negotiate.specs.Negotiation.{Side};
+
+    ghost Value = { Side };
+
+    ghost view = { λ n. record { opener = n.opener; phase = n.phase } };
+}
+
+impl Negotiation {
+    ghost use Rattle.link_negotiate.specs.Negotiation.{opening_side, answering_side, answer, behind};
+    ghost use Rattle.link_negotiate.specs.Answering.{Answers};
+    ghost use Rattle.link_negotiate.specs.declared.answer.LinkAnswer.TheVariants.{Memory};
+
+    /// The side that opened the connection. It sends VERSIONS, with `OUR_VERSIONS`, first.
+    pub fn opener(alloc: Global) -> Negotiation
+        ensures { result ≡ opening_side }
+    {
+        Negotiation {
+            alloc,
+            opener: true,
+            phase: Phase::Versions,
+        }
+    }
+
+    /// The side that accepted the connection.
+    pub fn answerer(alloc: Global) -> Negotiation
+        ensures { result ≡ answering_side }
+    {
+        Negotiation {
+            alloc,
+            opener: false,
+            phase: Phase::Versions,
+        }
+    }
+
+    /// Answers the next cell that came. `OddVersions`, `NoCommonVersion` and `BadNetinfo` tell
+    /// what is wrong with a cell, and `Unexpected` that it may not stand here. A refusal is
+    /// repeated for every later cell, and an open link refuses each as unexpected.
+    ///
+    /// After `Memory` the cell was not taken.
+    pub fn step(&mut self, cell: &Cell) -> LinkAnswer
+        ensures answer { Answers result (answer self.old (wire_cell cell.now)) }
+        ensures next { result ≢ Memory → self.new ≡ behind self.old (wire_cell cell.now) }
+        ensures memory { result ≡ Memory → self.new ≡ self.old }
+    {
+        match self.phase {
+            Phase::Versions => match read_versions(cell) {
+                Ok(version) => {
+                    if self.opener {
+                        self.phase = Phase::Netinfo(version);
+                        return LinkAnswer::PassedOver;
+                    }
+                    match greeting(self.alloc) {
+                        Ok(cells) => {
+                            self.phase = Phase::Netinfo(version);
+                            LinkAnswer::Send(cells)
+                        }
+                        Err(_) => LinkAnswer::Memory,
+                    }
+                }
+                Err(fault) => {
+                    self.phase = Phase::Refused(fault);
+                    LinkAnswer::Refused(fault)
+                }
+            },
+            Phase::Netinfo(version) => match read_netinfo(cell) {
+                Ok(true) => {
+                    self.phase = Phase::Open;
+                    let netinfo = if self.opener {
+                        Some(own_netinfo())
+                    } else {
+                        None
+                    };
+                    LinkAnswer::Ready(version, netinfo)
+                }
+                Ok(false) => LinkAnswer::PassedOver,
+                Err(fault) => {
+                    self.phase = Phase::Refused(fault);
+                    LinkAnswer::Refused(fault)
+                }
+            },
+            Phase::Open => LinkAnswer::Refused(LinkFault::Unexpected(cell.command)),
+            Phase::Refused(fault) => LinkAnswer::Refused(fault),
+        }
+    }
+}

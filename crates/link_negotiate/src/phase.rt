@@ -1,0 +1,14 @@
+use cell_codec::LinkFault;
+
+/// Where a negotiation stands.
+#[derive(Clone, Copy)]
+pub enum Phase {
+    /// VERSIONS is awaited.
+    Versions,
+    /// NETINFO is awaited; this version was agreed on.
+    Netinfo(u16),
+    /// The link is open.
+    Open,
+    /// The link is refused.
+    Refused(LinkFault),
+}

@@ -1,0 +1,95 @@
+use crate::{LinkAnswer, LinkFault, Negotiation};
+use cell_codec::{Body, Bytes, Cell};
+use std::alloc::{AllocError, Global};
+use std::test::Fail;
+
+fn versions(alloc: Global, payload: &[u8]) -> Result<Cell, AllocError> {
+    Ok(Cell {
+        circ: 0,
+        command: 7,
+        body: Body::Var(Bytes::of(alloc, payload)?),
+    })
+}
+
+fn netinfo(addresses: [u8; 8]) -> Cell {
+    let mut payload = [0; 509];
+    payload[4..12].copy_from_slice(&addresses);
+    Cell {
+        circ: 0,
+        command: 8,
+        body: Body::Fixed(payload),
+    }
+}
+
+/// The fault of a refusal.
+fn fault(answer: LinkAnswer) -> Option<LinkFault> {
+    match answer {
+        LinkAnswer::Refused(fault) => Some(fault),
+        _ => None,
+    }
+}
+
+#[test]
+fn two_sides_open_a_link(rt: HostRuntime) -> Result<(), Fail> {
+    let mut opener = Negotiation::opener(rt.alloc());
+    let mut answerer = Negotiation::answerer(rt.alloc());
+    let offered = versions(rt.alloc(), &[0, 3, 0, 4, 0, 5])?;
+    match answerer.step(&offered) {
+        LinkAnswer::Send(cells) => {
+            assert_eq!(rt; cells.len(), 2);
+            let sent = cells.as_slice();
+            assert_eq!(rt; sent[0].body.payload(), [0, 4].as_slice());
+            let told = sent[1].body.payload();
+            assert_eq!(rt; told.len(), 509);
+            assert_eq!(rt;
+                &told[..12],
+                [0, 0, 0, 0, 4, 4, 0, 0, 0, 0, 0, 0].as_slice()
+            );
+            assert!(rt; matches!(opener.step(&sent[0]), LinkAnswer::PassedOver));
+            match opener.step(&sent[1]) {
+                LinkAnswer::Ready(4, Some(own)) => {
+                    assert!(rt; matches!(answerer.step(&own), LinkAnswer::Ready(4, None)));
+                }
+                _ => assert!(rt; false),
+            }
+        }
+        _ => assert!(rt; false),
+    }
+    assert_eq!(rt;
+        fault(opener.step(&offered)),
+        Some(LinkFault::Unexpected(7))
+    );
+    Ok(())
+}
+
+#[test]
+fn refusals_have_their_names_and_stay(rt: HostRuntime) -> Result<(), Fail> {
+    for (payload, want) in [
+        ([0, 4, 0].as_slice(), LinkFault::OddVersions),
+        ([0, 3].as_slice(), LinkFault::NoCommonVersion),
+        ([].as_slice(), LinkFault::NoCommonVersion),
+    ] {
+        let mut side = Negotiation::answerer(rt.alloc());
+        let cell = versions(rt.alloc(), payload)?;
+        assert_eq!(rt; fault(side.step(&cell)), Some(want));
+        assert_eq!(rt;
+            fault(side.step(&netinfo([4, 4, 0, 0, 0, 0, 0, 0]))),
+            Some(want)
+        );
+    }
+    for (addresses, want) in [
+        ([4, 4, 127, 0, 0, 1, 0, 0], None),
+        ([9, 1, 5, 1, 6, 16, 0, 0], None),
+        ([4, 4, 127, 0, 0, 1, 1, 4], Some(LinkFault::BadNetinfo)),
+        ([4, 3, 127, 0, 0, 0, 0, 0], Some(LinkFault::BadNetinfo)),
+        ([6, 4, 127, 0, 0, 1, 0, 0], Some(LinkFault::BadNetinfo)),
+    ] {
+        let mut side = Negotiation::opener(rt.alloc());
+        let early = side.step(&netinfo(addresses));
+        assert_eq!(rt; fault(early), Some(LinkFault::Unexpected(8)));
+        let mut side = Negotiation::opener(rt.alloc());
+        assert!(rt; fault(side.step(&versions(rt.alloc(), &[0, 4])?)).is_none());
+        assert_eq!(rt; fault(side.step(&netinfo(addresses))), want);
+    }
+    Ok(())
+}

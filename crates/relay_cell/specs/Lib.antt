@@ -1,0 +1,4 @@
+pub mod Begin
+pub mod Extend
+pub mod Head
+pub mod Specifier
