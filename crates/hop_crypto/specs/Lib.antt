@@ -1,0 +1,3 @@
+pub mod OpenerState
+pub mod Ciphers
+pub mod Jobs
