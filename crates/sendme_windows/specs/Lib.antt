@@ -1,0 +1,3 @@
+pub mod WindowsState
+pub mod Counts
+pub mod Answers

@@ -1,0 +1,19 @@
+use Rattle.std.proofs.Common.{◌≡◌, ℕ, Option, Some, None, get_or, replicate, refl, zero, suc, arith, sym, ◌∙◌}
+use Rattle.stream_edge.specs.declared.held.Held.{Held}
+use Rattle.stream_edge.proofs.places.Places.new.Goals as goal
+
+-- a free place holds nothing
+all_free : (n place : ℕ) → ◌≡◌ {A = Option Held} (get_or (replicate n None) place None) None
+all_free zero place = refl
+all_free (suc n) zero = refl
+all_free (suc n) (suc place) = all_free n place
+
+pub invariant_of-result : goal.invariant_of-result
+invariant_of-result c = record {
+  places = refl;
+  next_serial = omega arith;
+  calls = omega arith;
+  counted = λ place h is.
+      let never : ◌≡◌ {A = Option Held} None (Some h) = sym (all_free 32 place) ∙ is in
+      cc;
+}

@@ -1,0 +1,328 @@
+//! The places of a circuit.
+
+ghost use Rattle.std.specs.Prelude.{◌≡◌, ◌+◌, ◌^◌, ◌<◌, ◌≤◌, IsTrue, IfSome, IfNone, if◌then◌else◌, Option, Some, None, option_map, position, replicate};
+ghost use Rattle.stream_edge.specs.Streams.{after_accepting, after_credit, after_draining, after_packaging, begun, is_free, is_live_as, may_accept, may_credit, may_package, sendme_due};
+ghost use Rattle.stream_edge.specs.PlacesState.{IsCounted, IsEnding, IsLive, IsTaken, held_at, with_held};
+ghost use Rattle.stream_edge.specs.declared.held.Held.{Held};
+
+use crate::held::{Held, Phase};
+use std::marker::Model;
+
+/// The places of a circuit.
+const PLACES: usize = 32;
+
+/// The cells that a stream's window begins with.
+const START: u64 = 500;
+
+/// The cells by which each SENDME raises it.
+const STEP: u64 = 50;
+
+/// The number of a place, below 32.
+#[derive(Clone, Copy, PartialEq, Eq, Debug)]
+pub struct PlaceNo(pub u32);
+
+/// Whether a stream may accept one more DATA cell.
+#[derive(Clone, Copy, PartialEq, Eq, Debug)]
+pub enum AcceptAnswer {
+    Accepted,
+    /// Its window is used up.
+    Overrun,
+}
+
+/// Whether a stream's SENDME is accepted.
+#[derive(Clone, Copy, PartialEq, Eq, Debug)]
+pub enum CreditAnswer {
+    Raised,
+    /// The window would pass 500 cells.
+    TooMuch,
+}
+
+/// The streams of a circuit.
+#[derive(Drop)]
+pub struct Places {
+    held: [Option<Held>; 32],
+    next_serial: u64,
+    calls: u64,
+}
+
+impl Model for Places {
+    ghost use Rattle.stream_edge.specs.PlacesState.{PlacesState, IsInStep};
+
+    ghost Value = { PlacesState };
+
+    ghost view = { λ p. record { held = p.held; next_serial = p.next_serial; calls = p.calls } };
+
+    ghost invariant = { λ p. IsInStep (record { held = p.held; next_serial = p.next_serial; calls = p.calls }) };
+}
+
+impl Places {
+    /// No place is taken.
+    pub fn new() -> Places
+        ensures { result ≡ record { held = replicate 32 None; next_serial = 0; calls = 0 } }
+    {
+        Places {
+            held: [None; PLACES],
+            next_serial: 0,
+            calls: 0,
+        }
+    }
+
+    /// The place at which the StreamID is live, if there is one.
+    pub fn live(&self, id: u16) -> Option<PlaceNo>
+        ensures { option_map (λ place. place.0) result ≡ position (is_live_as id) self.now.held }
+    {
+        let place = live_place(&self.held, id)?;
+        Some(PlaceNo(place as u32))
+    }
+
+    /// Takes a place for a stream that was just accepted. `None`, and nothing is taken, exactly where
+    /// all 32 are taken.
+    pub fn take_place(&mut self, id: u16) -> Option<PlaceNo>
+        requires calls { self.old.calls < 2 ^ 63 }
+        requires new { position (is_live_as id) self.old.held ≡ None }
+        ensures place { option_map (λ place. place.0) result ≡ position is_free self.old.held }
+        ensures some { IfSome result (λ place. self.new ≡ record (with_held self.old place.0 (Some (begun id self.old.next_serial))) { next_serial = self.old.next_serial + 1 }) }
+        ensures taken { IfSome result (λ place. held_at self.new place.0 ≡ Some (begun id self.old.next_serial)) }
+        ensures none { IfNone result (self.new ≡ record self.old { calls = self.old.calls + 1 }) }
+        ensures calls { self.new.calls ≡ self.old.calls + 1 }
+    {
+        self.calls += 1;
+        let place = free_place(&self.held)?;
+        self.held[place] = Some(begun(id, self.next_serial));
+        self.next_serial += 1;
+        Some(PlaceNo(place as u32))
+    }
+
+    /// The phase of the stream at the place; `None` where the place is free.
+    pub fn phase(&self, place: PlaceNo) -> Option<Phase>
+        ensures { result ≡ option_map (λ h. h.phase) (held_at self.now place.0) }
+    {
+        self.get(place).map(|stream| stream.phase)
+    }
+
+    /// Which of the circuit's accepted BEGINs the stream is, counted from 0.
+    pub fn serial(&self, place: PlaceNo) -> u64
+        requires { IsTaken self.now place.0 }
+        ensures { (h : Held) → held_at self.now place.0 ≡ Some h → result ≡ h.serial }
+    {
+        self.stream_at(place).serial
+    }
+
+    /// The stream is connected.
+    pub fn joined(&mut self, place: PlaceNo)
+        requires calls { self.old.calls < 2 ^ 63 }
+        requires live { IsLive self.old place.0 }
+        ensures stream { (h : Held) → held_at self.old place.0 ≡ Some h → self.new ≡ with_held self.old place.0 (Some (record h { phase = Phase.Joined })) }
+        ensures calls { self.new.calls ≡ self.old.calls + 1 }
+    {
+        let stream = self.stream_at(place);
+        self.put(
+            place,
+            Some(Held {
+                phase: Phase::Joined,
+                ..stream
+            }),
+        );
+    }
+
+    /// Counts a DATA cell that came for the stream, where its window allows one more.
+    pub fn accepted(&mut self, place: PlaceNo) -> AcceptAnswer
+        requires calls { self.old.calls < 2 ^ 63 }
+        requires live { IsLive self.old place.0 }
+        ensures answer { (h : Held) → held_at self.old place.0 ≡ Some h → result ≡ (if may_accept h then AcceptAnswer.Accepted else AcceptAnswer.Overrun) }
+        ensures counted { (h : Held) → held_at self.old place.0 ≡ Some h → self.new ≡ with_held self.old place.0 (Some (after_accepting h)) }
+        ensures calls { self.new.calls ≡ self.old.calls + 1 }
+    {
+        let stream = self.stream_at(place);
+        if stream.accepted < START + STEP * (stream.drained / STEP) {
+            self.put(
+                place,
+                Some(Held {
+                    accepted: stream.accepted + 1,
+                    ..stream
+                }),
+            );
+            AcceptAnswer::Accepted
+        } else {
+            self.put(place, Some(stream));
+            AcceptAnswer::Overrun
+        }
+    }
+
+    /// Counts an accepted DATA cell whose bytes the connection has taken. `None` exactly where there
+    /// is none; else whether a SENDME is due, which raises the window by 50: for each 50th.
+    pub fn drained(&mut self, place: PlaceNo) -> Option<bool>
+        requires calls { self.old.calls < 2 ^ 63 }
+        requires live { IsLive self.old place.0 }
+        ensures answer { (h : Held) → held_at self.old place.0 ≡ Some h → result ≡ sendme_due h }
+        ensures counted { (h : Held) → held_at self.old place.0 ≡ Some h → self.new ≡ with_held self.old place.0 (Some (after_draining h)) }
+        ensures calls { self.new.calls ≡ self.old.calls + 1 }
+    {
+        let stream = self.stream_at(place);
+        if stream.drained < stream.accepted {
+            let drained = stream.drained + 1;
+            self.put(place, Some(Held { drained, ..stream }));
+            Some(drained % STEP == 0)
+        } else {
+            self.put(place, Some(stream));
+            None
+        }
+    }
+
+    /// Whether one more DATA cell may be packaged for the stream.
+    pub fn may_pack(&self, place: PlaceNo) -> bool
+        requires { IsLive self.now place.0 }
+        ensures { (h : Held) → held_at self.now place.0 ≡ Some h → result ≡ may_package h }
+    {
+        let stream = self.stream_at(place);
+        stream.packed < START + STEP * stream.credits
+    }
+
+    /// Counts a DATA cell that is packaged for the stream.
+    pub fn packed(&mut self, place: PlaceNo)
+        requires calls { self.old.calls < 2 ^ 63 }
+        requires live { IsLive self.old place.0 }
+        requires room { (h : Held) → held_at self.old place.0 ≡ Some h → IsTrue (may_package h) }
+        ensures stream { (h : Held) → held_at self.old place.0 ≡ Some h → self.new ≡ with_held self.old place.0 (Some (after_packaging h)) }
+        ensures calls { self.new.calls ≡ self.old.calls + 1 }
+    {
+        let stream = self.stream_at(place);
+        self.put(
+            place,
+            Some(Held {
+                packed: stream.packed + 1,
+                ..stream
+            }),
+        );
+    }
+
+    /// A SENDME of the stream, which raises its window by 50 cells, where it stays at or below 500.
+    pub fn credit(&mut self, place: PlaceNo) -> CreditAnswer
+        requires calls { self.old.calls < 2 ^ 63 }
+        requires live { IsLive self.old place.0 }
+        ensures answer { (h : Held) → held_at self.old place.0 ≡ Some h → result ≡ (if may_credit h then CreditAnswer.Raised else CreditAnswer.TooMuch) }
+        ensures counted { (h : Held) → held_at self.old place.0 ≡ Some h → self.new ≡ with_held self.old place.0 (Some (after_credit h)) }
+        ensures calls { self.new.calls ≡ self.old.calls + 1 }
+    {
+        let stream = self.stream_at(place);
+        if START + STEP * stream.credits + STEP <= START + stream.packed {
+            self.put(
+                place,
+                Some(Held {
+                    credits: stream.credits + 1,
+                    ..stream
+                }),
+            );
+            CreditAnswer::Raised
+        } else {
+            self.put(place, Some(stream));
+            CreditAnswer::TooMuch
+        }
+    }
+
+    /// The stream has ended; its place stays taken until `freed`.
+    pub fn ending(&mut self, place: PlaceNo)
+        requires calls { self.old.calls < 2 ^ 63 }
+        requires taken { IsTaken self.old place.0 }
+        ensures stream { (h : Held) → held_at self.old place.0 ≡ Some h → self.new ≡ with_held self.old place.0 (Some (record h { phase = Phase.Ending })) }
+        ensures calls { self.new.calls ≡ self.old.calls + 1 }
+    {
+        let stream = self.stream_at(place);
+        self.put(
+            place,
+            Some(Held {
+                phase: Phase::Ending,
+                ..stream
+            }),
+        );
+    }
+
+    /// The place of an ended stream is free again.
+    pub fn freed(&mut self, place: PlaceNo)
+        requires calls { self.old.calls < 2 ^ 63 }
+        requires ending { IsEnding self.old place.0 }
+        ensures place { self.new ≡ with_held self.old place.0 None }
+        ensures calls { self.new.calls ≡ self.old.calls + 1 }
+    {
+        // A place that is taken is one of the 32.
+        let _stream = self.stream_at(place);
+        self.put(place, None);
+    }
+
+    /// How many DATA cells were packaged for the stream.
+    pub fn count(&self, place: PlaceNo) -> u64
+        requires { IsTaken self.now place.0 }
+        ensures { (h : Held) → held_at self.now place.0 ≡ Some h → result ≡ h.packed }
+    {
+        self.stream_at(place).packed
+    }
+
+    fn get(&self, place: PlaceNo) -> Option<Held>
+        ensures { result ≡ held_at self.now place.0 }
+    {
+        match self.held.get(place.0 as usize) {
+            Some(held) => *held,
+            None => None,
+        }
+    }
+
+    fn stream_at(&self, place: PlaceNo) -> Held
+        requires { IsTaken self.now place.0 }
+        ensures held { held_at self.now place.0 ≡ Some result }
+        ensures within { place.0 < 32 }
+        ensures counted { IsCounted result self.now.calls }
+        ensures calls { self.now.calls ≤ 2 ^ 63 }
+    {
+        match self.held[place.0 as usize] {
+            Some(stream) => stream,
+            None => unreachable!(),
+        }
+    }
+
+    fn put(&mut self, place: PlaceNo, held: Option<Held>)
+        requires calls { self.old.calls < 2 ^ 63 }
+        requires within { place.0 < 32 }
+        requires counted { (h : Held) → held ≡ Some h → IsCounted h (self.old.calls + 1) }
+        ensures { self.new ≡ with_held self.old place.0 held }
+    {
+        self.held[place.0 as usize] = held;
+        self.calls += 1;
+    }
+}
+
+fn live_place(held: &[Option<Held>; 32], id: u16) -> Option<usize>
+    ensures first { result ≡ position (is_live_as id) held.now }
+    ensures within { IfSome result (λ place. place < 32) }
+{
+    held.iter().position(|held| is_live_as(held, id))
+}
+
+fn free_place(held: &[Option<Held>; 32]) -> Option<usize>
+    ensures first { result ≡ position is_free held.now }
+    ensures within { IfSome result (λ place. place < 32) }
+{
+    held.iter().position(|held| held.is_none())
+}
+
+fn is_live_as(held: &Option<Held>, id: u16) -> bool
+    ensures { result ≡ is_live_as id held.now }
+{
+    match held {
+        Some(stream) => stream.stream == id && stream.phase != Phase::Ending,
+        None => false,
+    }
+}
+
+fn begun(id: u16, serial: u64) -> Held
+    ensures { result ≡ begun id serial }
+{
+    Held {
+        stream: id,
+        serial,
+        phase: Phase::Reaching,
+        packed: 0,
+        credits: 0,
+        accepted: 0,
+        drained: 0,
+    }
+}
