@@ -1,0 +1,40 @@
+-- What can happen to one circuit of a relay. Places are named by their serial: the accepted BEGIN
+-- with number 0 of the circuit makes place 0, the next one place 1, and so on.
+use Rattle.std.specs.Prelude.{ℕ, List}
+
+-- A cell on a circuit without its CircID: the cell command and the payload of 509 bytes.
+pub record CircuitCell : Type 0 where
+  pub command : ℕ
+  pub body : List ℕ
+
+-- What relay and client share (tor-spec, "Setting circuit keys"): the seeds of the forward and the
+-- backward running digest, Df and Db, and the keys of the forward and the backward cipher, Kf and Kb.
+pub record CircuitKeys : Type 0 where
+  pub df : List ℕ
+  pub db : List ℕ
+  pub kf : List ℕ
+  pub kb : List ℕ
+
+pub data Event : Type 0 where
+  -- the circuit is opened: the cell that answers the opening, and the keys; always the first event
+  Born : (reply : CircuitCell) (keys : CircuitKeys) → Event
+  -- a RELAY or RELAY_EARLY cell from the client's side: its command and its body as it came
+  Forward : (command : ℕ) (body : List ℕ) → Event
+  -- the body of a RELAY cell from the next hop
+  Backward : (body : List ℕ) → Event
+  -- the place's connection is made
+  Connected : (serial : ℕ) → Event
+  -- the place's connection gave bytes
+  Data : (serial : ℕ) (bytes : List ℕ) → Event
+  -- the place's connection ended, with the reason that its END is to carry
+  Ended : (serial reason : ℕ) → Event
+  -- the place's connection has taken all bytes of one more DATA
+  Drained : (serial : ℕ) → Event
+  -- the place is given back, after its Close was handed out
+  Freed : (serial : ℕ) → Event
+  -- a channel to the next hop is there, and a new leg on it
+  Linked : Event
+  -- the next hop answered with this payload of CREATED2
+  Answered : (payload : List ℕ) → Event
+  -- no channel to the next hop could be had
+  Failed : Event

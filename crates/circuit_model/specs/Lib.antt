@@ -1,0 +1,15 @@
+pub mod Events
+pub mod Rules
+pub mod Log
+pub mod Opened
+pub mod Places
+pub mod NextHop
+pub mod Windows
+pub mod Packaged
+pub mod SendmeProof
+pub mod Received
+pub mod Streams
+pub mod Extending
+pub mod Effects
+pub mod Sent
+pub mod Words

@@ -1,0 +1,89 @@
+-- A circuit's log: each event with what it brought to this relay and what it had the relay do. All
+-- other words are counts, filters and looks over the whole log. A log lists the newest entry first,
+-- so that the entries behind one are those that came before it.
+use Rattle.std.specs.Prelude.{ℕ, ◌+◌, [], ◌∷◌, ◌++◌, List, Bool, false, if◌then◌else◌, Option, Some, None, is_some}
+use Rattle.std.specs.List.{list_any}
+use Rattle.std.specs.Option.{option_or}
+use Rattle.tor_spec.specs.Extend.{Address}
+use Rattle.circuit_model.specs.Events.{Event, CircuitCell}
+
+-- A relay message that is for this relay: a recognised relay cell of a fitting Length.
+pub record Message : Type 0 where
+  -- relay command, StreamID and data (tor-spec, "Relay cells")
+  pub command : ℕ
+  pub stream : ℕ
+  pub payload : List ℕ
+  -- the 20 bytes of the forward running digest after this cell
+  pub digest : List ℕ
+  -- whether it came in a RELAY_EARLY cell
+  pub early : Bool
+  -- the serial of the place at which its StreamID is live, if there is one
+  pub place : Option ℕ
+
+-- The name of a stream at the edge: its StreamID and the serial of its place.
+pub record StreamKey : Type 0 where
+  pub stream : ℕ
+  pub serial : ℕ
+
+-- What the edge is to do: make a connection, write bytes to it, close it with a reason.
+pub data Order : Type 0 where
+  Reach : (key : StreamKey) (to : Address) → Order
+  Carry : (key : StreamKey) (bytes : List ℕ) → Order
+  Close : (key : StreamKey) (reason : ℕ) → Order
+
+-- What an event has the relay do.
+pub record Effects : Type 0 where
+  -- a relay body towards the client, with its Digest and not yet encrypted: packaged here, or the
+  -- next hop's as it came
+  pub back : Option (List ℕ)
+  -- a cell on the current leg towards a next hop
+  pub forth : Option CircuitCell
+  -- an order for the edge
+  pub edge : Option Order
+  -- a next hop to dial
+  pub dial : Option Address
+  -- whether the next hop, or the dialling of one, is given up
+  pub cut : Bool
+  -- the circuit is closed, with this reason of DESTROY
+  pub close : Option ℕ
+
+pub record Entry : Type 0 where
+  pub event : Event
+  pub message : Option Message
+  pub effects : Effects
+
+abbrev pub Log : Type 0
+Log = List Entry
+
+abbrev pub no_effects : Effects
+no_effects = record { back = None; forth = None; edge = None; dial = None; cut = false; close = None }
+
+abbrev pub closing : ℕ → Effects
+closing reason = record no_effects { close = Some reason }
+
+abbrev pub ordering : Order → Effects
+ordering order = record no_effects { edge = Some order }
+
+-- How many entries pass the test.
+abbrev pub count_of : (Entry → Bool) → Log → ℕ
+count_of test [] = 0
+count_of test (entry ∷ log) = if test entry then count_of test log + 1 else count_of test log
+
+-- The answer of the newest entry that has one.
+abbrev pub newest : {A : Type 0} → (Entry → Option A) → Log → Option A
+newest answer [] = None
+newest answer (entry ∷ log) = option_or (answer entry) (newest answer log)
+
+-- A list with one more at its end, if there is one.
+abbrev pub pushed : {A : Type 0} → List A → Option A → List A
+pushed xs None = xs
+pushed xs (Some x) = xs ++ x ∷ []
+
+-- All answers, oldest first.
+abbrev pub collected : {A : Type 0} → (Entry → Option A) → Log → List A
+collected answer [] = []
+collected answer (entry ∷ log) = pushed (collected answer log) (answer entry)
+
+-- Whether the circuit has closed.
+abbrev pub is_closed : Log → Bool
+is_closed log = list_any (λ entry. is_some entry.effects.close) log

@@ -1,0 +1,36 @@
+-- The relay bodies that this relay sends towards the client: those that it packages, and those of the
+-- next hop (tor-spec, "Routing relay cells", "Relay cells").
+use Rattle.std.specs.Prelude.{ℕ, [], ◌∷◌, ◌++◌, List, Option, Some, None, take}
+use Rattle.crypto_spec.specs.RunningDigest.{running_digest}
+use Rattle.tor_spec.specs.RelayCell.{relay_body, with_digest}
+use Rattle.circuit_model.specs.Events.{Event, Backward}
+use Rattle.circuit_model.specs.Log.{Log, Effects, collected, no_effects}
+use Rattle.circuit_model.specs.Opened.{born_keys}
+
+-- The body that an event has packaged: what goes back, unless it is the next hop's.
+abbrev pub packaged_by : Event → Option (List ℕ) → Option (List ℕ)
+packaged_by (Backward body) back = None
+packaged_by event back = back
+
+-- All bodies that this relay packaged, oldest first.
+abbrev pub own : Log → List (List ℕ)
+own log = collected (λ entry. packaged_by entry.event entry.effects.back) log
+
+-- All bodies that went back, the next hop's among them, oldest first.
+abbrev pub behind : Log → List (List ℕ)
+behind log = collected (λ entry. entry.effects.back) log
+
+-- The backward running digest after these bodies.
+abbrev pub back_digest : Log → List (List ℕ) → List ℕ
+back_digest log bodies = running_digest (born_keys log).db bodies
+
+-- The Digest is the first four bytes of the running digest of all packaged bodies with this one.
+unfoldable pub digested : Log → List ℕ → List ℕ
+digested log body = with_digest body (take 4 (back_digest log (own log ++ body ∷ [])))
+
+-- The next packaged body with this relay command, StreamID and data. Its padding is zero.
+abbrev pub package_of : Log → ℕ → ℕ → List ℕ → List ℕ
+package_of log command stream payload = digested log (relay_body command stream payload)
+
+abbrev pub packaging : Log → ℕ → ℕ → List ℕ → Effects
+packaging log command stream payload = record no_effects { back = Some (package_of log command stream payload) }

@@ -1,0 +1,126 @@
+//! Laws about the definitions, over every history `h` of a circuit, listed newest first.
+
+ghost use Rattle.std.specs.Prelude.{◌≡◌, ◌≢◌, ℕ, ◌+◌, ◌*◌, ◌<◌, ◌≤◌, List, [], ◌∷◌, ◌++◌, length, IsTrue, IsFalse, option_map, option_to_list};
+ghost use Rattle.std.specs.Str.{str_to_ascii_lowercase};
+ghost use Rattle.tor_spec.specs.Begin.{Target, begin_target};
+ghost use Rattle.tor_spec.specs.Extend.{Address};
+ghost use Rattle.tor_spec.specs.RelayCell.{begin_command, sendme_command, truncate_command};
+ghost use Rattle.tor_spec.specs.Sendme.{sendme_proof};
+ghost use Rattle.circuit_model.specs.Events.{Event, Forward, Backward, Data, Drained, CircuitCell};
+ghost use Rattle.circuit_model.specs.Rules.{Rules, allowed_address};
+ghost use Rattle.circuit_model.specs.Log.{Message, Reach, no_effects, closing, is_closed};
+ghost use Rattle.circuit_model.specs.Opened.{born_keys, keys_in};
+ghost use Rattle.circuit_model.specs.NextHop.{next_hop, has_leg, is_linked, leg_count};
+ghost use Rattle.circuit_model.specs.Places.{Place, place_at, places, taken_places};
+ghost use Rattle.circuit_model.specs.Packaged.{behind};
+ghost use Rattle.circuit_model.specs.Windows.{circuit_packaged, circuit_grant, good_sendmes};
+ghost use Rattle.circuit_model.specs.SendmeProof.{proof_owed, is_right_sendme};
+ghost use Rattle.circuit_model.specs.Received.{message_at, early_count};
+ghost use Rattle.circuit_model.specs.Streams.{ending};
+ghost use Rattle.circuit_model.specs.Sent.{one, sent_to_hop, sealed, destroy};
+ghost use Rattle.circuit_model.specs.Words.{log, effects};
+
+/// After a close there are no further effects.
+#[tactic(auto, using(crate::proofs::Closing::closed_gives_nothing))]
+pub fn closed_circuit_gives_nothing()
+    ensures { (rules : Rules) (h : List Event) (e : Event) →
+        IsTrue (is_closed (log rules h)) → effects rules h e ≡ no_effects }
+{}
+
+/// The ninth RELAY_EARLY cell closes with PROTOCOL, whatever is in it.
+#[tactic(auto, using(crate::proofs::Closing::ninth_early_closes))]
+pub fn ninth_relay_early_closes()
+    ensures { (rules : Rules) (h : List Event) (body : List ℕ) →
+        IsFalse (is_closed (log rules h)) → 8 ≤ early_count (log rules h) →
+        effects rules h (Forward 9 body) ≡ closing 1 }
+{}
+
+/// A circuit SENDME closes with PROTOCOL where none is owed, where it carries no proof, and where
+/// it carries another proof than the one that is owed.
+#[tactic(auto, using(crate::proofs::Closing::sendme_owed_none_closes, crate::proofs::Closing::sendme_without_proof_closes, crate::proofs::Closing::sendme_of_other_proof_closes))]
+pub fn wrong_sendme_closes()
+    ensures none_owed { (rules : Rules) (h : List Event) (e : Event) (m : Message) →
+        message_at (log rules h) e ≡ Some m → m.command ≡ sendme_command → m.stream ≡ 0 →
+        circuit_packaged (log rules h) < 100 * (good_sendmes (log rules h) + 1) → effects rules h e ≡ closing 1 }
+    ensures no_proof { (rules : Rules) (h : List Event) (e : Event) (m : Message) →
+        message_at (log rules h) e ≡ Some m → m.command ≡ sendme_command → m.stream ≡ 0 →
+        sendme_proof m.payload ≡ None → effects rules h e ≡ closing 1 }
+    ensures other_proof { (rules : Rules) (h : List Event) (e : Event) (m : Message) (proof : List ℕ) →
+        message_at (log rules h) e ≡ Some m → m.command ≡ sendme_command → m.stream ≡ 0 →
+        sendme_proof m.payload ≡ Some proof → proof ≢ proof_owed (log rules h) (good_sendmes (log rules h) + 1) →
+        effects rules h e ≡ closing 1 }
+{}
+
+/// The one circuit SENDME that is owed raises the grant by 100.
+#[tactic(auto, using(crate::proofs::Counts::right_sendme_grants))]
+pub fn right_sendme_grants_a_hundred()
+    ensures { (rules : Rules) (h : List Event) (e : Event) (m : Message) →
+        message_at (log rules h) e ≡ Some m → m.command ≡ sendme_command → m.stream ≡ 0 →
+        IsTrue (is_right_sendme (log rules h) m.payload) →
+        circuit_grant (log rules (e ∷ h)) ≡ circuit_grant (log rules h) + 100 }
+{}
+
+/// Only DATA counts for the circuit's window: what a relay cell from the client brings about, a
+/// SENDME too, doesn't move it, nor does the SENDME of a stream; bytes of the edge, even none, move
+/// it by one.
+#[tactic(auto, using(crate::proofs::Counts::forward_moves_no_window, crate::proofs::Counts::stream_sendme_moves_no_window, crate::proofs::Counts::data_moves_window))]
+pub fn only_data_moves_the_window()
+    ensures forward { (rules : Rules) (h : List Event) (command : ℕ) (body : List ℕ) →
+        circuit_packaged (log rules (Forward command body ∷ h)) ≡ circuit_packaged (log rules h) }
+    ensures drained { (rules : Rules) (h : List Event) (serial : ℕ) →
+        circuit_packaged (log rules (Drained serial ∷ h)) ≡ circuit_packaged (log rules h) }
+    ensures bytes { (rules : Rules) (h : List Event) (serial : ℕ) (bytes : List ℕ) (place : Place) →
+        IsFalse (is_closed (log rules h)) → place_at (log rules h) serial ≡ Some place →
+        circuit_packaged (log rules (Data serial bytes ∷ h)) ≡ circuit_packaged (log rules h) + 1 }
+{}
+
+/// TRUNCATE ends the current leg by DESTROY with REQUESTED, behind the cells that the leg was given
+/// before; a leg gets nothing more until another next hop is linked.
+#[tactic(auto, using(crate::proofs::Legs::truncate_ends_the_leg, crate::proofs::Legs::no_leg_no_cells))]
+pub fn truncate_destroys_the_leg()
+    ensures last { (rules : Rules) (h : List Event) (e : Event) (m : Message) →
+        message_at (log rules h) e ≡ Some m → m.command ≡ truncate_command →
+        IsTrue (has_leg (next_hop (log rules h))) → 0 < leg_count (log rules h) →
+        one (log rules (e ∷ h)) (leg_count (log rules h)) ≡ one (log rules h) (leg_count (log rules h)) ++ destroy 3 ∷ [] }
+    ensures then_nothing { (rules : Rules) (h : List Event) (e : Event) (leg : ℕ) →
+        IsFalse (is_linked e) → IsFalse (has_leg (next_hop (log rules h))) →
+        sent_to_hop (log rules (e ∷ h)) leg ≡ sent_to_hop (log rules h) leg }
+{}
+
+/// What is sent on a leg only grows: towards the client by at most the next body, sealed by its own
+/// number.
+#[tactic(auto, using(crate::proofs::Legs::client_leg_grows, crate::proofs::Legs::hop_leg_grows))]
+pub fn legs_only_grow()
+    ensures client { (rules : Rules) (h : List Event) (e : Event) → keys_in e ≡ None →
+        one (log rules (e ∷ h)) 0 ≡ one (log rules h) 0
+        ++ option_to_list (option_map (sealed (born_keys (log rules h)).kb (length (behind (log rules h)))) (effects rules h e).back) }
+    ensures hops { (rules : Rules) (h : List Event) (e : Event) (leg : ℕ) →
+        (more : List CircuitCell) × (sent_to_hop (log rules (e ∷ h)) leg ≡ sent_to_hop (log rules h) leg ++ more) }
+{}
+
+/// Bodies go back in the order of their events, at most one an event, and a body of the next hop as
+/// it came. So the END of a refused BEGIN stands before a body of the next hop exactly where the
+/// BEGIN came first.
+#[tactic(auto, using(crate::proofs::Behind::one_body_back, crate::proofs::Behind::backward_goes_as_it_is, crate::proofs::Behind::refused_begin_ends))]
+pub fn bodies_go_back_in_order()
+    ensures one_each { (rules : Rules) (h : List Event) (e : Event) →
+        behind (log rules (e ∷ h)) ≡ behind (log rules h) ++ option_to_list (effects rules h e).back }
+    ensures next_hops { (rules : Rules) (h : List Event) (body : List ℕ) → IsFalse (is_closed (log rules h)) →
+        behind (log rules (Backward body ∷ h)) ≡ behind (log rules h) ++ body ∷ [] }
+    ensures refused { (rules : Rules) (h : List Event) (e : Event) (m : Message) (target : Target) →
+        message_at (log rules h) e ≡ Some m → m.command ≡ begin_command → 0 < m.stream → m.place ≡ None →
+        begin_target m.payload ≡ Some target → taken_places (log rules h) < 32 → allowed_address rules target ≡ None →
+        effects rules h e ≡ ending (log rules h) m.stream 4 }
+{}
+
+/// A BEGIN to an allowed name, in any letter case, makes the next place and reaches for the address
+/// of the rule.
+#[tactic(auto, using(crate::proofs::Streams::allowed_name_reaches))]
+pub fn allowed_name_in_any_case_reaches()
+    ensures { (rules : Rules) (h : List Event) (e : Event) (m : Message) (asked allowed : Target) (to : Address) →
+        message_at (log rules h) e ≡ Some m → m.command ≡ begin_command → 0 < m.stream → m.place ≡ None →
+        begin_target m.payload ≡ Some asked → taken_places (log rules h) < 32 →
+        str_to_ascii_lowercase asked.host ≡ str_to_ascii_lowercase allowed.host → asked.port ≡ allowed.port →
+        allowed_address rules allowed ≡ Some to →
+        (effects rules h e).edge ≡ Some (Reach (record { stream = m.stream; serial = length (places (log rules h)) }) to) }
+{}

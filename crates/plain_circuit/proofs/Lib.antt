@@ -1,0 +1,5 @@
+pub mod Logs
+pub mod PlaceLists
+pub mod Handshakes
+pub mod Payloads
+pub mod Copied

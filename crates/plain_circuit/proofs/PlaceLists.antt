@@ -1,0 +1,45 @@
+-- Lists of places.
+use Rattle.std.proofs.Common.{◌≡◌, ℕ, zero, suc, List, [], ◌∷◌, ◌++◌, length, get_or, map, Option, Some, None, is_some, option_map, Bool, true, false, nat_lt, refl, ap, ◌∙◌, arith, Bor}
+use Rattle.std.specs.Option.{option_copied, unwrap_or}
+use Rattle.std.specs.Prelude.{slice_get}
+use Rattle.std.proofs.lemmas.Option.{slice_get-map}
+use Rattle.std.proofs.lemmas.List.{map-append}
+use Rattle.plain_circuit.specs.declared.places.Place.{Place}
+use Rattle.plain_circuit.specs.Values.{place_of}
+
+pub one_more_place : (places : List Place) (place : Place) → map place_of (places ++ place ∷ []) ≡ map place_of places ++ place_of place ∷ []
+one_more_place places place = map-append place_of places (place ∷ [])
+
+pub place_got : (places : List Place) (serial : ℕ) → slice_get (map place_of places) serial ≡ option_map place_of (slice_get places serial)
+place_got places serial = slice_get-map place_of places serial
+
+-- An element by its number, from what `get` says of it.
+
+is_some-copied : (o : Option (Bor Place)) → is_some (option_copied o) ≡ is_some o
+is_some-copied None = refl
+is_some-copied (Some x) = refl
+
+first-is : (x : Place) (r : Option Place) → is_some r ≡ true → unwrap_or r x ≡ x → r ≡ Some x
+first-is x None some is = cc
+first-is x (Some y) some is = ap Some is
+
+none-is : (r : Option Place) → is_some r ≡ false → r ≡ None
+none-is None none = refl
+none-is (Some x) none = cc
+
+shifted-by : (a b : Bool) (i n : ℕ) → nat_lt (suc i) (suc n) ≡ a → nat_lt i n ≡ b → a ≡ b
+shifted-by true true i n p q = refl
+shifted-by false false i n p q = refl
+shifted-by true false i n p q = absurd (grind arith)
+shifted-by false true i n p q = absurd (grind arith)
+
+shifted : (i n : ℕ) → nat_lt (suc i) (suc n) ≡ nat_lt i n
+shifted i n = shifted-by (nat_lt (suc i) (suc n)) (nat_lt i n) i n refl refl
+
+lookup-is : (xs : List Place) (i : ℕ) (r : Option Place) → is_some r ≡ nat_lt i (length xs) → ((d : Place) → unwrap_or r d ≡ get_or xs i d) → r ≡ slice_get xs i
+lookup-is [] i r some is = none-is r (some ∙ grind arith)
+lookup-is (x ∷ xs) zero r some is = first-is x r (some ∙ grind arith) (is x)
+lookup-is (x ∷ xs) (suc i) r some is = lookup-is xs i r (some ∙ shifted i (length xs)) is
+
+pub copied-is : (xs : List Place) (i : ℕ) (o : Option (Bor Place)) → is_some o ≡ nat_lt i (length xs) → ((d : Place) → unwrap_or (option_copied o) d ≡ get_or xs i d) → option_copied o ≡ slice_get xs i
+copied-is xs i o some is = lookup-is xs i (option_copied o) (is_some-copied o ∙ some) is

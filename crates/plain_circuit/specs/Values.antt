@@ -1,0 +1,113 @@
+-- What the program's values are in the definitions.
+use Rattle.std.specs.Prelude.{ℕ, List, map, Option, option_map}
+use Rattle.kdf_tor.specs.declared.LayerKeys.{LayerKeys}
+use Rattle.tor_spec.specs.Extend.{Address as ModelAddress}
+use Rattle.circuit_model.specs.Events.{CircuitCell as ModelCell, CircuitKeys, Event as ModelEvent, Born as born, Forward as forward, Backward as backward, Connected as connected, Data as edge_data, Ended as ended, Drained as drained, Freed as freed, Linked as linked, Answered as answered, Failed as failed}
+use Rattle.circuit_model.specs.Rules.{Allow as ModelAllow, Rules as ModelRules}
+use Rattle.circuit_model.specs.Log.{Message as ModelMessage, StreamKey as ModelKey, Order as ModelOrder, Reach as reach, Carry as carry, Close as close_order, Effects as ModelEffects, Entry as ModelEntry, Log}
+use Rattle.circuit_model.specs.NextHop.{NextHop as ModelHop, Absent as absent, Dialling as dialling, Waiting as waiting, There as there}
+use Rattle.circuit_model.specs.Places.{Place as ModelPlace, Phase as ModelPhase, Reaching as reaching, Joined as joined, Ending as ending, Free as free}
+use Rattle.circuit_model.specs.Words.{in_order}
+use Rattle.plain_circuit.specs.declared.event.CircuitCell.{CircuitCell}
+use Rattle.plain_circuit.specs.declared.event.Event.{Event}
+use Rattle.plain_circuit.specs.declared.event.Event.TheVariants.{Born, Forward, Backward, Connected, Data, Ended, Drained, Freed, Linked, Answered, Failed}
+use Rattle.plain_circuit.specs.declared.effects.Address.{Address}
+use Rattle.plain_circuit.specs.declared.effects.StreamKey.{StreamKey}
+use Rattle.plain_circuit.specs.declared.effects.Order.{Order}
+use Rattle.plain_circuit.specs.declared.effects.Order.TheVariants.{Reach, Carry, Close}
+use Rattle.plain_circuit.specs.declared.effects.Effects.{Effects}
+use Rattle.plain_circuit.specs.declared.rules.Allow.{Allow}
+use Rattle.plain_circuit.specs.declared.rules.Rules.{Rules}
+use Rattle.plain_circuit.specs.declared.log.Message.{Message}
+use Rattle.plain_circuit.specs.declared.log.Entry.{Entry}
+use Rattle.plain_circuit.specs.declared.next_hop.NextHop.{NextHop}
+use Rattle.plain_circuit.specs.declared.next_hop.NextHop.TheVariants.{Absent, Dialling, Waiting, There}
+use Rattle.plain_circuit.specs.declared.places.Place.{Place}
+use Rattle.plain_circuit.specs.declared.places.Phase.{Phase}
+use Rattle.plain_circuit.specs.declared.places.Phase.TheVariants.{Reaching, Joined, Ending, Free}
+
+abbrev pub cell_of : CircuitCell → ModelCell
+cell_of c = record { command = c.command; body = c.body }
+
+abbrev pub keys_of : LayerKeys → CircuitKeys
+keys_of k = record { df = k.df; db = k.db; kf = k.kf; kb = k.kb }
+
+abbrev pub event_of : Event → ModelEvent
+event_of (Born reply keys) = born (cell_of reply) (keys_of keys)
+event_of (Forward command body) = forward command body
+event_of (Backward body) = backward body
+event_of (Connected serial) = connected serial
+event_of (Data serial piece) = edge_data serial piece.bytes.items
+event_of (Ended serial reason) = ended serial reason
+event_of (Drained serial) = drained serial
+event_of (Freed serial) = freed serial
+event_of Linked = linked
+event_of (Answered payload) = answered payload
+event_of Failed = failed
+
+-- The history that the events are, the oldest of them first.
+abbrev pub history_of : List Event → List ModelEvent
+history_of events = in_order (map event_of events)
+
+abbrev pub address_of : Address → ModelAddress
+address_of a = record { ip = a.ip; port = a.port }
+
+abbrev pub allow_of : Allow → ModelAllow
+allow_of line = record { host = line.host.items; port = line.port; to = address_of line.to }
+
+abbrev pub rules_of : Rules → ModelRules
+rules_of rules = record { allow = map allow_of rules.allow.items }
+
+abbrev pub key_of : StreamKey → ModelKey
+key_of k = record { stream = k.stream; serial = k.serial }
+
+abbrev pub order_of : Order → ModelOrder
+order_of (Reach key to) = reach (key_of key) (address_of to)
+order_of (Carry key bytes) = carry (key_of key) bytes.items
+order_of (Close key reason) = close_order (key_of key) reason
+
+abbrev pub effects_of : Effects → ModelEffects
+effects_of e = record {
+  back = e.back;
+  forth = option_map cell_of e.forth;
+  edge = option_map order_of e.edge;
+  dial = option_map address_of e.dial;
+  cut = e.cut;
+  close = e.close;
+}
+
+abbrev pub message_of : Message → ModelMessage
+message_of m = record {
+  command = m.command;
+  stream = m.stream;
+  payload = m.payload.items;
+  digest = m.digest;
+  early = m.early;
+  place = m.place;
+}
+
+abbrev pub entry_of : Entry → ModelEntry
+entry_of e = record {
+  event = event_of e.event.now;
+  message = option_map message_of e.message;
+  effects = effects_of e.effects;
+}
+
+-- The log that the entries are, the oldest of them first.
+abbrev pub log_of : List Entry → Log
+log_of entries = in_order (map entry_of entries)
+
+abbrev pub hop_of : NextHop → ModelHop
+hop_of Absent = absent
+hop_of Dialling = dialling
+hop_of Waiting = waiting
+hop_of There = there
+
+abbrev pub place_of : Place → ModelPlace
+place_of p = record { key = key_of p.key; to = address_of p.to }
+
+abbrev pub phase_of : Phase → ModelPhase
+phase_of Reaching = reaching
+phase_of Joined = joined
+phase_of Ending = ending
+phase_of Free = free

@@ -1,0 +1,152 @@
+//! Messages and events that concern the next hop.
+
+ghost use Rattle.std.specs.Prelude.{◌≡◌, ◌≤◌, ◌-◌, ◌++◌, IfOk, IfSome, length, option_map, replicate};
+ghost use Rattle.tor_spec.specs.Extend.{extend_request};
+ghost use Rattle.relay_cell.specs.Extend.{extend_of};
+ghost use Rattle.circuit_model.specs.NextHop.{next_hop, is_absent};
+ghost use Rattle.circuit_model.specs.Extending.{address_asked, extend_effects, truncate_effects, accepted_request, create2, linked_effects, answered_effects};
+ghost use Rattle.plain_circuit.specs.Created.{create2_front};
+ghost use Rattle.plain_circuit.specs.Values.{log_of, message_of, entry_of, effects_of, address_of, cell_of};
+
+use crate::effects::{Address, Effects};
+use crate::event::CircuitCell;
+use crate::log::{Entry, Message};
+use crate::next_hop::{NextHop, next_hop};
+use crate::packaged::packaging;
+use relay_cell::{Extend2, extended2_body, read_extend2, read_handshake_reply, truncated_body};
+use std::alloc::{AllocError, Global};
+
+fn is_absent(log: &[Entry<'_>]) -> bool
+    ensures { result ≡ is_absent (next_hop (log_of log.now)) }
+{
+    matches!(next_hop(log), NextHop::Absent)
+}
+
+/// The first IPv4 address that an EXTEND2 names.
+fn address_asked(message: &Message) -> Option<Address>
+    ensures { option_map address_of result ≡ address_asked (message_of message.now) }
+{
+    let extend = read_extend2(&message.payload)?;
+    let (ip, port) = extend.to?;
+    Some(Address { ip, port })
+}
+
+/// EXTEND2: in RELAY_EARLY, with no next hop before it, and with an IPv4 address.
+pub fn extend_effects(log: &[Entry<'_>], message: &Message) -> Effects
+    ensures { effects_of result ≡ extend_effects (log_of log.now) (message_of message.now) }
+{
+    if !message.early || !is_absent(log) {
+        return Effects::closing(1);
+    }
+    match address_asked(message) {
+        Some(to) => Effects {
+            dial: Some(to),
+            ..Effects::none()
+        },
+        None => Effects::closing(1),
+    }
+}
+
+/// TRUNCATE.
+pub fn truncate_effects(alloc: Global, log: &[Entry<'_>]) -> Result<Effects, AllocError>
+    ensures { IfOk result (λ effects. effects_of effects ≡ truncate_effects (log_of log.now)) }
+{
+    let answered = packaging(alloc, log, &truncated_body(3))?;
+    Ok(Effects {
+        cut: !is_absent(log),
+        ..answered
+    })
+}
+
+/// What a message asks of a next hop, if it is an EXTEND2.
+fn request_in(message: &Message) -> Option<Extend2<'_>>
+    ensures request { option_map extend_of result ≡ extend_request (message_of message.now).payload }
+    ensures short { IfSome result (λ request. length request.hdata.now ≤ 498) }
+{
+    let request = read_extend2(&message.payload)?;
+    Some(request)
+}
+
+/// What an entry asked of the next hop, if it was an accepted EXTEND2.
+fn accepted_request<'a>(entry: &'a Entry<'_>) -> Option<Extend2<'a>>
+    ensures request { option_map extend_of result ≡ accepted_request (entry_of entry.now) }
+    ensures short { IfSome result (λ request. length request.hdata.now ≤ 498) }
+{
+    if entry.effects.dial.is_none() {
+        return None;
+    }
+    let message = entry.message.as_ref()?;
+    request_in(message)
+}
+
+/// HTYPE and HLEN.
+#[tactic(auto, unfolding(crate::specs::Created::create2_front))]
+fn create2_head(htype: u16, length: u16) -> [u8; 4]
+    ensures { result ≡ create2_front htype length }
+{
+    let [type_high, type_low] = htype.to_be_bytes();
+    let [length_high, length_low] = length.to_be_bytes();
+    [type_high, type_low, length_high, length_low]
+}
+
+/// The payload of CREATE2; the rest is zero.
+#[tactic(auto)]
+fn create2_body(htype: u16, hdata: &[u8]) -> [u8; 509]
+    requires { length hdata.now ≤ 498 }
+    ensures { result ≡ create2_front htype (length hdata.now) ++ hdata.now ++ replicate (505 - length hdata.now) 0 }
+{
+    let mut body = [0; 509];
+    let end = 4 + hdata.len();
+    body[..4].copy_from_slice(&create2_head(htype, hdata.len() as u16));
+    body[4..end].copy_from_slice(hdata);
+    body
+}
+
+/// CREATE2: HTYPE, HLEN and HDATA as the EXTEND2 had them.
+#[tactic(auto, using(crate::proofs::Handshakes::create2_filled))]
+fn create2(request: &Extend2<'_>) -> CircuitCell
+    requires { length request.now.hdata.now ≤ 498 }
+    ensures { cell_of result ≡ create2 (extend_of request.now) }
+{
+    CircuitCell {
+        command: 10,
+        body: create2_body(request.htype, request.hdata),
+    }
+}
+
+/// A linked next hop is sent what the last accepted EXTEND2 asked.
+pub fn linked_effects(log: &[Entry<'_>]) -> Effects
+    ensures { effects_of result ≡ linked_effects (log_of log.now) }
+{
+    let mut asked = None;
+    for entry in log {
+        if let Some(request) = accepted_request(entry) {
+            asked = Some(request);
+        }
+    }
+    match asked {
+        Some(request) => Effects {
+            forth: Some(create2(&request)),
+            ..Effects::none()
+        },
+        None => Effects::none(),
+    }
+}
+
+/// CREATED2 from the next hop.
+pub fn answered_effects(
+    alloc: Global,
+    log: &[Entry<'_>],
+    payload: &[u8; 509],
+) -> Result<Effects, AllocError>
+    ensures { IfOk result (λ effects. effects_of effects ≡ answered_effects (log_of log.now) payload.now) }
+{
+    let Some(handshake) = read_handshake_reply(payload) else {
+        return Ok(Effects::closing(1));
+    };
+    if handshake.len() <= 496 {
+        packaging(alloc, log, &extended2_body(handshake))
+    } else {
+        Ok(Effects::closing(1))
+    }
+}

@@ -1,0 +1,61 @@
+//! Relay bodies that this relay packages towards the client.
+
+ghost use Rattle.std.specs.Prelude.{◌≡◌, IfOk, Some};
+ghost use Rattle.circuit_model.specs.Log.{no_effects};
+ghost use Rattle.circuit_model.specs.Packaged.{packaged_by, own, digested};
+ghost use Rattle.plain_circuit.specs.Values.{log_of, event_of, effects_of};
+
+use crate::effects::Effects;
+use crate::event::Event;
+use crate::log::Entry;
+use crate::opened::{born_keys, digest_of};
+use relay_cell::put_digest;
+use std::alloc::{AllocError, Global};
+
+/// The body that an event has packaged: what goes back, unless it is the next hop's.
+fn packaged_by(event: &Event, back: &Option<[u8; 509]>) -> Option<[u8; 509]>
+    ensures { result ≡ packaged_by (event_of event.now) back.now }
+{
+    match event {
+        Event::Backward(_) => None,
+        _ => *back,
+    }
+}
+
+/// All bodies that this relay packaged, oldest first.
+pub fn own(alloc: Global, log: &[Entry<'_>]) -> Result<Vec<[u8; 509]>, AllocError>
+    ensures { IfOk result (λ bodies. bodies.items ≡ own (log_of log.now)) }
+{
+    let mut bodies = Vec::new(alloc);
+    for entry in log {
+        if let Some(body) = packaged_by(entry.event, &entry.effects.back) {
+            bodies.push(body)?;
+        }
+    }
+    Ok(bodies)
+}
+
+/// The body with its Digest: the first four bytes of the running digest of all packaged bodies and
+/// this one.
+#[tactic(auto, unfolding(circuit_model::specs::Packaged::digested))]
+pub fn digested(alloc: Global, log: &[Entry<'_>], body: &[u8; 509]) -> Result<[u8; 509], AllocError>
+    ensures { IfOk result (λ digested_body. digested_body ≡ digested (log_of log.now) body.now) }
+{
+    let mut bodies = own(alloc, log)?;
+    bodies.push(*body)?;
+    let [a, b, c, d, ..] = digest_of(&born_keys(log).db, &bodies);
+    let mut digested = *body;
+    put_digest(&mut digested, [a, b, c, d]);
+    Ok(digested)
+}
+
+/// Packages this body.
+pub fn packaging(alloc: Global, log: &[Entry<'_>], body: &[u8; 509]) -> Result<Effects, AllocError>
+    ensures { IfOk result (λ effects. effects_of effects ≡ record no_effects { back = Some (digested (log_of log.now) body.now) }) }
+{
+    let body = digested(alloc, log, body)?;
+    Ok(Effects {
+        back: Some(body),
+        ..Effects::none()
+    })
+}

@@ -1,0 +1,213 @@
+//! The places of a circuit: its streams at this relay.
+
+ghost use Rattle.std.specs.Prelude.{◌≡◌, ◌≤◌, ◌==◌, ◌&&◌, IfOk, length, filter, find, map, option_map, slice_get};
+ghost use Rattle.circuit_model.specs.Places.{place_of as place_made_by, connects, frees, closes_place, is_connected, is_ended, is_freed, phase, is_live, is_live_phase, is_taken_phase, places, place_at, live_place, taken_places};
+ghost use Rattle.plain_circuit.specs.Values.{log_of, event_of, order_of, place_of, phase_of};
+
+use crate::effects::{Address, Order, StreamKey};
+use crate::event::Event;
+use crate::log::Entry;
+use std::alloc::{AllocError, Global};
+
+#[derive(Clone, Copy)]
+pub struct Place {
+    pub key: StreamKey,
+    /// Where its stream is connected to.
+    pub to: Address,
+}
+
+/// Not yet connected; connected; ended by either side; given back.
+#[derive(Clone, Copy)]
+pub enum Phase {
+    Reaching,
+    Joined,
+    Ending,
+    Free,
+}
+
+fn connects(serial: usize, event: &Event) -> bool
+    ensures { result ≡ connects serial (event_of event.now) }
+{
+    matches!(event, Event::Connected(n) if *n == serial)
+}
+
+fn frees(serial: usize, event: &Event) -> bool
+    ensures { result ≡ frees serial (event_of event.now) }
+{
+    matches!(event, Event::Freed(n) if *n == serial)
+}
+
+fn closes_place(serial: usize, order: &Option<Order>) -> bool
+    ensures { result ≡ closes_place serial (option_map order_of order.now) }
+{
+    matches!(order, Some(Order::Close(key, _)) if key.serial == serial)
+}
+
+fn is_connected(log: &[Entry<'_>], serial: usize) -> bool
+    ensures { result ≡ is_connected (log_of log.now) serial }
+{
+    let mut connected = false;
+    for entry in log {
+        if connects(serial, entry.event) {
+            connected = true;
+        }
+    }
+    connected
+}
+
+fn is_ended(log: &[Entry<'_>], serial: usize) -> bool
+    ensures { result ≡ is_ended (log_of log.now) serial }
+{
+    let mut ended = false;
+    for entry in log {
+        if closes_place(serial, &entry.effects.edge) {
+            ended = true;
+        }
+    }
+    ended
+}
+
+fn is_freed(log: &[Entry<'_>], serial: usize) -> bool
+    ensures { result ≡ is_freed (log_of log.now) serial }
+{
+    let mut freed = false;
+    for entry in log {
+        if frees(serial, entry.event) {
+            freed = true;
+        }
+    }
+    freed
+}
+
+/// The phase of a place that was made.
+#[tactic(auto, unfolding(circuit_model::specs::Places::phase))]
+pub fn phase_at(log: &[Entry<'_>], serial: usize) -> Phase
+    ensures { phase_of result ≡ phase (log_of log.now) serial }
+{
+    if is_freed(log, serial) {
+        Phase::Free
+    } else if is_ended(log, serial) {
+        Phase::Ending
+    } else if is_connected(log, serial) {
+        Phase::Joined
+    } else {
+        Phase::Reaching
+    }
+}
+
+fn is_live(log: &[Entry<'_>], place: &Place) -> bool
+    ensures { result ≡ is_live (log_of log.now) (place_of place.now) }
+{
+    matches!(
+        phase_at(log, place.key.serial),
+        Phase::Reaching | Phase::Joined
+    )
+}
+
+fn is_taken(log: &[Entry<'_>], place: &Place) -> bool
+    ensures { result ≡ is_taken_phase (phase (log_of log.now) (place_of place.now).key.serial) }
+{
+    !matches!(phase_at(log, place.key.serial), Phase::Free)
+}
+
+/// A Reach order makes a place.
+fn place_made(order: &Option<Order>) -> Option<Place>
+    ensures { option_map place_of result ≡ place_made_by (option_map order_of order.now) }
+{
+    match order {
+        Some(Order::Reach(key, to)) => Some(Place { key: *key, to: *to }),
+        _ => None,
+    }
+}
+
+/// All places, in the order of their BEGINs.
+#[tactic(auto, using(crate::proofs::Logs::log_of_more, crate::proofs::PlaceLists::one_more_place))]
+pub fn places(alloc: Global, log: &[Entry<'_>]) -> Result<Vec<Place>, AllocError>
+    ensures { IfOk result (λ all. map place_of all.items ≡ places (log_of log.now)) }
+{
+    let mut places = Vec::new(alloc);
+    for entry in log {
+        if let Some(place) = place_made(&entry.effects.edge) {
+            places.push(place)?;
+        }
+    }
+    Ok(places)
+}
+
+/// The first of these places that is live with this StreamID.
+fn live_among(log: &[Entry<'_>], places: &[Place], stream: u16) -> Option<usize>
+    ensures { result ≡ option_map (λ place. place.key.serial) (find (λ place. (place.key.stream == stream) && is_live (log_of log.now) place) (map place_of places.now)) }
+{
+    let (place, rest) = places.split_first()?;
+    if place.key.stream == stream && is_live(log, place) {
+        Some(place.key.serial)
+    } else {
+        live_among(log, rest, stream)
+    }
+}
+
+/// The serial of the place at which a StreamID is live.
+#[tactic(auto, unfolding(circuit_model::specs::Places::live_place))]
+pub fn live_place(
+    alloc: Global,
+    log: &[Entry<'_>],
+    stream: u16,
+) -> Result<Option<usize>, AllocError>
+    ensures { IfOk result (λ serial. serial ≡ live_place (log_of log.now) stream) }
+{
+    let places = places(alloc, log)?;
+    Ok(live_among(log, &places, stream))
+}
+
+/// How many of these places are taken.
+fn taken_among(log: &[Entry<'_>], places: &[Place]) -> usize
+    ensures taken { result ≡ length (filter (λ place. is_taken_phase (phase (log_of log.now) place.key.serial)) (map place_of places.now)) }
+    ensures bound { result ≤ length places.now }
+{
+    let Some((place, rest)) = places.split_first() else {
+        return 0;
+    };
+    let others = taken_among(log, rest);
+    if is_taken(log, place) {
+        others + 1
+    } else {
+        others
+    }
+}
+
+/// How many places are taken.
+#[tactic(auto, unfolding(circuit_model::specs::Places::taken_places))]
+pub fn taken_places(alloc: Global, log: &[Entry<'_>]) -> Result<usize, AllocError>
+    ensures { IfOk result (λ taken. taken ≡ taken_places (log_of log.now)) }
+{
+    let places = places(alloc, log)?;
+    Ok(taken_among(log, &places))
+}
+
+/// How many places were made.
+pub fn place_count(alloc: Global, log: &[Entry<'_>]) -> Result<usize, AllocError>
+    ensures { IfOk result (λ count. count ≡ length (places (log_of log.now))) }
+{
+    let places = places(alloc, log)?;
+    Ok(places.len())
+}
+
+/// The place with this number in the list.
+#[tactic(auto, using(crate::proofs::PlaceLists::place_got))]
+fn place_among(places: &[Place], serial: usize) -> Option<Place>
+    ensures { option_map place_of result ≡ slice_get (map place_of places.now) serial }
+{
+    places.get(serial).copied()
+}
+
+/// The place with this serial.
+pub fn place_at(
+    alloc: Global,
+    log: &[Entry<'_>],
+    serial: usize,
+) -> Result<Option<Place>, AllocError>
+    ensures { IfOk result (λ place. option_map place_of place ≡ place_at (log_of log.now) serial) }
+{
+    let places = places(alloc, log)?;
+    Ok(place_among(&places, serial))
+}

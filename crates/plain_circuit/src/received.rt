@@ -1,0 +1,135 @@
+//! What a relay cell from the client's side is to this relay.
+
+ghost use Rattle.std.specs.Prelude.{◌≡◌, IfOk, IsTrue};
+ghost use Rattle.tor_spec.specs.RelayCell.{relay_head, fits_length};
+ghost use Rattle.relay_cell.specs.Head.{head_of};
+ghost use Rattle.circuit_model.specs.Log.{is_closed};
+ghost use Rattle.circuit_model.specs.Received.{is_early, early_count, received, message_in_body};
+ghost use Rattle.circuit_model.specs.Opened.{digest_with};
+ghost use Rattle.plain_circuit.specs.Values.{log_of, event_of, message_of};
+ghost use Rattle.plain_circuit.specs.Received.{received_of};
+
+use crate::event::Event;
+use crate::log::{Entry, Message};
+use crate::opened::{born_keys, digest_with, is_recognised_by, plain_body, recognised_bodies};
+use crate::places::live_place;
+use relay_cell::{RelayHead, payload_of, read_head};
+use std::alloc::{AllocError, Global};
+
+/// The command of RELAY_EARLY cells.
+const RELAY_EARLY: u8 = 9;
+
+#[derive(Drop)]
+pub enum Received {
+    /// One more RELAY_EARLY than a circuit takes.
+    TooManyEarly,
+    /// Not for this relay: the body with this relay's layer taken off.
+    Unrecognised([u8; 509]),
+    /// Recognised, with a Length that no relay cell has.
+    TooLong,
+    ForUs(Message),
+}
+
+fn is_early(event: &Event) -> bool
+    ensures { result ≡ is_early (event_of event.now) }
+{
+    matches!(event, Event::Forward(command, _) if *command == RELAY_EARLY)
+}
+
+/// How many RELAY_EARLY cells came.
+pub fn early_count(log: &[Entry<'_>]) -> usize
+    ensures { result ≡ early_count (log_of log.now) }
+{
+    let mut count = 0;
+    for entry in log {
+        if is_early(entry.event) {
+            count += 1;
+        }
+    }
+    count
+}
+
+/// Whether the circuit has closed.
+pub fn is_closed(log: &[Entry<'_>]) -> bool
+    ensures { result ≡ is_closed (log_of log.now) }
+{
+    let mut closed = false;
+    for entry in log {
+        if entry.effects.close.is_some() {
+            closed = true;
+        }
+    }
+    closed
+}
+
+/// The message in a recognised body with this running digest.
+#[tactic(auto, using(crate::proofs::Payloads::payload_short))]
+fn message_in_body(
+    alloc: Global,
+    log: &[Entry<'_>],
+    command: u8,
+    plain: &[u8; 509],
+    head: &RelayHead,
+    digest: [u8; 20],
+) -> Result<Message, AllocError>
+    requires fits { IsTrue (fits_length plain.now) }
+    requires head { head_of head.now ≡ relay_head plain.now }
+    requires digest { digest ≡ digest_with (log_of log.now) plain.now }
+    ensures { IfOk result (λ message. message_of message ≡ message_in_body (log_of log.now) command plain.now) }
+{
+    let payload = Vec::from_slice(alloc, payload_of(plain))?;
+    let place = live_place(alloc, log, head.stream)?;
+    Ok(Message {
+        command: head.command,
+        stream: head.stream,
+        payload,
+        digest,
+        early: command == RELAY_EARLY,
+        place,
+    })
+}
+
+/// What a cell with this command and this body, as it came, is. The first that fits holds.
+#[tactic(auto, unfolding(circuit_model::specs::Received::received, circuit_model::specs::Opened::is_recognised_after))]
+pub fn read_cell(
+    alloc: Global,
+    log: &[Entry<'_>],
+    command: u8,
+    body: &[u8; 509],
+) -> Result<Received, AllocError>
+    ensures { IfOk result (λ cell. received_of cell ≡ received (log_of log.now) command body.now) }
+{
+    let plain = plain_body(log, body);
+    if command == RELAY_EARLY && early_count(log) >= 8 {
+        return Ok(Received::TooManyEarly);
+    }
+    let before = recognised_bodies(alloc, log)?;
+    let digest = digest_with(alloc, &born_keys(log).df, &before, &plain)?;
+    if !is_recognised_by(&plain, &digest) {
+        return Ok(Received::Unrecognised(plain));
+    }
+    match read_head(&plain) {
+        Some(head) => {
+            let message = message_in_body(alloc, log, command, &plain, &head, digest)?;
+            Ok(Received::ForUs(message))
+        }
+        None => Ok(Received::TooLong),
+    }
+}
+
+impl Received {
+    ghost use Rattle.std.specs.Prelude.{◌≡◌, option_map};
+    ghost use Rattle.circuit_model.specs.Received.{message_of as message_received};
+    ghost use Rattle.plain_circuit.specs.Values.{message_of};
+    ghost use Rattle.plain_circuit.specs.Received.{received_of};
+
+    /// The message, if the cell is one for this relay.
+    pub fn message(self) -> Option<Message>
+        ensures { option_map message_of result ≡ message_received (received_of self) }
+    {
+        match self {
+            Received::ForUs(message) => Some(message),
+            _ => None,
+        }
+    }
+}

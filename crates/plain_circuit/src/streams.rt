@@ -1,0 +1,254 @@
+//! Messages that concern streams, and what the edge reports of a place.
+
+ghost use Rattle.std.specs.Prelude.{◌≡◌, IfOk, option_map, option_and_then};
+ghost use Rattle.tor_spec.specs.RelayCell.{relay_body, resolved_command};
+ghost use Rattle.tor_spec.specs.Resolve.{resolve_host};
+ghost use Rattle.circuit_model.specs.Rules.{resolved_address};
+ghost use Rattle.circuit_model.specs.Streams.{ending, begin_effects, acknowledging, data_effects, end_effects, stream_sendme_at, sendme_effects, resolved_value, resolve_effects, connected_effects, edge_data_effects, ended_effects, drained_effects};
+ghost use Rattle.plain_circuit.specs.Values.{log_of, rules_of, message_of, effects_of, address_of, place_of};
+
+use crate::effects::{Address, Effects, Order, StreamKey};
+use crate::event::Piece;
+use crate::log::{Entry, Message};
+use crate::packaged::packaging;
+use crate::places::{Place, place_count, taken_places};
+use crate::rules::{Rules, allowed_address, resolved_address};
+use crate::sendme::is_right_sendme;
+use crate::windows::{accept_grant, accepted_data, carried, drained, grant_for, packed_for};
+use relay_cell::{
+    circuit_sendme_body, connected_body, data_body, end_body, end_reason, read_begin, read_resolve,
+    resolved_body, stream_sendme_body,
+};
+use std::alloc::{AllocError, Global};
+
+/// The places that a circuit has room for.
+const PLACE_LIMIT: usize = 32;
+
+/// For how many seconds answers about names may be kept.
+const TIME_TO_LIVE: u32 = 60;
+
+/// An END with this reason.
+pub fn ending(
+    alloc: Global,
+    log: &[Entry<'_>],
+    stream: u16,
+    reason: u8,
+) -> Result<Effects, AllocError>
+    ensures { IfOk result (λ effects. effects_of effects ≡ ending (log_of log.now) stream reason) }
+{
+    packaging(alloc, log, &end_body(stream, reason))
+}
+
+/// BEGIN.
+pub fn begin_effects(
+    alloc: Global,
+    rules: &Rules,
+    log: &[Entry<'_>],
+    message: &Message,
+) -> Result<Effects, AllocError>
+    ensures { IfOk result (λ effects. effects_of effects ≡ begin_effects (rules_of rules.now) (log_of log.now) (message_of message.now)) }
+{
+    if message.stream == 0 || message.place.is_some() {
+        return Ok(Effects::closing(1));
+    }
+    let Some(target) = read_begin(&message.payload) else {
+        return ending(alloc, log, message.stream, 13);
+    };
+    if taken_places(alloc, log)? >= PLACE_LIMIT {
+        return ending(alloc, log, message.stream, 11);
+    }
+    let Some(to) = allowed_address(rules, target.host, target.port) else {
+        return ending(alloc, log, message.stream, 4);
+    };
+    let serial = place_count(alloc, log)?;
+    let key = StreamKey {
+        stream: message.stream,
+        serial,
+    };
+    Ok(Effects::ordering(Order::Reach(key, to)))
+}
+
+/// Each 100th DATA that the circuit accepts is acknowledged with the digest of its body.
+fn acknowledging(alloc: Global, log: &[Entry<'_>], message: &Message) -> Result<Effects, AllocError>
+    ensures { IfOk result (λ effects. effects_of effects ≡ acknowledging (log_of log.now) (message_of message.now)) }
+{
+    if (accepted_data(log) as u128 + 1) % 100 == 0 {
+        packaging(alloc, log, &circuit_sendme_body(&message.digest))
+    } else {
+        Ok(Effects::none())
+    }
+}
+
+/// DATA.
+pub fn data_effects(
+    alloc: Global,
+    log: &[Entry<'_>],
+    message: &Message,
+) -> Result<Effects, AllocError>
+    ensures { IfOk result (λ effects. effects_of effects ≡ data_effects (log_of log.now) (message_of message.now)) }
+{
+    let Some(serial) = message.place else {
+        return acknowledging(alloc, log, message);
+    };
+    if accept_grant(log, serial) <= carried(log, serial) as u128 {
+        return Ok(Effects::closing(1));
+    }
+    let bytes = Vec::from_slice(alloc, &message.payload)?;
+    let key = StreamKey {
+        stream: message.stream,
+        serial,
+    };
+    let acknowledged = acknowledging(alloc, log, message)?;
+    Ok(Effects {
+        edge: Some(Order::Carry(key, bytes)),
+        ..acknowledged
+    })
+}
+
+/// END.
+pub fn end_effects(message: &Message) -> Effects
+    ensures { effects_of result ≡ end_effects (message_of message.now) }
+{
+    match message.place {
+        Some(serial) => {
+            let key = StreamKey {
+                stream: message.stream,
+                serial,
+            };
+            Effects::ordering(Order::Close(key, end_reason(&message.payload)))
+        }
+        None => Effects::none(),
+    }
+}
+
+/// A SENDME of a stream. Its window stays at or below 500.
+fn stream_sendme_effects(log: &[Entry<'_>], place: Option<usize>) -> Effects
+    ensures { effects_of result ≡ stream_sendme_at (log_of log.now) place }
+{
+    match place {
+        Some(serial) if 500 + (packed_for(log, serial) as u128) < grant_for(log, serial) + 50 =>
+            Effects::closing(1),
+        _ => Effects::none(),
+    }
+}
+
+/// SENDME.
+pub fn sendme_effects(
+    alloc: Global,
+    log: &[Entry<'_>],
+    message: &Message,
+) -> Result<Effects, AllocError>
+    ensures { IfOk result (λ effects. effects_of effects ≡ sendme_effects (log_of log.now) (message_of message.now)) }
+{
+    if message.stream != 0 {
+        return Ok(stream_sendme_effects(log, message.place));
+    }
+    if is_right_sendme(alloc, log, &message.payload)? {
+        Ok(Effects::none())
+    } else {
+        Ok(Effects::closing(1))
+    }
+}
+
+/// The address of the name that a RESOLVE asks for.
+fn looked_up(rules: &Rules, payload: &[u8]) -> Option<Address>
+    ensures { option_map address_of result ≡ option_and_then (resolved_address (rules_of rules.now)) (resolve_host payload.now) }
+{
+    match read_resolve(payload) {
+        Some(host) => resolved_address(rules, host),
+        None => None,
+    }
+}
+
+/// The RESOLVED with this address, or with a lasting error.
+fn answer_body(stream: u16, to: Option<Address>) -> [u8; 509]
+    ensures { result ≡ relay_body resolved_command stream (resolved_value (option_map address_of to)) }
+{
+    match to {
+        Some(to) => resolved_body(stream, 4, &to.ip, TIME_TO_LIVE),
+        None => resolved_body(stream, 241, &[], TIME_TO_LIVE),
+    }
+}
+
+/// RESOLVE.
+pub fn resolve_effects(
+    alloc: Global,
+    rules: &Rules,
+    log: &[Entry<'_>],
+    message: &Message,
+) -> Result<Effects, AllocError>
+    ensures { IfOk result (λ effects. effects_of effects ≡ resolve_effects (rules_of rules.now) (log_of log.now) (message_of message.now)) }
+{
+    let to = looked_up(rules, &message.payload);
+    packaging(alloc, log, &answer_body(message.stream, to))
+}
+
+/// The place's connection is made.
+pub fn connected_effects(
+    alloc: Global,
+    log: &[Entry<'_>],
+    place: Option<Place>,
+) -> Result<Effects, AllocError>
+    ensures { IfOk result (λ effects. effects_of effects ≡ connected_effects (log_of log.now) (option_map place_of place)) }
+{
+    match place {
+        Some(place) => packaging(
+            alloc,
+            log,
+            &connected_body(place.key.stream, place.to.ip, TIME_TO_LIVE),
+        ),
+        None => Ok(Effects::none()),
+    }
+}
+
+/// The place's connection gave bytes.
+pub fn edge_data_effects(
+    alloc: Global,
+    log: &[Entry<'_>],
+    piece: &Piece,
+    place: Option<Place>,
+) -> Result<Effects, AllocError>
+    ensures { IfOk result (λ effects. effects_of effects ≡ edge_data_effects (log_of log.now) piece.now.bytes.items (option_map place_of place)) }
+{
+    match place {
+        Some(place) => packaging(alloc, log, &data_body(place.key.stream, &piece.bytes)),
+        None => Ok(Effects::none()),
+    }
+}
+
+/// The place's connection ended.
+pub fn ended_effects(
+    alloc: Global,
+    log: &[Entry<'_>],
+    reason: u8,
+    place: Option<Place>,
+) -> Result<Effects, AllocError>
+    ensures { IfOk result (λ effects. effects_of effects ≡ ended_effects (log_of log.now) reason (option_map place_of place)) }
+{
+    let Some(place) = place else {
+        return Ok(Effects::none());
+    };
+    let ended = ending(alloc, log, place.key.stream, reason)?;
+    Ok(Effects {
+        edge: Some(Order::Close(place.key, reason)),
+        ..ended
+    })
+}
+
+/// The place's connection has taken one more DATA.
+pub fn drained_effects(
+    alloc: Global,
+    log: &[Entry<'_>],
+    place: Option<Place>,
+) -> Result<Effects, AllocError>
+    ensures { IfOk result (λ effects. effects_of effects ≡ drained_effects (log_of log.now) (option_map place_of place)) }
+{
+    let Some(place) = place else {
+        return Ok(Effects::none());
+    };
+    if (drained(log, place.key.serial) as u128 + 1) % 50 == 0 {
+        packaging(alloc, log, &stream_sendme_body(place.key.stream))
+    } else {
+        Ok(Effects::none())
+    }
+}
