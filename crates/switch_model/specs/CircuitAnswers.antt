@@ -1,0 +1,139 @@
+-- The answers to an opening, to a cell that is taken, and to a teardown. The first line that fits
+-- holds.
+use Rattle.std.specs.Prelude.{ℕ, ◌==◌, ◌||◌, ◌&&◌, nat_le, not, is_some, is_none, List, Bool, false, if◌then◌else◌, Option, Some, None}
+use Rattle.std.specs.List.{list_any}
+use Rattle.cell_codec.specs.declared.cell.Cell.{Cell}
+use Rattle.circuit_model.specs.Events.{CircuitCell, Answered}
+use Rattle.circuit_model.specs.NextHop.{next_hop}
+use Rattle.circuit_model.specs.Rules.{Rules}
+use Rattle.circuit_model.specs.Words.{closes}
+use Rattle.kdf_tor.specs.declared.LayerKeys.{LayerKeys}
+use Rattle.tr_io.specs.declared.answers.BackAnswer.{BackAnswer}
+use Rattle.tr_io.specs.declared.answers.OpenAnswer.{OpenAnswer}
+use Rattle.tr_io.specs.declared.answers.OpenAnswer.TheVariants.{Opened, Refused}
+use Rattle.tr_io.specs.declared.answers.OpenRefusal.{OpenRefusal}
+use Rattle.tr_io.specs.declared.answers.TakeAnswer.{TakeAnswer}
+use Rattle.tr_io.specs.declared.answers.TakeAnswer.TheVariants.{PassedOver, Queued}
+use Rattle.tr_io.specs.declared.answers.Why.{Why}
+use Rattle.tr_io.specs.declared.names.Dir.{Dir}
+use Rattle.tr_io.specs.declared.names.Dir.TheVariants.{Forth, Back}
+use Rattle.tr_io.specs.declared.step.Step.{Step}
+use Rattle.switch_model.specs.Limits.{circuit_limit, given_id_base, protocol, resource_limit, destroyed}
+use Rattle.switch_model.specs.Names.{Leg, circ_no, circuit_cell}
+use Rattle.switch_model.specs.Channels.{Channel, channel_at, is_live_channel, opened_by_us, count_below}
+use Rattle.switch_model.specs.Legs.{circuits, at}
+use Rattle.switch_model.specs.History.{is_live, events, current_leg, is_waiting}
+use Rattle.switch_model.specs.Queues.{circuit_log, is_full}
+use Rattle.switch_model.specs.Lanes.{lane}
+
+-- How many circuits are live.
+abbrev pub live_circuits : Rules → List Step → ℕ
+live_circuits rules h = count_below (is_live rules h) (circuits h)
+
+-- A CircID is in use while a leg has it or its DESTROY waits.
+abbrev pub is_in_use : Rules → List Step → ℕ → ℕ → Bool
+is_in_use rules h chan id = is_some (at h chan id) || list_any (λ d. d.id == id) (lane rules h chan)
+
+-- The side that opened the channel sets the highest bit of its CircIDs, the other side clears it
+-- (tor-spec, "Choosing circuit IDs in create cells").
+abbrev pub is_peers_id : Option Channel → ℕ → Bool
+is_peers_id channel id =
+    if opened_by_us channel then not (nat_le given_id_base id) else nat_le given_id_base id
+
+-- An opening at a CircID, with the keys of its handshake where that was good.
+abbrev pub open_answer : Rules → List Step → ℕ → ℕ → Option LayerKeys → OpenAnswer
+open_answer rules h chan id keys =
+    if not (is_live_channel h chan) then Refused OpenRefusal.NoChannel
+    else if id == 0 then Refused OpenRefusal.BadId
+    else if is_in_use rules h chan id then Refused OpenRefusal.InUse
+    else if not (is_peers_id (channel_at h chan) id) then Refused OpenRefusal.BadId
+    else if is_none keys then Refused OpenRefusal.BadHandshake
+    else if nat_le circuit_limit (live_circuits rules h) then Refused (OpenRefusal.Full circuit_limit)
+    else Opened (circ_no (circuits h))
+
+-- PADDING, PADDING_NEGOTIATE, VPADDING.
+abbrev pub is_padding : ℕ → Bool
+is_padding command = (command == 0) || ((command == 12) || (command == 128))
+
+-- CREATE, CREATE_FAST, CREATE2.
+abbrev pub is_opening : ℕ → Bool
+is_opening command = (command == 1) || ((command == 5) || (command == 10))
+
+-- VERSIONS, NETINFO, CERTS, AUTH_CHALLENGE, AUTHENTICATE.
+abbrev pub is_link : ℕ → Bool
+is_link command = (command == 7) || ((command == 8) || ((command == 129) || ((command == 130) || (command == 131))))
+
+-- RELAY, DESTROY, RELAY_EARLY, CREATED2.
+abbrev pub is_relay : ℕ → Bool
+is_relay command = command == 3
+
+abbrev pub is_destroy : ℕ → Bool
+is_destroy command = command == 4
+
+abbrev pub is_relay_early : ℕ → Bool
+is_relay_early command = command == 9
+
+abbrev pub is_created2 : ℕ → Bool
+is_created2 command = command == 11
+
+-- The commands that a circuit takes.
+abbrev pub is_for_circuit : ℕ → Bool
+is_for_circuit command = is_relay command || (is_destroy command || (is_relay_early command || is_created2 command))
+
+-- A cell that waits in a direction, unless the direction is full.
+abbrev pub queued : Rules → List Step → ℕ → Dir → TakeAnswer
+queued rules h c dir =
+    if is_full rules h c dir then TakeAnswer.Down (circ_no c) resource_limit
+    else Queued
+
+-- A cell on leg 0. RELAY_EARLY is counted when it settles, not here.
+abbrev pub from_client : Rules → List Step → ℕ → CircuitCell → TakeAnswer
+from_client rules h c cell =
+    if is_destroy cell.command then TakeAnswer.Down (circ_no c) destroyed
+    else if is_created2 cell.command then TakeAnswer.Down (circ_no c) protocol
+    else queued rules h c Forth
+
+-- CREATED2 is awaited once; its handshake must fit an EXTENDED2, which is packaged.
+abbrev pub answered : Rules → List Step → ℕ → Option ℕ → TakeAnswer
+answered rules h c (Some reason) = TakeAnswer.Down (circ_no c) reason
+answered rules h c None = queued rules h c Back
+
+-- A cell on the current leg, before CREATED2 was taken (`awaiting`) or behind it.
+abbrev pub from_hop : Rules → List Step → ℕ → Bool → CircuitCell → TakeAnswer
+from_hop rules h c awaiting cell =
+    if is_destroy cell.command then TakeAnswer.Down (circ_no c) destroyed
+    else if is_relay_early cell.command then TakeAnswer.Down (circ_no c) protocol
+    else if is_created2 cell.command && awaiting
+    then answered rules h c (closes rules (events rules h c) (Answered cell.body))
+    else if is_created2 cell.command || awaiting then TakeAnswer.Down (circ_no c) protocol
+    else queued rules h c Back
+
+abbrev pub is_number : ℕ → Option ℕ → Bool
+is_number n (Some m) = m == n
+is_number n None = false
+
+-- A cell whose CircID is leg 0 or the current leg of a live circuit is the circuit's.
+abbrev pub taken_at : Rules → List Step → CircuitCell → Option Leg → TakeAnswer
+taken_at rules h cell None = PassedOver Why.NoCircuit
+taken_at rules h cell (Some leg) =
+    if not (is_live rules h leg.circ) then PassedOver Why.NoCircuit
+    else if leg.number == 0 then from_client rules h leg.circ cell
+    else if is_number leg.number (current_leg (circuit_log rules h leg.circ))
+    then from_hop rules h leg.circ (is_waiting (next_hop (circuit_log rules h leg.circ))) cell
+    else PassedOver Why.NoCircuit
+
+-- A cell that a channel brings, by its command and then by its CircID.
+abbrev pub take_answer : Rules → List Step → ℕ → Cell → TakeAnswer
+take_answer rules h chan cell =
+    if not (is_live_channel h chan) then PassedOver Why.NoChannel
+    else if is_padding cell.command then PassedOver Why.Padding
+    else if is_opening cell.command then PassedOver Why.Opening
+    else if is_link cell.command then PassedOver Why.Link
+    else if not (is_for_circuit cell.command) then PassedOver Why.Unknown
+    else taken_at rules h (circuit_cell cell) (at h chan cell.circ)
+
+-- Tearing a circuit down with a reason.
+abbrev pub tear_down_answer : Rules → List Step → ℕ → ℕ → BackAnswer
+tear_down_answer rules h c reason =
+    if not (is_live rules h c) then BackAnswer.Gone
+    else BackAnswer.Down reason

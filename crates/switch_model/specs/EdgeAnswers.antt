@@ -1,0 +1,111 @@
+-- The answers to the edge: to its events, to a slot that asks for orders, and to a DATA that was
+-- drained. The first line that fits holds.
+use Rattle.std.specs.Prelude.{ℕ, ◌==◌, nat_le, not, List, [], ◌∷◌, Bool, true, false, if◌then◌else◌, Option, Some, None}
+use Rattle.circuit_model.specs.Events.{Drained}
+use Rattle.circuit_model.specs.Log.{Log, Order, Reach, Carry, Close}
+use Rattle.circuit_model.specs.Places.{Place, place_at, Phase, Reaching, Joined, Free, phase, is_live_phase}
+use Rattle.circuit_model.specs.Rules.{Rules}
+use Rattle.circuit_model.specs.Windows.{circuit_packaged, circuit_grant, stream_packaged, stream_grant, drained}
+use Rattle.circuit_model.specs.Words.{packages_back}
+use Rattle.tr_io.specs.declared.answers.EdgeAnswer.{EdgeAnswer}
+use Rattle.tr_io.specs.declared.answers.EdgeAnswer.TheVariants.{Packed, Counted, Shut, Gone, Down}
+use Rattle.tr_io.specs.declared.answers.ShutWhy.{ShutWhy}
+use Rattle.tr_io.specs.declared.names.Dir.TheVariants.{Back}
+use Rattle.tr_io.specs.declared.names.StreamKey.{StreamKey}
+use Rattle.tr_io.specs.declared.step.EventStep.{EventStep}
+use Rattle.tr_io.specs.declared.step.OrderStep.{OrderStep}
+use Rattle.tr_io.specs.declared.step.Step.{Step}
+use Rattle.switch_model.specs.Limits.{held_limit, resource_limit}
+use Rattle.switch_model.specs.Names.{place_key, address_of}
+use Rattle.switch_model.specs.History.{is_live, events}
+use Rattle.switch_model.specs.Queues.{circuit_log, is_full}
+use Rattle.switch_model.specs.Orders.{Unbound, bound, next_unbound, orders, carried_out}
+
+-- The phase of the place that a key names, by its StreamID and its serial; free where there is none.
+abbrev pub phase_with : Log → StreamKey → Option Place → Phase
+phase_with log key (Some place) = if place.key.stream == key.id then phase log key.serial else Free
+phase_with log key None = Free
+
+-- The phase of the stream with this key.
+abbrev pub phase_of : Log → StreamKey → Phase
+phase_of log key = phase_with log key (place_at log key.serial)
+
+abbrev pub is_reaching : Phase → Bool
+is_reaching Reaching = true
+is_reaching other = false
+
+abbrev pub is_joined : Phase → Bool
+is_joined Joined = true
+is_joined other = false
+
+-- One more body goes back, unless the direction is full.
+abbrev pub packed : Rules → List Step → ℕ → EdgeAnswer
+packed rules h c =
+    if is_full rules h c Back then Down resource_limit
+    else Packed
+
+-- Data of a place, where both windows and the direction allow it.
+abbrev pub data_answer : Rules → List Step → StreamKey → Log → EdgeAnswer
+data_answer rules h key log =
+    if nat_le (stream_grant log key.serial) (stream_packaged log key.serial) then Shut ShutWhy.Stream (stream_packaged log key.serial)
+    else if nat_le (circuit_grant log) (circuit_packaged log) then Shut ShutWhy.Circuit (circuit_packaged log)
+    else if is_full rules h key.circ.0 Back then Shut ShutWhy.Held held_limit
+    else Packed
+
+-- What the edge reports of a place of a live circuit.
+abbrev pub reported : Rules → List Step → StreamKey → EventStep → Log → EdgeAnswer
+reported rules h key EventStep.Connected log =
+    if not (is_reaching (phase_of log key)) then Gone
+    else packed rules h key.circ.0
+reported rules h key (EventStep.Data octets) log =
+    if not (is_joined (phase_of log key)) then Gone
+    else data_answer rules h key log
+reported rules h key (EventStep.Ended reason) log =
+    if not (is_live_phase (phase_of log key)) then Gone
+    else packed rules h key.circ.0
+
+-- An event of the edge.
+abbrev pub edge_in_answer : Rules → List Step → StreamKey → EventStep → EdgeAnswer
+edge_in_answer rules h key event =
+    if not (is_live rules h key.circ.0) then Gone
+    else reported rules h key event (circuit_log rules h key.circ.0)
+
+-- A DATA is drained after its Carry was handed out, once each.
+abbrev pub drained_answer : Rules → List Step → StreamKey → EdgeAnswer
+drained_answer rules h key =
+    if not (is_live rules h key.circ.0) then Gone
+    else if not (is_live_phase (phase_of (circuit_log rules h key.circ.0) key)) then Gone
+    else if nat_le (carried_out h key.circ.0 key.serial) (drained (circuit_log rules h key.circ.0) key.serial) then Gone
+    else if packages_back rules (events rules h key.circ.0) (Drained key.serial) then packed rules h key.circ.0
+    else Counted
+
+-- An order of a circuit's place.
+pub record Ordered : Type 0 where
+  pub circ : ℕ
+  pub order : Order
+
+-- The first of some orders of circuit c.
+abbrev pub first_order : ℕ → List Order → Option Ordered
+first_order c (order ∷ orders) = Some (record { circ = c; order = order })
+first_order c [] = None
+
+-- The first order of a place that no slot was bound to, which is its Reach.
+abbrev pub unbound_order : Rules → List Step → Option Unbound → Option Ordered
+unbound_order rules h (Some place) = first_order place.circ (orders rules h place.circ place.serial)
+unbound_order rules h None = None
+
+-- A slot that is bound to a place gets its next order. Another gets the Reach of the oldest place
+-- that no slot was bound to.
+abbrev pub slot_order : Rules → List Step → Option StreamKey → Option Ordered
+slot_order rules h (Some key) = first_order key.circ.0 (orders rules h key.circ.0 key.serial)
+slot_order rules h None = unbound_order rules h (next_unbound rules h)
+
+-- A slot that asks for an order.
+abbrev pub edge_out_answer : Rules → List Step → ℕ → Option Ordered
+edge_out_answer rules h slot = slot_order rules h (bound h slot)
+
+-- An order that a step gave.
+abbrev pub order_given : OrderStep → Ordered
+order_given (OrderStep.Reach key to) = record { circ = key.circ.0; order = Reach (place_key key) (address_of to) }
+order_given (OrderStep.Carry key octets) = record { circ = key.circ.0; order = Carry (place_key key) octets.bytes.items }
+order_given (OrderStep.Close key reason) = record { circ = key.circ.0; order = Close (place_key key) reason }

@@ -1,0 +1,60 @@
+-- The limits of a switch, which are this relay's own, and the reasons of DESTROY that it gives
+-- (tor-spec, "Tearing down circuits").
+use Rattle.std.specs.Prelude.{ℕ, ◌-◌, ◌^◌}
+
+-- So many channels are live at most.
+abbrev pub channel_limit : ℕ
+channel_limit = 64
+
+-- So many circuits are live at most.
+abbrev pub circuit_limit : ℕ
+circuit_limit = 512
+
+-- A direction of a circuit that holds so many cells takes no more.
+abbrev pub held_limit : ℕ
+held_limit = 1500
+
+-- So many DESTROYs of refused openings wait on a channel at most.
+abbrev pub refusal_limit : ℕ
+refusal_limit = 512
+
+-- A claim takes so many bodies at most.
+abbrev pub claim_limit : ℕ
+claim_limit = 1
+
+-- A channel gives out so many CircIDs at most, those behind this one, in turn and never again.
+abbrev pub given_id_limit : ℕ
+given_id_limit = 2 ^ 31 - 1
+
+abbrev pub given_id_base : ℕ
+given_id_base = 2 ^ 31
+
+-- What a cell that is sent adds to its leg's count, and where the count stops.
+abbrev pub cell_charge : ℕ
+cell_charge = 65536
+
+abbrev pub count_limit : ℕ
+count_limit = 2 ^ 64 - 1
+
+-- Reasons.
+
+abbrev pub protocol : ℕ
+protocol = 1
+
+abbrev pub internal : ℕ
+internal = 2
+
+abbrev pub requested : ℕ
+requested = 3
+
+abbrev pub resource_limit : ℕ
+resource_limit = 5
+
+abbrev pub connect_failed : ℕ
+connect_failed = 6
+
+abbrev pub channel_closed : ℕ
+channel_closed = 8
+
+abbrev pub destroyed : ℕ
+destroyed = 11

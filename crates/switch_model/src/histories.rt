@@ -1,0 +1,92 @@
+//! Laws on histories: circuits that a step doesn't concern, the order of bodies and cells, and small
+//! histories that are legal.
+ghost use Rattle.std.specs.Prelude.{◌≡◌, ℕ, ◌++◌, List, [], ◌∷◌, Some, true, false, length, IsTrue, IsFalse};
+ghost use Rattle.cell_codec.specs.declared.cell.Cell.{Cell};
+ghost use Rattle.kdf_tor.specs.declared.LayerKeys.{LayerKeys};
+ghost use Rattle.circuit_model.specs.Events.{CircuitCell, Backward};
+ghost use Rattle.circuit_model.specs.Log.{is_closed};
+ghost use Rattle.circuit_model.specs.Packaged.{behind};
+ghost use Rattle.circuit_model.specs.Rules.{Rules};
+ghost use Rattle.circuit_model.specs.Words.{effects};
+ghost use Rattle.tr_io.specs.declared.answers.TakeAnswer.TheVariants.{Queued};
+ghost use Rattle.tr_io.specs.declared.names.ChanNo.{ChanNo};
+ghost use Rattle.tr_io.specs.declared.names.ClaimNote.{ClaimNote};
+ghost use Rattle.tr_io.specs.declared.names.Dir.TheVariants.{Forth};
+ghost use Rattle.tr_io.specs.declared.step.Step.{Step};
+ghost use Rattle.tr_io.specs.declared.step.Step.TheVariants.{Take};
+ghost use Rattle.switch_model.specs.Names.{circuit_cell};
+ghost use Rattle.switch_model.specs.Legs.{at, holds_id};
+ghost use Rattle.switch_model.specs.Taken.{is_hop_leg, claimed_cells};
+ghost use Rattle.switch_model.specs.History.{is_live, sent, events};
+ghost use Rattle.switch_model.specs.Queues.{circuit_log, released, queue};
+ghost use Rattle.switch_model.specs.Returns.{Goes, closing_at, forward_of};
+ghost use Rattle.switch_model.specs.Start.{Start};
+ghost use Rattle.switch_model.specs.Past.{past, concerns};
+ghost use Rattle.switch_model.specs.Legal.{IsLegal};
+ghost use Rattle.switch_model.specs.Examples.{ended_channel, quiet_switch, one_circuit, bad_id, torn_while_claimed, crossing_destroys, hop_cell_then_return};
+
+/// A step leaves all that the history says of a circuit that it doesn't concern.
+#[tactic(auto, using(crate::proofs::Others::other_pasts))]
+pub fn other_circuits_keep_their_past()
+    ensures { (rules : Rules) (h : List Step) (s : Step) (c : ℕ) →
+        concerns rules h s c ≡ false → past rules (s ∷ h) c ≡ past rules h c }
+{}
+
+/// What was sent on a leg and what waits there are together what the one-thread relay sends on it, as
+/// far as that may leave, wherever what was sent is its beginning.
+#[tactic(auto, using(crate::proofs::Waits::sent_and_queued))]
+pub fn sent_and_queued_are_released()
+    ensures { (rules : Rules) (h : List Step) (c k : ℕ) (rest : List CircuitCell) →
+        is_live rules h c ≡ true → holds_id h c k ≡ true → sent rules h c k ++ rest ≡ released rules h c k →
+        sent rules h c k ++ queue rules h c k ≡ released rules h c k }
+{}
+
+/// A forward cell has its place in its circuit's history at its return, not when it was taken: a body
+/// of the next hop that was taken meanwhile goes back first, and then what the forward cell had
+/// packaged, as the END that answers a refused BEGIN.
+#[tactic(auto, using(crate::proofs::Waits::next_hops_body_first))]
+pub fn next_hops_body_goes_first()
+    ensures { (rules : Rules) (h : List Step) (note : ClaimNote) (chan : ChanNo) (from_hop : Cell)
+        (cell : CircuitCell) (answer : List ℕ) →
+        is_closed (circuit_log rules h note.circ.0) ≡ false →
+        is_hop_leg note.circ.0 (at h chan.0 from_hop.circ) ≡ true → from_hop.command ≡ 3 →
+        note.dir ≡ Forth → claimed_cells (Take chan from_hop Queued ∷ h) note ≡ cell ∷ [] →
+        closing_at rules (length (sent rules h note.circ.0 0))
+        (Backward (circuit_cell from_hop).body ∷ events rules h note.circ.0) cell ≡ Goes →
+        (effects rules (Backward (circuit_cell from_hop).body ∷ events rules h note.circ.0) (forward_of cell)).back
+        ≡ Some answer →
+        behind (circuit_log rules (hop_cell_then_return note chan from_hop h) note.circ.0)
+        ≡ behind (circuit_log rules h note.circ.0) ++ (circuit_cell from_hop).body ∷ answer ∷ [] }
+{}
+
+/// A circuit is opened, and the answer to its opening is the first cell that leaves.
+pub fn answer_to_an_opening_leaves()
+    ensures { (start : Start) (keys : LayerKeys) (reply : List ℕ) → IsLegal start (one_circuit keys reply) }
+{}
+
+/// An opening at a CircID of the wrong side is refused, and DESTROY 1 leaves.
+pub fn bad_id_is_answered_by_destroy()
+    ensures { (start : Start) (keys : LayerKeys) (reply : Cell) → IsLegal start (bad_id keys reply) }
+{}
+
+/// A circuit is torn down while its cipher is at a worker: the return finds it gone, one DESTROY 3
+/// leaves, and nothing else of the circuit.
+pub fn torn_circuit_sends_one_destroy()
+    ensures { (start : Start) (keys : LayerKeys) (reply body : List ℕ) → IsLegal start (torn_while_claimed start keys reply body) }
+{}
+
+/// While our DESTROY waits its CircID is in use. The peer's DESTROY takes it away, and the CircID is free.
+pub fn crossing_destroy_frees_the_id()
+    ensures { (start : Start) (keys : LayerKeys) (refused : Cell) (reply reason : List ℕ) →
+        IsLegal start (crossing_destroys keys refused reply reason) }
+{}
+
+/// A channel that ends tears its circuits down, and nothing leaves on it any more.
+pub fn an_ended_channel_sends_nothing()
+    ensures { (start : Start) (keys : LayerKeys) (reply : List ℕ) (late : Cell) → IsLegal start (ended_channel keys reply late) }
+{}
+
+/// A new switch has nothing to hand out. It halts once as many accepting slots have ended as there are.
+pub fn a_new_switch_is_quiet()
+    ensures { (start : Start) → IsLegal start quiet_switch }
+{}

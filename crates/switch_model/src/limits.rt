@@ -1,0 +1,54 @@
+//! Laws on the answers at the limits.
+ghost use Rattle.std.specs.Prelude.{◌≡◌, ℕ, ◌==◌, List, Option, Some, None, true, false};
+ghost use Rattle.cell_codec.specs.declared.cell.Cell.{Cell};
+ghost use Rattle.circuit_model.specs.Rules.{Rules};
+ghost use Rattle.kdf_tor.specs.declared.LayerKeys.{LayerKeys};
+ghost use Rattle.tr_io.specs.declared.answers.BackAnswer.TheVariants.{Stranger};
+ghost use Rattle.tr_io.specs.declared.answers.Difference.TheVariants.{Note};
+ghost use Rattle.tr_io.specs.declared.answers.OpenAnswer.TheVariants.{Refused};
+ghost use Rattle.tr_io.specs.declared.answers.OpenRefusal.{OpenRefusal};
+ghost use Rattle.tr_io.specs.declared.answers.TakeAnswer.{TakeAnswer};
+ghost use Rattle.tr_io.specs.declared.answers.UpAnswer.{UpAnswer};
+ghost use Rattle.tr_io.specs.declared.names.ClaimNote.{ClaimNote};
+ghost use Rattle.tr_io.specs.declared.names.Dir.TheVariants.{Forth};
+ghost use Rattle.tr_io.specs.declared.step.Step.{Step};
+ghost use Rattle.switch_model.specs.Start.{Start};
+ghost use Rattle.switch_model.specs.Names.{circ_no};
+ghost use Rattle.switch_model.specs.Channels.{channel_at, is_live_channel, live_channels};
+ghost use Rattle.switch_model.specs.Legs.{at};
+ghost use Rattle.switch_model.specs.History.{is_live};
+ghost use Rattle.switch_model.specs.Queues.{held};
+ghost use Rattle.switch_model.specs.ChannelAnswers.{channel_up_answer};
+ghost use Rattle.switch_model.specs.CircuitAnswers.{live_circuits, is_in_use, is_peers_id, open_answer, take_answer};
+ghost use Rattle.switch_model.specs.ClaimAnswers.{give_back_answer};
+
+/// With 64 live channels no further one comes up.
+#[tactic(auto, using(crate::proofs::Fullness::channels_full))]
+pub fn sixty_five_channels_are_too_many()
+    ensures { (h : List Step) → live_channels h ≡ 64 → channel_up_answer h ≡ UpAnswer.Full 64 }
+{}
+
+/// With 512 live circuits a good opening is refused.
+#[tactic(auto, using(crate::proofs::Fullness::circuits_full))]
+pub fn a_513th_circuit_is_refused()
+    ensures { (rules : Rules) (h : List Step) (chan id : ℕ) (keys : LayerKeys) →
+        is_live_channel h chan ≡ true → (id == 0) ≡ false → is_in_use rules h chan id ≡ false →
+        is_peers_id (channel_at h chan) id ≡ true → live_circuits rules h ≡ 512 →
+        open_answer rules h chan id (Some keys) ≡ Refused (OpenRefusal.Full 512) }
+{}
+
+/// A job of another switch is a stranger's, whatever it holds.
+#[tactic(auto, using(crate::proofs::Fullness::foreign_claim))]
+pub fn a_foreign_job_is_a_strangers()
+    ensures { (start : Start) (h : List Step) (note : ClaimNote) (place : Option ℕ) →
+        (note.switch == start.name) ≡ false → give_back_answer start h note place ≡ Stranger (Note None note) }
+{}
+
+/// A RELAY cell from the client's side closes a circuit that holds 1,500 cells forth.
+#[tactic(auto, using(crate::proofs::Fullness::direction_full))]
+pub fn one_cell_too_many_closes()
+    ensures { (rules : Rules) (h : List Step) (chan : ℕ) (cell : Cell) (c : ℕ) →
+        is_live_channel h chan ≡ true → cell.command ≡ 3 →
+        at h chan cell.circ ≡ Some (record { circ = c; number = 0 }) → is_live rules h c ≡ true →
+        held rules h c Forth ≡ 1500 → take_answer rules h chan cell ≡ TakeAnswer.Down (circ_no c) 5 }
+{}

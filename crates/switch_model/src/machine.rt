@@ -1,0 +1,67 @@
+//! Laws on the machine: whatever history a state stands for, each call's state stands for it with the
+//! step added, and what leaves is what the one-thread relay sends.
+ghost use Rattle.std.specs.Prelude.{◌≡◌, ℕ, ◌++◌, List, [], ◌∷◌, length, Option, Some, true, slice_get};
+ghost use Rattle.cell_codec.specs.declared.cell.Cell.{Cell};
+ghost use Rattle.circuit_model.specs.Events.{CircuitCell};
+ghost use Rattle.circuit_model.specs.Sent.{one};
+ghost use Rattle.kdf_tor.specs.declared.LayerKeys.{LayerKeys};
+ghost use Rattle.tr_io.specs.declared.names.ChanNo.{ChanNo};
+ghost use Rattle.tr_io.specs.declared.names.Side.{Side};
+ghost use Rattle.tr_io.specs.declared.step.Step.{Step};
+ghost use Rattle.tr_io.specs.declared.step.Step.TheVariants.{ChannelUp, OpenCircuit, NextCell};
+ghost use Rattle.switch_model.specs.Names.{is_leg, circuit_cell};
+ghost use Rattle.switch_model.specs.Legs.{at};
+ghost use Rattle.switch_model.specs.History.{is_live, sent};
+ghost use Rattle.switch_model.specs.Queues.{circuit_log};
+ghost use Rattle.switch_model.specs.SendAnswers.{next_cell_answer};
+ghost use Rattle.switch_model.specs.Start.{Start};
+ghost use Rattle.switch_model.specs.State.{State};
+ghost use Rattle.switch_model.specs.Machine.{new_state};
+ghost use Rattle.switch_model.specs.ChannelUpCall.{channel_up_result, channel_up_state};
+ghost use Rattle.switch_model.specs.OpenCircuitCall.{open_result, open_state};
+ghost use Rattle.switch_model.specs.NextCellCall.{next_cell_result, next_cell_state};
+ghost use Rattle.switch_model.specs.Stands.{Stands};
+ghost use Rattle.switch_model.specs.Adds.{Adds};
+
+/// A new switch stands for the history without steps.
+pub fn a_new_switch_has_no_history()
+    ensures { (start : Start) → Stands start new_state [] }
+{}
+
+/// A channel that comes up, or finds the switch full, is one step.
+#[tactic(auto, using(crate::proofs::Laws::channel_up_adds))]
+pub fn channel_up_is_one_step()
+    ensures { (start : Start) (s t : State) (slot : ℕ) (side : Side) →
+        t ≡ channel_up_state s side → Adds start s t (ChannelUp slot side (channel_up_result s)) }
+{}
+
+/// An opening, accepted or refused, is one step.
+#[tactic(auto, using(crate::proofs::Laws::open_adds))]
+pub fn open_circuit_is_one_step()
+    ensures { (start : Start) (s t : State) (chan : ChanNo) (id : ℕ) (reply : Cell) (keys : Option LayerKeys) →
+        t ≡ open_state s chan.0 id reply keys →
+        Adds start s t (OpenCircuit chan id reply keys (open_result s chan.0 id keys)) }
+{}
+
+/// A cell that leaves, or none, is one step.
+#[tactic(auto, using(crate::proofs::Laws::next_cell_adds))]
+pub fn next_cell_is_one_step()
+    ensures { (start : Start) (s t : State) (chan : ChanNo) (tick : ℕ) →
+        t ≡ next_cell_state s chan.0 tick → Adds start s t (NextCell chan tick (next_cell_result s chan.0 tick)) }
+{}
+
+/// Whatever history a state stands for: what left on a leg is the beginning of what the one-thread
+/// relay sends there.
+pub fn sent_is_a_prefix()
+    ensures { (start : Start) (s : State) (h : List Step) → Stands start s h → (c k : ℕ) →
+        (rest : List CircuitCell) × (sent start.rules h c k ++ rest ≡ one (circuit_log start.rules h c) k) }
+{}
+
+/// A cell that leaves on leg k of a live circuit is the next one that the one-thread relay sends there.
+#[tactic(auto, using(crate::proofs::Prefix::next_is_one))]
+pub fn next_cell_is_the_one_thread_relays()
+    ensures { (start : Start) (s : State) (h : List Step) → Stands start s h →
+        (chan tick c k : ℕ) (cell : Cell) → next_cell_answer start.rules h chan tick ≡ Some cell →
+        is_leg c k (at h chan cell.circ) ≡ true → is_live start.rules h c ≡ true →
+        slice_get (one (circuit_log start.rules h c) k) (length (sent start.rules h c k)) ≡ Some (circuit_cell cell) }
+{}
