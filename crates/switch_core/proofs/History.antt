@@ -1,0 +1,61 @@
+-- Each call of the machine as a step of the histories that a switch stands for.
+use Rattle.std.proofs.Common.{◌≡◌, ◌≤◌, ◌+◌, ℕ, [], Option, sym, ap, subst, arith}
+use Rattle.std.specs.Prelude.{⊤}
+use Rattle.cell_codec.specs.declared.cell.Cell.{Cell}
+use Rattle.kdf_tor.specs.declared.LayerKeys.{LayerKeys}
+use Rattle.tr_io.specs.declared.answers.OpenAnswer.{OpenAnswer}
+use Rattle.tr_io.specs.declared.answers.UpAnswer.{UpAnswer}
+use Rattle.tr_io.specs.declared.names.ChanNo.{ChanNo}
+use Rattle.tr_io.specs.declared.names.Side.{Side}
+use Rattle.tr_io.specs.declared.step.Step.TheVariants.{ChannelUp, OpenCircuit, NextCell}
+use Rattle.switch_model.specs.Start.{Start}
+use Rattle.switch_model.specs.State.{State}
+use Rattle.switch_model.specs.Machine.{new_state}
+use Rattle.switch_model.specs.ChannelUpCall.{channel_up_result, channel_up_state}
+use Rattle.switch_model.specs.OpenCircuitCall.{open_result, open_state}
+use Rattle.switch_model.specs.Adds.{Adds, StandsForSome, UpCase, OpenCase}
+use Rattle.switch_model.proofs.Laws.{stands_new, channel_up_adds, open_adds, stays}
+
+pub new_stands : (start : Start) (s : State) → s ≡ new_state → StandsForSome start s
+new_stands start s is = record { history = []; stands = stands_new start s is }
+
+pub up_adds : (start : Start) (old new : State) (slot : ℕ) (side : Side) (a : UpAnswer) → UpCase a (new ≡ old) (new ≡ channel_up_state old side) → UpCase a ⊤ (a ≡ channel_up_result old) →
+    UpCase a (new ≡ old) (Adds start old new (ChannelUp slot side a))
+up_adds start old new slot side UpAnswer.Memory state answer = state
+up_adds start old new slot side (UpAnswer.Up n) state answer = channel_up_adds start old new slot side (UpAnswer.Up n) state answer
+up_adds start old new slot side (UpAnswer.Full n) state answer = channel_up_adds start old new slot side (UpAnswer.Full n) state answer
+
+pub opening_adds : (start : Start) (old new : State) (chan : ChanNo) (id : ℕ) (reply : Cell) (keys : Option LayerKeys) (a : OpenAnswer) →
+    OpenCase a (new ≡ old) (new ≡ open_state old chan.0 id reply keys) → OpenCase a ⊤ (a ≡ open_result old chan.0 id keys) →
+    OpenCase a (new ≡ old) (Adds start old new (OpenCircuit chan id reply keys a))
+opening_adds start old new chan id reply keys OpenAnswer.Memory state answer = state
+opening_adds start old new chan id reply keys (OpenAnswer.Opened n) state answer = open_adds start old new chan id reply keys (OpenAnswer.Opened n) state answer
+opening_adds start old new chan id reply keys (OpenAnswer.Refused why) state answer = open_adds start old new chan id reply keys (OpenAnswer.Refused why) state answer
+
+pub up_stays : (start : Start) (old new : State) (slot : ℕ) (side : Side) (a : UpAnswer) → UpCase a (new ≡ old) (Adds start old new (ChannelUp slot side a)) → StandsForSome start old → StandsForSome start new
+up_stays start old new slot side UpAnswer.Memory is some = subst (StandsForSome start) (sym is) some
+up_stays start old new slot side (UpAnswer.Up n) adds some = stays start old new (ChannelUp slot side (UpAnswer.Up n)) adds some
+up_stays start old new slot side (UpAnswer.Full n) adds some = stays start old new (ChannelUp slot side (UpAnswer.Full n)) adds some
+
+pub opening_stays : (start : Start) (old new : State) (chan : ChanNo) (id : ℕ) (reply : Cell) (keys : Option LayerKeys) (a : OpenAnswer) →
+    OpenCase a (new ≡ old) (Adds start old new (OpenCircuit chan id reply keys a)) → StandsForSome start old → StandsForSome start new
+opening_stays start old new chan id reply keys OpenAnswer.Memory is some = subst (StandsForSome start) (sym is) some
+opening_stays start old new chan id reply keys (OpenAnswer.Opened n) adds some = stays start old new (OpenCircuit chan id reply keys (OpenAnswer.Opened n)) adds some
+opening_stays start old new chan id reply keys (OpenAnswer.Refused why) adds some = stays start old new (OpenCircuit chan id reply keys (OpenAnswer.Refused why)) adds some
+
+pub up_steps : (start : Start) (old new : State) (slot : ℕ) (side : Side) (a : UpAnswer) → UpCase a (new ≡ old) (Adds start old new (ChannelUp slot side a)) → new.steps ≤ old.steps + 1
+unfolding Adds
+up_steps start old new slot side UpAnswer.Memory is = let same : new.steps ≡ old.steps = ap (λ s. s.steps) is in omega (arith, same)
+up_steps start old new slot side (UpAnswer.Up n) adds = omega (arith, adds.steps)
+up_steps start old new slot side (UpAnswer.Full n) adds = omega (arith, adds.steps)
+
+pub opening_steps : (start : Start) (old new : State) (chan : ChanNo) (id : ℕ) (reply : Cell) (keys : Option LayerKeys) (a : OpenAnswer) →
+    OpenCase a (new ≡ old) (Adds start old new (OpenCircuit chan id reply keys a)) → new.steps ≤ old.steps + 1
+unfolding Adds
+opening_steps start old new chan id reply keys OpenAnswer.Memory is = let same : new.steps ≡ old.steps = ap (λ s. s.steps) is in omega (arith, same)
+opening_steps start old new chan id reply keys (OpenAnswer.Opened n) adds = omega (arith, adds.steps)
+opening_steps start old new chan id reply keys (OpenAnswer.Refused why) adds = omega (arith, adds.steps)
+
+pub next_steps : (start : Start) (old new : State) (chan : ChanNo) (tick : ℕ) (a : Option Cell) → Adds start old new (NextCell chan tick a) → new.steps ≡ old.steps + 1
+unfolding Adds
+next_steps start old new chan tick a adds = adds.steps

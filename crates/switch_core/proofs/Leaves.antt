@@ -1,0 +1,108 @@
+-- What a cell that leaves makes of the switch's parts.
+use Rattle.std.proofs.Common.{◌≡◌, ◌<◌, ℕ, List, [], ◌∷◌, length, get_or, max, Option, Some, None, IfSome, IfNone, slice_set, refl, sym, ap, subst, ◌∙◌, arith, zero, suc}
+use Rattle.cell_codec.specs.declared.cell.Cell.{Cell}
+use Rattle.kdf_tor.specs.declared.LayerKeys.{LayerKeys}
+use Rattle.switch_model.specs.Names.{Leg}
+use Rattle.switch_model.specs.State.{ChannelState, LegState, CircuitState, State, slot_at, with_slot}
+use Rattle.switch_model.specs.Machine.{leg_at, leg_in}
+use Rattle.switch_model.specs.NextCellCall.{ticked, first_cell, cell_of_leg, picked_leg, sent_first, with_leg, sent_from, lane_of, next_cell_result, next_cell_state}
+use Rattle.switch_model.proofs.PlainLists.{all_there, length-all_there, with_slot-all_there}
+use Rattle.switch_core.specs.Meaning.{state_of, circuit_of, FirstLeaves}
+use Rattle.switch_core.specs.Picking.{first_leg_of, FirstSent, DestroyLeaves}
+use Rattle.switch_core.proofs.Plain.{there}
+
+-- a place of the lists
+
+there_in : {A : Type 0} (xs : List A) (slots : List (Option A)) (n : ℕ) (d : A) → all_there xs ≡ slots → n < length slots → slot_at slots n ≡ Some (get_or xs n d)
+there_in xs slots n d is below =
+    ap (λ l. slot_at l n) (sym is)
+    ∙ there xs n d (subst (λ k. n < k) (ap length (sym is) ∙ length-all_there xs) below)
+
+pub channel_at : (steps tick : ℕ) (channels : List ChannelState) (circuits : List CircuitState) (s : State) (n : ℕ) (d : ChannelState) → state_of steps tick channels circuits ≡ s → n < length s.channels →
+    slot_at s.channels n ≡ Some (get_or channels n d)
+channel_at steps tick channels circuits s n d is below = there_in channels s.channels n d (ap (λ x. x.channels) is) below
+
+pub circuit_at : (steps tick : ℕ) (channels : List ChannelState) (circuits : List CircuitState) (s : State) (n : ℕ) (d : CircuitState) → state_of steps tick channels circuits ≡ s → n < length s.circuits →
+    slot_at s.circuits n ≡ Some (get_or circuits n d)
+circuit_at steps tick channels circuits s n d is below = there_in circuits s.circuits n d (ap (λ x. x.circuits) is) below
+
+pub channel_put : (steps tick : ℕ) (channels : List ChannelState) (circuits : List CircuitState) (s : State) (n : ℕ) (new : ChannelState) → state_of steps tick channels circuits ≡ s →
+    state_of steps tick (slice_set channels n new) circuits ≡ record s { channels = with_slot s.channels n (Some new) }
+channel_put steps tick channels circuits s n new is =
+    ap {A = List (Option ChannelState)} (λ l. record (state_of steps tick channels circuits) { channels = l }) (sym (with_slot-all_there channels n new))
+    ∙ ap {A = State} (λ x. record x { channels = with_slot x.channels n (Some new) }) is
+
+pub circuit_put : (steps tick : ℕ) (channels : List ChannelState) (circuits : List CircuitState) (s : State) (n : ℕ) (new : CircuitState) → state_of steps tick channels circuits ≡ s →
+    state_of steps tick channels (slice_set circuits n new) ≡ record s { circuits = with_slot s.circuits n (Some new) }
+circuit_put steps tick channels circuits s n new is =
+    ap {A = List (Option CircuitState)} (λ l. record (state_of steps tick channels circuits) { circuits = l }) (sym (with_slot-all_there circuits n new))
+    ∙ ap {A = State} (λ x. record x { circuits = with_slot x.circuits n (Some new) }) is
+
+pub inside : {A : Type 0} (slots : List (Option A)) (n : ℕ) (x : A) → slot_at slots n ≡ Some x → n < length slots
+unfolding slot_at
+inside [] n x there = absurd cc
+inside (y ∷ slots) zero x there = omega arith
+inside (y ∷ slots) (suc n) x there = let rest : n < length slots = inside slots n x there in omega (arith, rest)
+
+-- a leg's first cell
+
+pub first_sent : (keys : LayerKeys) (old new : LegState) (now : ℕ) → Some new ≡ sent_first now old old.queue → FirstSent now (circuit_of keys old) (circuit_of keys new)
+unfolding slot_at with_slot
+first_sent keys old new now e = record { found = old; first = refl; sent = ap (λ o. record (circuit_of keys old) { legs = o ∷ [] }) e }
+
+pub picked_sent : (s t : State) (now n : ℕ) (picked : Option Leg) (old new : CircuitState) → picked ≡ Some (first_leg_of n) → slot_at s.circuits n ≡ Some old → FirstSent now old new →
+    t ≡ record s { circuits = with_slot s.circuits n (Some new) } → t ≡ sent_from s now picked
+picked_sent s t now n picked old new is live sent put = put ∙ rw (is, live, sent.first, sent.sent) refl
+
+pub picked_cell : (s : State) (n : ℕ) (picked : Option Leg) (old : CircuitState) → picked ≡ Some (first_leg_of n) → slot_at s.circuits n ≡ Some old →
+    first_cell (leg_at (Some old) 0) ≡ cell_of_leg s picked
+picked_cell s n picked old is live = rw (is, live) refl
+
+-- the oldest DESTROY
+
+pub destroy_leaves : (s t : State) (chan : ℕ) (old new : ChannelState) (o : Option Cell) → slot_at s.channels chan ≡ Some old → t ≡ record s { channels = with_slot s.channels chan (Some new) } →
+    IfSome o (λ cell. FirstLeaves old new cell) → IfSome o (λ cell. DestroyLeaves s t chan cell)
+destroy_leaves s t chan old new None live is leaves = tt
+destroy_leaves s t chan old new (Some cell) live is leaves = record {
+  channel = old;
+  first = leaves.first;
+  rest = leaves.rest;
+  live = live;
+  lane = leaves.lane;
+  left = is ∙ ap (λ x. record s { channels = with_slot s.channels chan (Some x) }) leaves.left;
+  is = leaves.is;
+}
+
+-- the machine's call, by what leaves
+
+ticked-with : (s : State) (given now : ℕ) (leg : Leg) (x : Option CircuitState) (y : Option LegState) → ticked (with_leg s now leg x y) given ≡ with_leg (ticked s given) now leg x y
+ticked-with s given now leg (Some x) (Some y) = refl
+ticked-with s given now leg (Some x) None = refl
+ticked-with s given now leg None y = refl
+
+ticked-from : (s : State) (given now : ℕ) (o : Option Leg) → ticked (sent_from s now o) given ≡ sent_from (ticked s given) now o
+ticked-from s given now (Some leg) = ticked-with s given now leg (slot_at s.circuits leg.circ) (leg_in s leg)
+ticked-from s given now None = refl
+
+pub none_left : (s : State) (chan given : ℕ) → slot_at s.channels chan ≡ None → ticked s given ≡ next_cell_state s chan given
+none_left s chan given none = rw none refl
+
+pub none_said : (s : State) (chan given : ℕ) → slot_at s.channels chan ≡ None → None ≡ next_cell_result s chan given
+none_said s chan given none = rw none refl
+
+pub picked_left : (s t : State) (chan given : ℕ) (channel : ChannelState) → slot_at s.channels chan ≡ Some channel → channel.lane ≡ [] → t ≡ sent_from s (max s.tick given) (picked_leg s chan given) →
+    ticked t given ≡ next_cell_state s chan given
+picked_left s t chan given channel live quiet is = rw (is, live, quiet) (ticked-from s given (max s.tick given) (picked_leg s chan given))
+
+pub picked_said : (s : State) (chan given : ℕ) (channel : ChannelState) → slot_at s.channels chan ≡ Some channel → channel.lane ≡ [] → cell_of_leg s (picked_leg s chan given) ≡ next_cell_result s chan given
+picked_said s chan given channel live quiet = rw (live, quiet) refl
+
+pub destroy_left : (s t : State) (chan given : ℕ) (channel : ChannelState) (o : Option Cell) → slot_at s.channels chan ≡ Some channel → (channel.lane ≡ [] → ⊥) →
+    IfSome o (λ cell. DestroyLeaves s t chan cell) → IfNone o (lane_of (slot_at s.channels chan) ≡ []) → ticked t given ≡ next_cell_state s chan given
+destroy_left s t chan given channel None live waits leaves none = absurd (waits (ap lane_of (sym live) ∙ none))
+destroy_left s t chan given channel (Some cell) live waits leaves none = rw (leaves.left, leaves.live, leaves.lane) refl
+
+pub destroy_said : (s t : State) (chan given : ℕ) (channel : ChannelState) (o : Option Cell) → slot_at s.channels chan ≡ Some channel → (channel.lane ≡ [] → ⊥) →
+    IfSome o (λ cell. DestroyLeaves s t chan cell) → IfNone o (lane_of (slot_at s.channels chan) ≡ []) → o ≡ next_cell_result s chan given
+destroy_said s t chan given channel None live waits leaves none = absurd (waits (ap lane_of (sym live) ∙ none))
+destroy_said s t chan given channel (Some cell) live waits leaves none = rw (leaves.live, leaves.lane) (ap Some leaves.is)

@@ -1,0 +1,6 @@
+pub mod Padding
+pub mod FirstOut
+pub mod Plain
+pub mod Picks
+pub mod Leaves
+pub mod History

@@ -1,0 +1,10 @@
+use Rattle.std.proofs.Common.{ap, sym, ◌∙◌, Some}
+use Rattle.switch_core.proofs.Leaves.{channel_at, channel_put, destroy_leaves}
+use Rattle.switch_core.proofs.parts.Parts.send_destroy.Goals as goal
+
+pub returns-clause-some : goal.returns-clause-some
+returns-clause-some c =
+    destroy_leaves c.args.self.now _ c.args.chan.0 c.index_mut-channel.result.now c.next_destroy.new.self c.next_destroy.result
+    (channel_at _ _ _ _ c.args.self.now c.args.chan.0 _ c.self.view_is c.requires.live ∙ ap Some (sym c.index_mut-channel.ensures.value))
+    (channel_put _ _ _ _ c.args.self.now c.args.chan.0 c.next_destroy.new.self c.self.view_is)
+    c.next_destroy.ensures.some

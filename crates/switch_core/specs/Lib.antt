@@ -1,0 +1,4 @@
+pub mod Opening
+pub mod Meaning
+pub mod Picking
+pub mod Started

@@ -1,0 +1,71 @@
+-- What the switch's plain lists mean as the state of the machine.
+use Rattle.std.specs.Prelude.{ℕ, ◌≡◌, ◌==◌, ◌||◌, [], ◌∷◌, List, map, Bool, Option, Some, None}
+use Rattle.cell_codec.specs.declared.cell.Cell.{Cell}
+use Rattle.kdf_tor.specs.declared.LayerKeys.{LayerKeys}
+use Rattle.tr_io.specs.declared.names.Side.{Side}
+use Rattle.circuit_model.specs.Rules.{Allow, Rules}
+use Rattle.circuit_model.specs.Sent.{destroy}
+use Rattle.switch_model.specs.SendAnswers.{cell_at}
+use Rattle.switch_model.specs.Names.{circuit_keys, address_of}
+use Rattle.switch_model.specs.Lanes.{Destroy}
+use Rattle.switch_model.specs.Start.{Start}
+use Rattle.switch_model.specs.State.{ChannelState, LegState, CircuitState, State, with_slot}
+use Rattle.switch_model.specs.Machine.{new_state}
+use Rattle.switch_model.specs.OpenCircuitCall.{no_bodies, refusing}
+use Rattle.tr_io.specs.declared.answers.OpenRefusal.{OpenRefusal}
+use Rattle.switch_model.proofs.PlainLists.{all_there}
+use Rattle.switch_core.specs.declared.rules.Allow.{Allow as AllowLine}
+use Rattle.switch_core.specs.declared.rules.Rules.{Rules as RuleList}
+
+-- The operator's rules.
+
+abbrev pub allow_of : AllowLine → Allow
+allow_of line = record { host = line.host.items; port = line.port; to = address_of line.to }
+
+abbrev pub rules_of : RuleList → Rules
+rules_of rules = record { allow = map allow_of rules.allow.items }
+
+-- What a switch was made with.
+abbrev pub start_of : ℕ → RuleList → Start
+start_of name rules = record { name = name; rules = rules_of rules }
+
+-- A channel that a peer's connection brought up, or one of ours by a slot's number: it leads to no
+-- known address, and no CircID was given out on it.
+abbrev pub channel_of : Side → List Destroy → ChannelState
+channel_of side lane = record { side = side; to = None; given = 0; lane = lane }
+
+-- A circuit with its first leg alone.
+abbrev pub circuit_of : LayerKeys → LegState → CircuitState
+circuit_of keys leg = record {
+  relay = circuit_keys keys;
+  legs = Some leg ∷ [];
+  forth = no_bodies;
+  back = no_bodies;
+  orders = [];
+  dial = None;
+}
+
+-- CREATED_FAST and CREATED2.
+abbrev pub is_reply : ℕ → Bool
+is_reply command = (command == 6) || (command == 11)
+
+abbrev pub state_of : ℕ → ℕ → List ChannelState → List CircuitState → State
+state_of steps tick channels circuits = record new_state {
+  steps = steps;
+  tick = tick;
+  channels = all_there channels;
+  circuits = all_there circuits;
+}
+
+-- The oldest DESTROY of a channel left, as this cell.
+pub record FirstLeaves (old new : ChannelState) (cell : Cell) : Type 0 where
+  pub first : Destroy
+  pub rest : List Destroy
+  pub lane : old.lane ≡ first ∷ rest
+  pub left : new ≡ record old { lane = rest }
+  pub is : cell ≡ cell_at first.id (destroy first.reason)
+
+-- A refusal on a channel, if it is live.
+abbrev pub refused_on : State → ℕ → ℕ → OpenRefusal → Option ChannelState → State
+refused_on s chan id why (Some channel) = record s { channels = with_slot s.channels chan (Some (refusing id why channel)) }
+refused_on s chan id why None = s

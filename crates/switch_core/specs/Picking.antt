@@ -1,0 +1,50 @@
+-- What leaves on a channel, over plain lists.
+use Rattle.std.specs.Prelude.{ℕ, nat_lt, ◌≡◌, ◌<◌, ◌∷◌, List, Option, Some, None, IfSome, if◌then◌else◌}
+use Rattle.cell_codec.specs.declared.cell.Cell.{Cell}
+use Rattle.circuit_model.specs.Sent.{destroy}
+use Rattle.switch_model.specs.SendAnswers.{cell_at}
+use Rattle.switch_model.specs.Names.{Leg}
+use Rattle.switch_model.specs.Lanes.{Destroy}
+use Rattle.switch_model.specs.State.{ChannelState, LegState, CircuitState, State, slot_at, with_slot}
+use Rattle.switch_model.specs.Machine.{leg_at}
+use Rattle.switch_model.specs.NextCellCall.{leg_count_in, sent_first}
+use Rattle.switch_core.specs.declared.pick.Waiting.{Waiting}
+
+-- The one with the lesser count; the earlier where the counts are equal.
+abbrev pub better_of : Option Waiting → Waiting → Waiting
+better_of None next = next
+better_of (Some least) next = if nat_lt next.count least.count then next else least
+
+-- The leg of a circuit by its number.
+abbrev pub first_leg_of : ℕ → Leg
+first_leg_of n = record { circ = n; number = 0 }
+
+abbrev pub leg_of : Option Waiting → Option Leg
+leg_of None = None
+leg_of (Some waiting) = Some (first_leg_of waiting.number)
+
+-- One of the first n circuits, and its leg's count where this tick is given.
+pub record IsWaiting (s : State) (given n : ℕ) (waiting : Waiting) : Type 0 where
+  pub inside : waiting.number < n
+  pub count : waiting.count ≡ leg_count_in s given (first_leg_of waiting.number)
+
+-- The leg that was picked among the first n circuits.
+pub record Picks (s : State) (given n : ℕ) (least : Option Waiting) (leg : Option Leg) : Type 0 where
+  pub same : leg ≡ leg_of least
+  pub waits : IfSome least (IsWaiting s given n)
+
+-- The first leg of a circuit sent its first cell.
+pub record FirstSent (now : ℕ) (old new : CircuitState) : Type 0 where
+  pub found : LegState
+  pub first : leg_at (Some old) 0 ≡ Some found
+  pub sent : new ≡ record old { legs = with_slot old.legs 0 (sent_first now found found.queue) }
+
+-- The oldest DESTROY of a channel left, as this cell.
+pub record DestroyLeaves (old new : State) (chan : ℕ) (cell : Cell) : Type 0 where
+  pub channel : ChannelState
+  pub first : Destroy
+  pub rest : List Destroy
+  pub live : slot_at old.channels chan ≡ Some channel
+  pub lane : channel.lane ≡ first ∷ rest
+  pub left : new ≡ record old { channels = with_slot old.channels chan (Some (record channel { lane = rest })) }
+  pub is : cell ≡ cell_at first.id (destroy first.reason)

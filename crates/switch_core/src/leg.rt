@@ -1,0 +1,124 @@
+//! The leg of a circuit towards the previous hop: its CircID on a channel, the reply that waits on
+//! it, and its decaying count of cells.
+ghost use Rattle.std.specs.Prelude.{◌≡◌, IfSome, Some, true, false};
+ghost use Rattle.cell_codec.specs.Cells.{is_var, IsWellFormed};
+ghost use Rattle.switch_model.specs.Machine.{has_port};
+ghost use Rattle.switch_model.specs.NextCellCall.{waits_on, count_of, first_cell, sent_first};
+ghost use Rattle.switch_model.specs.OpenCircuitCall.{first_leg};
+ghost use Rattle.switch_model.specs.Counts.{halved};
+ghost use Rattle.switch_core.specs.Meaning.{is_reply};
+
+use cell_codec::{Body, Cell};
+use std::marker::Model;
+use tr_io::names::ChanNo;
+
+/// What a cell that leaves adds to its leg's count.
+const CELL_CHARGE: u64 = 65_536;
+
+/// The cell that answers an opening, without its CircID.
+#[derive(Drop)]
+struct Reply {
+    command: u8,
+    payload: [u8; 509],
+}
+
+impl Model for Reply {
+    ghost use Rattle.std.specs.Prelude.{◌≡◌, true};
+    ghost use Rattle.circuit_model.specs.Events.{CircuitCell};
+    ghost use Rattle.switch_core.specs.Meaning.{is_reply};
+
+    ghost Value = { CircuitCell };
+
+    ghost view = { λ r. record { command = r.command; body = r.payload } };
+
+    ghost invariant = { λ r. is_reply r.command ≡ true };
+}
+
+/// The first leg of a circuit.
+///
+/// Contracts see it as the machine's. The count is kept as it was when its last cell left, with
+/// that cell's tick, so that a tick changes no leg.
+#[derive(Drop)]
+pub struct Leg {
+    chan: ChanNo,
+    id: u32,
+    reply: Option<Reply>,
+    count: u64,
+    counted_at: u64,
+}
+
+impl Model for Leg {
+    ghost use Rattle.std.specs.Prelude.{option_to_list};
+    ghost use Rattle.switch_model.specs.State.{LegState};
+
+    ghost Value = { LegState };
+
+    ghost view = { λ l. record { chan = l.chan.0; id = l.id; queue = option_to_list l.reply; count = l.count; counted_at = l.counted_at } };
+}
+
+impl Leg {
+    /// A leg on which the reply to an opening waits.
+    pub fn new(chan: ChanNo, id: u32, reply: &Cell) -> Leg
+        requires fixed { is_var reply.now.body ≡ false }
+        requires command { is_reply reply.now.command ≡ true }
+        ensures { result ≡ first_leg chan.0 id reply.now }
+    {
+        let Body::Fixed(payload) = &reply.body else {
+            unreachable!()
+        };
+        Leg {
+            chan,
+            id,
+            reply: Some(Reply {
+                command: reply.command,
+                payload: *payload,
+            }),
+            count: 0,
+            counted_at: 0,
+        }
+    }
+
+    /// Whether this CircID of this channel is the leg's.
+    pub fn has_port(&self, chan: ChanNo, id: u32) -> bool
+        ensures { result ≡ has_port chan.0 id (Some self.now) }
+    {
+        self.chan.0 == chan.0 && self.id == id
+    }
+
+    /// Whether a cell waits on the leg for this channel.
+    pub fn waits_on(&self, chan: ChanNo) -> bool
+        ensures { result ≡ waits_on chan.0 (Some self.now) }
+    {
+        self.chan.0 == chan.0 && self.reply.is_some()
+    }
+
+    /// The leg's count where this tick is in force: each tick since the last cell left halves it.
+    pub fn count_at(&self, now: u64) -> u64
+        ensures { result ≡ count_of now self.now }
+    {
+        halved(self.count, now.saturating_sub(self.counted_at))
+    }
+
+    /// The first cell that waits leaves at this tick, and is charged.
+    pub fn send_first(&mut self, now: u64) -> Option<Cell>
+        ensures cell { result ≡ first_cell (Some self.old) }
+        ensures state { Some self.new ≡ sent_first now self.old self.old.queue }
+        ensures well_formed { IfSome result IsWellFormed }
+    {
+        let reply = self.reply.take()?;
+        self.count = self.count_at(now).saturating_add(CELL_CHARGE);
+        self.counted_at = now;
+        Some(Cell {
+            circ: self.id,
+            command: reply.command,
+            body: Body::Fixed(reply.payload),
+        })
+    }
+}
+
+/// A count that so many ticks halved, rounded down each time.
+fn halved(count: u64, ticks: u64) -> u64
+    ensures { result ≡ halved count ticks }
+{
+    if ticks < 64 { count >> ticks } else { 0 }
+}

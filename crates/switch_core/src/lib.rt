@@ -1,0 +1,19 @@
+//! The switch: the channels of a relay, the circuits on them, and which cell leaves next.
+//!
+//! A cell that opens a circuit comes in by `open_circuit`; what a channel sends leaves by
+//! `next_cell`, first the DESTROY cells of its lane, then the cells of its circuits.
+#![tactic(auto)]
+
+mod cells;
+mod channel;
+mod circuit;
+mod leg;
+pub mod opening;
+mod parts;
+mod pick;
+pub mod rules;
+mod switch;
+#[cfg(test)]
+mod tests;
+
+pub use switch::Switch;

@@ -1,0 +1,109 @@
+//! The switch: each call adds one step to every history that it stands for.
+ghost use Rattle.std.specs.Prelude.{◌≡◌, ◌+◌, ◌<◌, ◌≤◌, ◌^◌, ⊤, IfOk, IfSome, false, true};
+ghost use Rattle.cell_codec.specs.Cells.{is_var, IsWellFormed};
+ghost use Rattle.tr_io.specs.declared.step.Step.TheVariants.{ChannelUp, OpenCircuit, NextCell};
+ghost use Rattle.switch_model.specs.Adds.{Adds, UpCase, OpenCase};
+ghost use Rattle.switch_model.specs.Machine.{new_state};
+ghost use Rattle.switch_model.specs.ChannelUpCall.{channel_up_result};
+ghost use Rattle.switch_model.specs.OpenCircuitCall.{open_result};
+ghost use Rattle.switch_model.specs.NextCellCall.{next_cell_result};
+ghost use Rattle.switch_core.specs.Meaning.{is_reply, start_of};
+
+use crate::opening::Opening;
+use crate::parts::Parts;
+use crate::rules::Rules;
+use cell_codec::Cell;
+use std::alloc::{AllocError, Global};
+use std::marker::Model;
+use tr_io::answers::{OpenAnswer, UpAnswer};
+use tr_io::names::{ChanNo, Side};
+
+/// The switch of a relay.
+///
+/// Contracts see what it was made with and the machine's state, which stands for some history of
+/// steps. Each call that doesn't answer `Memory` is one step: whatever history the switch stood
+/// for, it stands for it afterwards with this step, which has this answer, added.
+#[derive(Drop)]
+pub struct Switch {
+    name: u64,
+    rules: Rules,
+    parts: Parts,
+}
+
+impl Model for Switch {
+    ghost use Rattle.switch_model.specs.Adds.{StandsForSome};
+    ghost use Rattle.switch_core.specs.Meaning.{start_of};
+    ghost use Rattle.switch_core.specs.Started.{Started};
+
+    ghost Value = { Started };
+
+    ghost view = { λ s. record { start = start_of s.name s.rules; state = s.parts } };
+
+    ghost invariant = { λ s. StandsForSome (start_of s.name s.rules) s.parts };
+}
+
+#[tactic(auto, using(switch_model::proofs::Laws::channel_up_adds, switch_model::proofs::Laws::open_adds, switch_model::proofs::Laws::next_cell_adds, switch_model::proofs::Laws::stays, crate::proofs::History::new_stands, crate::proofs::History::up_adds, crate::proofs::History::opening_adds, crate::proofs::History::up_stays, crate::proofs::History::opening_stays, crate::proofs::History::up_steps, crate::proofs::History::opening_steps, crate::proofs::History::next_steps))]
+impl Switch {
+    /// A switch with no channel and no circuit. Its name tells its jobs from another switch's.
+    ///
+    /// # Errors
+    ///
+    /// [`AllocError`] where memory is wanting.
+    pub fn new(alloc: Global, name: u64, rules: Rules) -> Result<Switch, AllocError>
+        ensures start { IfOk result (λ s. s.start ≡ start_of name rules) }
+        ensures state { IfOk result (λ s. s.state ≡ new_state) }
+    {
+        Ok(Switch {
+            name,
+            rules,
+            parts: Parts::new(alloc)?,
+        })
+    }
+
+    /// How many steps were made: calls that answered otherwise than `Memory`.
+    pub fn steps(&self) -> u64
+        ensures { result ≡ self.now.state.steps }
+    {
+        self.parts.steps()
+    }
+
+    /// Brings up a channel at a slot, which is a label alone. `Full(64)` where 64 channels are
+    /// live; `Memory` where memory is wanting, and then the switch stays as it was.
+    pub fn channel_up(&mut self, slot: u32, side: Side) -> UpAnswer
+        requires { self.old.state.steps < 2 ^ 62 }
+        ensures start { self.new.start ≡ self.old.start }
+        ensures history { UpCase result (self.new.state ≡ self.old.state) (Adds self.old.start self.old.state self.new.state (ChannelUp slot side result)) }
+        ensures steps { self.new.state.steps ≤ self.old.state.steps + 1 }
+        ensures answer { UpCase result ⊤ (result ≡ channel_up_result self.old.state) }
+    {
+        self.parts.channel_up(side)
+    }
+
+    /// Opens a circuit on a channel, at the CircID of the cell that asked for it. A refused opening
+    /// may put a DESTROY into the channel's lane; `Memory` where memory is wanting, and then the
+    /// switch stays as it was.
+    pub fn open_circuit(&mut self, chan: ChanNo, id: u32, opening: &Opening) -> OpenAnswer
+        requires steps { self.old.state.steps < 2 ^ 62 }
+        requires fixed { is_var opening.now.reply.body ≡ false }
+        requires command { IfSome opening.now.keys (λ keys. is_reply opening.now.reply.command ≡ true) }
+        ensures start { self.new.start ≡ self.old.start }
+        ensures history { OpenCase result (self.new.state ≡ self.old.state) (Adds self.old.start self.old.state self.new.state (OpenCircuit chan id opening.now.reply opening.now.keys result)) }
+        ensures steps { self.new.state.steps ≤ self.old.state.steps + 1 }
+        ensures answer { OpenCase result ⊤ (result ≡ open_result self.old.state chan.0 id opening.now.keys) }
+    {
+        self.parts.open_circuit(chan, id, opening)
+    }
+
+    /// The next cell that leaves on a channel, where this tick is given: the oldest DESTROY of its
+    /// lane, else the first cell of the circuit whose turn it is.
+    pub fn next_cell(&mut self, chan: ChanNo, tick: u64) -> Option<Cell>
+        requires { self.old.state.steps < 2 ^ 62 }
+        ensures start { self.new.start ≡ self.old.start }
+        ensures history { Adds self.old.start self.old.state self.new.state (NextCell chan tick result) }
+        ensures steps { self.new.state.steps ≡ self.old.state.steps + 1 }
+        ensures answer { result ≡ next_cell_result self.old.state chan.0 tick }
+        ensures well_formed { IfSome result IsWellFormed }
+    {
+        self.parts.next_cell(chan, tick)
+    }
+}

@@ -1,0 +1,86 @@
+//! Calls whose answers were worked out by hand.
+ghost use Rattle.std.specs.Prelude.{◌≡◌, IfOk, false};
+ghost use Rattle.cell_codec.specs.Cells.{is_var};
+
+use super::*;
+use crate::opening::{Opening, opening_of};
+use crate::rules::Rules;
+use cell_codec::{Body, Cell, List};
+use std::alloc::{AllocError, Global};
+use std::test::Fail;
+use tr_io::answers::{OpenAnswer, OpenRefusal, UpAnswer};
+use tr_io::names::{ChanNo, CircNo, Side};
+
+fn new_switch(alloc: Global) -> Result<Switch, AllocError>
+    ensures { IfOk result (λ s. s.state.steps ≡ 0) }
+{
+    Switch::new(
+        alloc,
+        0,
+        Rules {
+            allow: List::new(alloc),
+        },
+    )
+}
+
+/// The opening of CREATE_FAST at this CircID, with X and Y zero.
+fn fast_opening(id: u32) -> Result<Opening, AllocError>
+    ensures fixed { IfOk result (λ o. is_var o.reply.body ≡ false) }
+    ensures command { IfOk result (λ o. o.reply.command ≡ 6) }
+{
+    let cell = Cell {
+        circ: id,
+        command: 5,
+        body: Body::Fixed([0; 509]),
+    };
+    opening_of(&cell, &[0; 20])
+}
+
+#[test]
+fn a_circuit_answers_once(rt: HostRuntime) -> Result<(), Fail> {
+    let mut switch = new_switch(rt.alloc())?;
+    let opening = fast_opening(0x8000_0001)?;
+    assert_eq!(rt;
+        switch.channel_up(3, Side::PeerOpened),
+        UpAnswer::Up(ChanNo(0))
+    );
+    let answer = switch.open_circuit(ChanNo(0), 0x8000_0001, &opening);
+    assert_eq!(rt; answer, OpenAnswer::Opened(CircNo(0)));
+    let again = switch.open_circuit(ChanNo(0), 0x8000_0001, &opening);
+    assert_eq!(rt; again, OpenAnswer::Refused(OpenRefusal::InUse));
+    let cell = switch.next_cell(ChanNo(0), 0).ok_or("a reply")?;
+    assert_eq!(rt; cell.circ, 0x8000_0001);
+    assert_eq!(rt; cell.command, 6);
+    assert!(rt; switch.next_cell(ChanNo(0), 1).is_none());
+    assert_eq!(rt; switch.steps(), 5);
+    Ok(())
+}
+
+#[test]
+fn a_refused_id_is_destroyed(rt: HostRuntime) -> Result<(), Fail> {
+    let mut switch = new_switch(rt.alloc())?;
+    let opening = fast_opening(1)?;
+    assert_eq!(rt;
+        switch.channel_up(0, Side::PeerOpened),
+        UpAnswer::Up(ChanNo(0))
+    );
+    let answer = switch.open_circuit(ChanNo(0), 1, &opening);
+    assert_eq!(rt; answer, OpenAnswer::Refused(OpenRefusal::BadId));
+    let cell = switch.next_cell(ChanNo(0), 0).ok_or("a DESTROY")?;
+    assert_eq!(rt; cell.circ, 1);
+    assert_eq!(rt; cell.command, 4);
+    assert!(rt; switch.next_cell(ChanNo(0), 0).is_none());
+    Ok(())
+}
+
+#[test]
+fn the_65th_channel_finds_the_switch_full(rt: HostRuntime) -> Result<(), Fail> {
+    let mut switch = new_switch(rt.alloc())?;
+    for number in 0..64 {
+        let answer = switch.channel_up(0, Side::WeOpened);
+        assert_eq!(rt; answer, UpAnswer::Up(ChanNo(number)));
+    }
+    assert_eq!(rt; switch.channel_up(0, Side::WeOpened), UpAnswer::Full(64));
+    assert!(rt; switch.next_cell(ChanNo(64), 0).is_none());
+    Ok(())
+}
