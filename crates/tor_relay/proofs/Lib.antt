@@ -1,0 +1,4 @@
+pub mod Openings
+pub mod InputLaws
+pub mod OutputLaws
+pub mod Words

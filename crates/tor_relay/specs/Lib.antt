@@ -1,0 +1,5 @@
+pub mod Records
+pub mod Answers
+pub mod Input
+pub mod Output
+pub mod Causes
