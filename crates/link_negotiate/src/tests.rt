@@ -1,5 +1,5 @@
 use crate::{LinkAnswer, LinkFault, Negotiation};
-use cell_codec::{Body, Bytes, Cell};
+use cell_codec::{Body, Bytes, Cell, Decoder};
 use std::alloc::{AllocError, Global};
 use std::test::Fail;
 
@@ -59,6 +59,29 @@ fn two_sides_open_a_link(rt: HostRuntime) -> Result<(), Fail> {
         fault(opener.step(&offered)),
         Some(LinkFault::Unexpected(7))
     );
+    Ok(())
+}
+
+#[test]
+fn a_link_opens_by_its_bytes(rt: HostRuntime) -> Result<(), Fail> {
+    let mut bytes = Vec::new(rt.alloc());
+    bytes.extend_from_slice(b"\0\0\x07\0\x06\0\x03\0\x04\0\x05")?;
+    bytes.extend_from_slice(b"\0\0\0\0\x08\0\0\0\0\x04\x04")?;
+    bytes.extend_from_slice(&[0; 503])?;
+    let mut side = Negotiation::answerer(rt.alloc());
+    let mut sent = 0;
+    let mut version = None;
+    for cell in Decoder::starting(rt.alloc())
+        .feed(bytes.as_slice())?
+        .as_slice()
+    {
+        match side.step(cell) {
+            LinkAnswer::Send(cells) => sent = cells.len(),
+            LinkAnswer::Ready(agreed, _netinfo) => version = Some(agreed),
+            _other => assert!(rt; false),
+        }
+    }
+    assert_eq!(rt; (sent, version), (2, Some(4)));
     Ok(())
 }
 
