@@ -14,7 +14,7 @@ use Rattle.tor_spec.proofs.CellCuts.{first_ended}
 use Rattle.tor_spec.proofs.CellPieces.{first_reading-wrong, first_reading-none, first_reading-some}
 use Rattle.tor_spec.proofs.WrongStarts.{right_start, wrong_start-append}
 use Rattle.cell_laws.proofs.Encodings.{same_cell}
-use Rattle.cell_laws.proofs.Found.{IsBytes-take, IsBytes-drop}
+use Rattle.cell_laws.proofs.Bytes.{IsBytes-take, IsBytes-drop}
 use Rattle.cell_laws.proofs.Spellings.{with_cells, spelled_first, later_spelled}
 
 -- VERSIONS with this payload, as it opens a link.

@@ -1,4 +1,13 @@
+pub mod Bodies
+pub mod Bytes
 pub mod Encodings
+pub mod Extends
 pub mod FirstCells
 pub mod Found
+pub mod Links
+pub mod Netinfos
+pub mod Options
+pub mod Payloads
+pub mod Resolves
 pub mod Spellings
+pub mod VersionLists

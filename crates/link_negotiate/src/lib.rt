@@ -7,6 +7,7 @@
 
 mod answer;
 mod greeting;
+pub mod laws;
 mod negotiation;
 mod netinfo;
 mod phase;
