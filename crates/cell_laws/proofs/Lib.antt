@@ -8,6 +8,7 @@ pub mod Links
 pub mod Netinfos
 pub mod Options
 pub mod Payloads
+pub mod Ports
 pub mod Resolves
 pub mod Spellings
 pub mod VersionLists

@@ -3,6 +3,7 @@ pub mod Extends
 pub mod Netinfo
 pub mod Payloads
 pub mod Pieces
+pub mod Ports
 pub mod Prefixes
 pub mod Resolved
 pub mod Versions

@@ -1,6 +1,7 @@
 //! Relay cells and their payloads (tor-spec, "Relay cells").
 
 ghost use Rattle.std.specs.Prelude.{◌≡◌, ◌↔◌, ◌<◌, ◌≤◌, ◌^◌, ◌∷◌, [], ℕ, List, Some, length, IsTrue};
+ghost use Rattle.tor_spec.specs.Begin.{port_of_text};
 ghost use Rattle.tor_spec.specs.CellStream.{IsBytes};
 ghost use Rattle.tor_spec.specs.Connected.{ConnectedTo, connected_address};
 ghost use Rattle.tor_spec.specs.Ends.{end_reason, truncated_reason};
@@ -11,6 +12,7 @@ ghost use Rattle.tor_spec.specs.Sendme.{sendme_proof};
 ghost use Rattle.cell_laws.specs.Body.{SpellsBody};
 ghost use Rattle.cell_laws.specs.Extends.{SpellsExtend};
 ghost use Rattle.cell_laws.specs.Payloads.{SpellsConnected, SpellsProof, SpellsEnd, SpellsTruncated, SpellsReply, SpellsRequest};
+ghost use Rattle.cell_laws.specs.Ports.{SpellsPort};
 ghost use Rattle.cell_laws.specs.Resolved.{Answer, SpellsAnswers};
 
 /// A body of 509 bytes whose Length fits spells the head and the payload that are read from it.
@@ -19,6 +21,12 @@ pub fn bodies_are_read_as_spelled()
         IsTrue (fits_length body) × (relay_head body ≡ head) × (payload_of body ≡ payload) }
     ensures spelled { (body : List ℕ) → IsBytes body → length body ≡ 509 → IsTrue (fits_length body) →
         SpellsBody body (relay_head body) (payload_of body) }
+{}
+
+/// The port that is read from a text in BEGIN is the one that it spells; where none is read, it spells
+/// none.
+pub fn ports_are_read_as_spelled()
+    ensures { (text : List ℕ) (port : ℕ) → SpellsPort text port ↔ (port_of_text text ≡ Some port) }
 {}
 
 /// What is read from a CONNECTED is what it spells; where nothing is read, it spells nothing.
