@@ -5,3 +5,4 @@ pub mod Counts
 pub mod Legs
 pub mod Behind
 pub mod Streams
+pub mod PathLayers

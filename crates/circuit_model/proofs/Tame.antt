@@ -1,7 +1,7 @@
 -- What messages and the edge's reports have in common: none of them packages DATA, but for bytes of
 -- the edge, and none of them gives a cell to a leg.
-use Rattle.std.proofs.Common.{◌≡◌, ℕ, ◌+◌, ◌%◌, ◌==◌, ◌||◌, List, [], ◌∷◌, Bool, true, false, if◌then◌else◌, not, Option, Some, None, is_some, refl, nat_le, nat_lt}
-use Rattle.tor_spec.specs.RelayCell.{relay_head, relay_body, relay_head_bytes, with_digest, data_command, begin_command, end_command, sendme_command, truncate_command, drop_command, resolve_command, begin_dir_command, extend2_command, truncated_command, resolved_command}
+use Rattle.std.proofs.Common.{◌≡◌, ℕ, ◌+◌, ◌%◌, ◌==◌, ◌||◌, List, [], ◌∷◌, Bool, true, false, if◌then◌else◌, not, length, Option, Some, None, is_some, refl, nat_le, nat_lt}
+use Rattle.tor_spec.specs.RelayCell.{relay_head, relay_body, relay_head_bytes, with_digest, data_command, begin_command, end_command, sendme_command, truncate_command, drop_command, resolve_command, begin_dir_command, extend2_command, truncated_command, resolved_command, connected_command, extended2_command}
 use Rattle.tor_spec.specs.Begin.{Target, begin_target}
 use Rattle.tor_spec.specs.Extend.{Address}
 use Rattle.circuit_model.specs.Rules.{Rules, allowed_address}
@@ -11,8 +11,8 @@ use Rattle.circuit_model.specs.Windows.{is_data_body, stream_packaged, stream_gr
 use Rattle.circuit_model.specs.NextHop.{next_hop, is_absent}
 use Rattle.circuit_model.specs.SendmeProof.{is_right_sendme}
 use Rattle.circuit_model.specs.Places.{Place, taken_places}
-use Rattle.circuit_model.specs.Streams.{place_limit, reaching, beginning, begin_effects, acknowledging, data_at, end_at, stream_sendme_at, sendme_effects, ending, ended_effects, drained_effects}
-use Rattle.circuit_model.specs.Extending.{dialling, address_asked, extend_effects, truncate_effects}
+use Rattle.circuit_model.specs.Streams.{place_limit, reaching, beginning, begin_effects, acknowledging, data_at, end_at, stream_sendme_at, sendme_effects, ending, connected_effects, ended_effects, drained_effects}
+use Rattle.circuit_model.specs.Extending.{dialling, address_asked, extend_effects, truncate_effects, extending}
 use Rattle.circuit_model.specs.Effects.{message_effects}
 
 pub record IsTame (effects : Effects) : Type 0 where
@@ -104,3 +104,11 @@ drained-tame log (Some place) = if-tame _ _ _ (package-tame log sendme_command p
 pub ended-tame : (log : Log) (reason : ℕ) (place : Option Place) → IsTame (ended_effects log reason place)
 ended-tame log reason None = nothing-tame
 ended-tame log reason (Some place) = record { no_data = (ending-tame log place.key.stream reason).no_data; no_cell = refl }
+
+pub connected-tame : (log : Log) (place : Option Place) → IsTame (connected_effects log place)
+connected-tame log None = nothing-tame
+connected-tame log (Some place) = package-tame log connected_command place.key.stream _ refl
+
+pub extending-tame : (log : Log) (handshake : Option (List ℕ)) → IsTame (extending log handshake)
+extending-tame log None = closing-tame 1
+extending-tame log (Some handshake) = if-tame (nat_le (length handshake) 496) _ _ (package-tame log extended2_command 0 _ refl) (closing-tame 1)

@@ -6,6 +6,7 @@ pub mod Places
 pub mod NextHop
 pub mod Windows
 pub mod Packaged
+pub mod PathLayers
 pub mod SendmeProof
 pub mod Received
 pub mod Streams

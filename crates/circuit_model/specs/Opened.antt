@@ -1,10 +1,8 @@
 -- Relay cells from the client's side with this relay's layer of encryption taken off, and which of
 -- them are recognised (tor-spec, "Routing relay cells", "Relay cells").
-use Rattle.std.specs.Prelude.{ℕ, ◌*◌, ◌==◌, ◌&&◌, [], ◌∷◌, ◌++◌, List, Bool, true, false, if◌then◌else◌, Option, Some, None, unwrap_or, take, replicate, bit_xor, bytes_eq}
-use Rattle.std.specs.Simd.Lanes.{zip2}
-use Rattle.crypto_spec.specs.Keystream.{keystream_part}
+use Rattle.std.specs.Prelude.{ℕ, ◌*◌, [], ◌∷◌, ◌++◌, List, Bool, true, false, if◌then◌else◌, Option, Some, None, unwrap_or, replicate}
+use Rattle.crypto_spec.specs.HopLayer.{layered, is_recognised}
 use Rattle.crypto_spec.specs.RunningDigest.{running_digest}
-use Rattle.tor_spec.specs.RelayCell.{relay_head}
 use Rattle.circuit_model.specs.Events.{Event, Born, Forward, CircuitCell, CircuitKeys}
 use Rattle.circuit_model.specs.Log.{Log, count_of, newest}
 
@@ -36,25 +34,15 @@ is_forward event = false
 abbrev pub forward_count : Log → ℕ
 forward_count log = count_of (λ entry. is_forward entry.event) log
 
--- A body with the layer of a cipher key put on or taken off, byte by byte by exclusive or: body number
--- n of its direction, from 0, uses the 509 bytes of the keystream from number 509 n on.
-unfoldable pub layered : List ℕ → ℕ → List ℕ → List ℕ
-layered key n body = zip2 bit_xor body (keystream_part key (509 * n) 509)
-
--- The next forward body with this relay's layer taken off.
+-- The next forward body with this relay's layer taken off: body number n of its direction, from 0, uses
+-- the 509 bytes of the keystream from number 509 n on.
 abbrev pub plain_body : Log → List ℕ → List ℕ
-plain_body log body = layered (born_keys log).kf (forward_count log) body
+plain_body log body = layered (born_keys log).kf (509 * forward_count log) body
 
--- Behind these recognised bodies a plain body is recognised where its Recognized is 0 and its Digest
--- is the first four bytes of the running digest with it.
-unfoldable pub is_recognised_after : List ℕ → List (List ℕ) → List ℕ → Bool
-is_recognised_after seed before plain =
-    ((relay_head plain).recognized == 0)
-    && bytes_eq (relay_head plain).digest (take 4 (running_digest seed (before ++ plain ∷ [])))
-
+-- The recognised bodies with one more plain body, if it is recognised behind them.
 abbrev pub with_recognised : List ℕ → List (List ℕ) → List ℕ → List (List ℕ)
 with_recognised seed before plain =
-    if is_recognised_after seed before plain then before ++ plain ∷ [] else before
+    if is_recognised seed before plain then before ++ plain ∷ [] else before
 
 -- The recognised bodies with one more forward body, if the event is one.
 abbrev pub recognised_with : Log → List (List ℕ) → Event → List (List ℕ)
@@ -66,8 +54,9 @@ abbrev pub recognised_bodies : Log → List (List ℕ)
 recognised_bodies [] = []
 recognised_bodies (entry ∷ log) = recognised_with log (recognised_bodies log) entry.event
 
-abbrev pub is_recognised : Log → List ℕ → Bool
-is_recognised log plain = is_recognised_after (born_keys log).df (recognised_bodies log) plain
+-- Whether this plain body is recognised as the next.
+abbrev pub recognises : Log → List ℕ → Bool
+recognises log plain = is_recognised (born_keys log).df (recognised_bodies log) plain
 
 -- The 20 bytes of the forward running digest with this plain body as the next.
 abbrev pub digest_with : Log → List ℕ → List ℕ

@@ -3,7 +3,7 @@ use Rattle.std.specs.Prelude.{ℕ, ◌==◌, ◌&&◌, List, Bool, false, if◌t
 use Rattle.tor_spec.specs.RelayCell.{relay_head, fits_length, payload_of}
 use Rattle.circuit_model.specs.Events.{Event, Forward}
 use Rattle.circuit_model.specs.Log.{Log, Message, count_of, is_closed}
-use Rattle.circuit_model.specs.Opened.{plain_body, is_recognised, digest_with}
+use Rattle.circuit_model.specs.Opened.{plain_body, recognises, digest_with}
 use Rattle.circuit_model.specs.Places.{live_place}
 
 -- The command of RELAY_EARLY cells. A circuit takes eight of them (tor-spec, "Handling RELAY_EARLY
@@ -45,7 +45,7 @@ message_in_body log command plain = record {
 abbrev pub received_plain : Log → ℕ → List ℕ → Received
 received_plain log command plain =
     if (command == relay_early) && nat_le relay_early_limit (early_count log) then TooManyEarly
-    else (if is_recognised log plain
+    else (if recognises log plain
     then (if fits_length plain then ForUs (message_in_body log command plain) else TooLong)
     else Unrecognised plain)
 

@@ -1,16 +1,18 @@
 -- What the one-thread relay sends on each leg of a circuit: the whole list of cells, by command and
 -- body.
-use Rattle.std.specs.Prelude.{ℕ, ◌+◌, ◌==◌, ◌&&◌, [], ◌∷◌, ◌++◌, List, if◌then◌else◌, option_to_list}
+use Rattle.std.specs.Prelude.{ℕ, ◌+◌, ◌*◌, ◌==◌, ◌&&◌, [], ◌∷◌, ◌++◌, List, if◌then◌else◌, option_to_list}
+use Rattle.crypto_spec.specs.HopLayer.{layered}
 use Rattle.circuit_model.specs.Events.{CircuitCell}
 use Rattle.circuit_model.specs.Log.{Entry, Log}
-use Rattle.circuit_model.specs.Opened.{born_keys, born_reply, layered}
+use Rattle.circuit_model.specs.Opened.{born_keys, born_reply}
 use Rattle.circuit_model.specs.NextHop.{next_hop, has_leg, leg_count}
 use Rattle.circuit_model.specs.Packaged.{behind}
 use Rattle.circuit_model.specs.Extending.{filled}
 
--- A RELAY cell with the backward body with number n, this relay's layer put on.
+-- A RELAY cell with the backward body with number n, this relay's layer put on: it uses the 509 bytes of
+-- the keystream from number 509 n on.
 abbrev pub sealed : List ℕ → ℕ → List ℕ → CircuitCell
-sealed key n body = record { command = 3; body = layered key n body }
+sealed key n body = record { command = 3; body = layered key (509 * n) body }
 
 -- The bodies as RELAY cells, numbered from n on.
 abbrev pub all_sealed : List ℕ → ℕ → List (List ℕ) → List CircuitCell

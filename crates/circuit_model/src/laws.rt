@@ -4,16 +4,17 @@ ghost use Rattle.std.specs.Prelude.{◌≡◌, ◌≢◌, ℕ, ◌+◌, ◌*◌,
 ghost use Rattle.std.specs.Str.{str_to_ascii_lowercase};
 ghost use Rattle.tor_spec.specs.Begin.{Target, begin_target};
 ghost use Rattle.tor_spec.specs.Extend.{Address};
-ghost use Rattle.tor_spec.specs.RelayCell.{begin_command, sendme_command, truncate_command};
+ghost use Rattle.tor_spec.specs.RelayCell.{begin_command, sendme_command, truncate_command, relay_body};
 ghost use Rattle.tor_spec.specs.Sendme.{sendme_proof};
-ghost use Rattle.circuit_model.specs.Events.{Event, Forward, Backward, Data, Drained, CircuitCell};
+ghost use Rattle.circuit_model.specs.Events.{Event, Forward, Backward, Data, CircuitCell};
 ghost use Rattle.circuit_model.specs.Rules.{Rules, allowed_address};
-ghost use Rattle.circuit_model.specs.Log.{Message, Reach, no_effects, closing, is_closed};
-ghost use Rattle.circuit_model.specs.Opened.{born_keys, keys_in};
+ghost use Rattle.circuit_model.specs.Log.{Log, Message, Reach, no_effects, closing, is_closed};
+ghost use Rattle.circuit_model.specs.Opened.{born_keys, keys_in, forward_count, plain_body, recognised_bodies, recognises};
+ghost use Rattle.circuit_model.specs.PathLayers.{PathHop, layered_for, digested_for};
 ghost use Rattle.circuit_model.specs.NextHop.{next_hop, has_leg, is_linked, leg_count};
 ghost use Rattle.circuit_model.specs.Places.{Place, place_at, places, taken_places};
 ghost use Rattle.circuit_model.specs.Packaged.{behind};
-ghost use Rattle.circuit_model.specs.Windows.{circuit_packaged, circuit_grant, good_sendmes};
+ghost use Rattle.circuit_model.specs.Windows.{has_command, is_data_of, circuit_packaged, circuit_grant, good_sendmes, stream_packaged, stream_grant};
 ghost use Rattle.circuit_model.specs.SendmeProof.{proof_owed, is_right_sendme};
 ghost use Rattle.circuit_model.specs.Received.{message_at, early_count};
 ghost use Rattle.circuit_model.specs.Streams.{ending};
@@ -60,18 +61,37 @@ pub fn right_sendme_grants_a_hundred()
         circuit_grant (log rules (e ∷ h)) ≡ circuit_grant (log rules h) + 100 }
 {}
 
-/// Only DATA counts for the circuit's window: what a relay cell from the client brings about, a
-/// SENDME too, doesn't move it, nor does the SENDME of a stream; bytes of the edge, even none, move
-/// it by one.
-#[tactic(auto, using(crate::proofs::Counts::forward_moves_no_window, crate::proofs::Counts::stream_sendme_moves_no_window, crate::proofs::Counts::data_moves_window))]
-pub fn only_data_moves_the_window()
-    ensures forward { (rules : Rules) (h : List Event) (command : ℕ) (body : List ℕ) →
-        circuit_packaged (log rules (Forward command body ∷ h)) ≡ circuit_packaged (log rules h) }
-    ensures drained { (rules : Rules) (h : List Event) (serial : ℕ) →
-        circuit_packaged (log rules (Drained serial ∷ h)) ≡ circuit_packaged (log rules h) }
+/// Packaged cells count DATA alone: an event that isn't bytes of the edge leaves the circuit's count,
+/// what it has packaged and what the next hop sends notwithstanding; bytes, even none, raise it by one.
+pub fn packaged_cells_count_data_alone()
+    ensures others { (rules : Rules) (h : List Event) (e : Event) →
+        ((serial : ℕ) → IsFalse (is_data_of serial e)) →
+        circuit_packaged (log rules (e ∷ h)) ≡ circuit_packaged (log rules h) }
     ensures bytes { (rules : Rules) (h : List Event) (serial : ℕ) (bytes : List ℕ) (place : Place) →
         IsFalse (is_closed (log rules h)) → place_at (log rules h) serial ≡ Some place →
         circuit_packaged (log rules (Data serial bytes ∷ h)) ≡ circuit_packaged (log rules h) + 1 }
+{}
+
+/// The same of one stream: bytes at its place, even none, raise its count by one, and nothing else
+/// moves it.
+#[tactic(auto, using(crate::proofs::Counts::stream_counts_its_data, crate::proofs::Counts::other_events_leave_stream))]
+pub fn a_stream_counts_its_data_alone()
+    ensures others { (rules : Rules) (h : List Event) (e : Event) (serial : ℕ) → IsFalse (is_data_of serial e) →
+        stream_packaged (log rules (e ∷ h)) serial ≡ stream_packaged (log rules h) serial }
+    ensures bytes { (rules : Rules) (h : List Event) (serial : ℕ) (bytes : List ℕ) →
+        stream_packaged (log rules (Data serial bytes ∷ h)) serial ≡ stream_packaged (log rules h) serial + 1 }
+{}
+
+/// Grants rise by SENDMEs alone: an event that brings none leaves the grants of the circuit and of
+/// each stream.
+#[tactic(auto, using(crate::proofs::Counts::circuit_grant_stays, crate::proofs::Counts::stream_grant_stays))]
+pub fn only_sendmes_grant()
+    ensures circuit { (rules : Rules) (h : List Event) (e : Event) →
+        IsFalse (has_command sendme_command (message_at (log rules h) e)) →
+        circuit_grant (log rules (e ∷ h)) ≡ circuit_grant (log rules h) }
+    ensures stream { (rules : Rules) (h : List Event) (e : Event) (serial : ℕ) →
+        IsFalse (has_command sendme_command (message_at (log rules h) e)) →
+        stream_grant (log rules (e ∷ h)) serial ≡ stream_grant (log rules h) serial }
 {}
 
 /// TRUNCATE ends the current leg by DESTROY with REQUESTED, behind the cells that the leg was given
@@ -123,4 +143,21 @@ pub fn allowed_name_in_any_case_reaches()
         str_to_ascii_lowercase asked.host ≡ str_to_ascii_lowercase allowed.host → asked.port ≡ allowed.port →
         allowed_address rules allowed ≡ Some to →
         (effects rules h e).edge ≡ Some (Reach (record { stream = m.stream; serial = length (places (log rules h)) }) to) }
+{}
+
+/// On a client's path of several hops each hop takes its own layer off: what it then has is what the
+/// client would send to the hops behind it.
+#[tactic(auto, using(crate::proofs::PathLayers::a_hop_takes_its_layer_off))]
+pub fn each_hop_takes_its_layer_off()
+    ensures { (log : Log) (hop : PathHop) (hops : List PathHop) (body : List ℕ) →
+        length body ≡ 509 → (born_keys log).kf ≡ hop.keys.kf → forward_count log ≡ hop.sent →
+        plain_body log (layered_for (hop ∷ hops) body) ≡ layered_for hops body }
+{}
+
+/// A hop recognises what the client means for it, where both have seen the same bodies before.
+#[tactic(auto, using(crate::proofs::PathLayers::meant_is_recognised))]
+pub fn a_hop_recognises_what_is_meant_for_it()
+    ensures { (log : Log) (hop : PathHop) (command stream : ℕ) (payload : List ℕ) →
+        (born_keys log).df ≡ hop.keys.df → recognised_bodies log ≡ hop.meant →
+        IsTrue (recognises log (digested_for hop (relay_body command stream payload))) }
 {}

@@ -1,8 +1,9 @@
 //! What a relay that runs one circuit in one thread does with every event of it, after any history:
 //! which cells it sends on each leg, which orders it gives to the edge, when it dials and when it
 //! closes (tor-spec; proposal 289). The definitions stand in `specs/`, whose file `Words` lists
-//! them; they look at the whole history and keep no state. The functions of `laws` have no code:
-//! their contracts are laws that show what the definitions mean.
+//! them; they look at the whole history and keep no state. `PathLayers` says what the client at the
+//! other end does with a body. The functions of `laws` have no code: their contracts are laws that
+//! show what the definitions mean.
 #![tactic(auto)]
 
 pub mod laws;

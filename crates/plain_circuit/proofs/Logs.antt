@@ -1,11 +1,10 @@
 -- Words over a log, by the list of entries that it is, the oldest first.
-use Rattle.std.proofs.Common.{◌≡◌, ℕ, ◌+◌, ◌||◌, List, [], ◌∷◌, ◌++◌, Bool, true, false, if◌then◌else◌, cond, Option, Some, None, refl, sym, ◌∙◌, ap, map, count_by, filter_map, arith, ◌<◌, length, take, get_or}
+use Rattle.std.proofs.Common.{◌≡◌, ℕ, ◌+◌, ◌||◌, List, [], ◌∷◌, ◌++◌, Bool, true, false, if◌then◌else◌, cond, refl, ◌∙◌, ap, map, count_by, arith, ◌<◌, length, take, get_or}
 use Rattle.std.specs.List.{list_any}
-use Rattle.std.specs.Option.{option_or}
 use Rattle.std.proofs.lemmas.List.{take_more, map-append}
 use Rattle.std.proofs.lemmas.List.Recursion.{is_count_by}
 use Rattle.std.proofs.lemmas.List.Folds.{list_any-append}
-use Rattle.circuit_model.specs.Log.{Entry as ModelEntry, Log, count_of, newest, pushed, collected}
+use Rattle.circuit_model.specs.Log.{Entry as ModelEntry, Log, count_of}
 use Rattle.circuit_model.specs.Words.{in_order}
 use Rattle.plain_circuit.specs.declared.log.Entry.{Entry}
 use Rattle.plain_circuit.specs.declared.event.Event.{Event}

@@ -1,5 +1,5 @@
 -- How long payloads are.
-use Rattle.std.proofs.Common.{◌≡◌, ℕ, ◌+◌, ◌≤◌, List, length, take, drop, arith, length-drop, length-take}
+use Rattle.std.proofs.Common.{◌≡◌, ℕ, ◌≤◌, List, length, drop, arith, length-drop, length-take}
 use Rattle.tor_spec.specs.RelayCell.{relay_head, payload_of}
 
 pub payload_short : (body : List ℕ) → length body ≡ 509 → length (payload_of body) ≤ 498

@@ -1,5 +1,5 @@
 -- What the program's values are in the definitions.
-use Rattle.std.specs.Prelude.{ℕ, List, map, Option, option_map}
+use Rattle.std.specs.Prelude.{List, map, option_map}
 use Rattle.kdf_tor.specs.declared.LayerKeys.{LayerKeys}
 use Rattle.tor_spec.specs.Extend.{Address as ModelAddress}
 use Rattle.circuit_model.specs.Events.{CircuitCell as ModelCell, CircuitKeys, Event as ModelEvent, Born as born, Forward as forward, Backward as backward, Connected as connected, Data as edge_data, Ended as ended, Drained as drained, Freed as freed, Linked as linked, Answered as answered, Failed as failed}

@@ -1,10 +1,10 @@
 //! Relay cells from the client's side with this relay's layer taken off, and which are recognised.
 
-ghost use Rattle.std.specs.Prelude.{◌≡◌, ◌==◌, ◌&&◌, ◌++◌, ◌∷◌, [], IfOk, option_map, bytes_eq, take};
+ghost use Rattle.std.specs.Prelude.{◌≡◌, ◌*◌, ◌&&◌, ◌++◌, ◌∷◌, [], IfOk, option_map, bytes_eq, take, drop};
+ghost use Rattle.crypto_spec.specs.HopLayer.{layered};
 ghost use Rattle.crypto_spec.specs.RunningDigest.{running_digest};
-ghost use Rattle.tor_spec.specs.RelayCell.{relay_head};
 ghost use Rattle.circuit_model.specs.Log.{pushed};
-ghost use Rattle.circuit_model.specs.Opened.{keys_in, born_keys, is_forward, forward_count, layered, plain_body, recognised_with, recognised_bodies};
+ghost use Rattle.circuit_model.specs.Opened.{keys_in, born_keys, is_forward, forward_count, plain_body, recognised_with, recognised_bodies};
 ghost use Rattle.plain_circuit.specs.Values.{log_of, event_of, keys_of};
 
 use crate::event::Event;
@@ -61,9 +61,9 @@ pub fn forward_count(log: &[Entry<'_>]) -> usize
 }
 
 /// Body number `n` of its direction with the layer of a cipher key put on or taken off.
-#[tactic(auto, unfolding(circuit_model::specs::Opened::layered))]
+#[tactic(auto, unfolding(crypto_spec::specs::HopLayer::layered))]
 pub fn layered(key: &[u8; 16], n: usize, body: &[u8; 509]) -> [u8; 509]
-    ensures { result ≡ layered key.now n body.now }
+    ensures { result ≡ layered key.now (509 * n) body.now }
 {
     let mut stream = Stream::of(key);
     let mut passed = [0; 509];
@@ -93,29 +93,13 @@ pub fn digest_of(seed: &[u8; 20], bodies: &[[u8; 509]]) -> [u8; 20]
     running.digest()
 }
 
-/// The field Recognized.
-#[tactic(auto, using(tor_spec::proofs::RelayCells::relay_head_at))]
-fn recognized(body: &[u8; 509]) -> u16
-    ensures { result ≡ (relay_head body.now).recognized }
-{
-    u16::from_be_bytes([body[1], body[2]])
-}
-
-/// Whether the Digest is the first four bytes of this running digest.
-#[tactic(auto, unfolding(tor_spec::specs::RelayCell::relay_head))]
-fn has_digest(body: &[u8; 509], digest: &[u8; 20]) -> bool
-    ensures { result ≡ bytes_eq (relay_head body.now).digest (take 4 digest.now) }
-{
-    body[5..9] == digest[..4]
-}
-
-/// Whether a plain body is recognised whose running digest with it is this one: Recognized is 0,
-/// and the Digest is the first four bytes.
+/// Whether a plain body is recognised whose running digest with it is this one: its field Recognized
+/// is zero, and its Digest is the first four bytes.
 pub fn is_recognised_by(plain: &[u8; 509], digest: &[u8; 20]) -> bool
-    ensures { result ≡ ((relay_head plain.now).recognized == 0) && bytes_eq (relay_head plain.now).digest (take 4 digest.now) }
+    ensures { result ≡ bytes_eq (take 2 (drop 1 plain.now)) (0 ∷ 0 ∷ []) && bytes_eq (take 4 (drop 5 plain.now)) (take 4 digest.now) }
 {
-    let is_zero = recognized(plain) == 0;
-    let fits = has_digest(plain, digest);
+    let is_zero = plain[1..3] == [0, 0];
+    let fits = plain[5..9] == digest[..4];
     is_zero && fits
 }
 
@@ -134,7 +118,7 @@ pub fn digest_with(
 }
 
 /// The plain body that an event adds to the recognised ones.
-#[tactic(auto, unfolding(circuit_model::specs::Opened::is_recognised_after))]
+#[tactic(auto, unfolding(crypto_spec::specs::HopLayer::is_recognised))]
 fn recognised_in(
     alloc: Global,
     log: &[Entry<'_>],

@@ -90,7 +90,7 @@ fn message_in_body(
 }
 
 /// What a cell with this command and this body, as it came, is. The first that fits holds.
-#[tactic(auto, unfolding(circuit_model::specs::Received::received, circuit_model::specs::Opened::is_recognised_after))]
+#[tactic(auto, unfolding(circuit_model::specs::Received::received, crypto_spec::specs::HopLayer::is_recognised))]
 pub fn read_cell(
     alloc: Global,
     log: &[Entry<'_>],

@@ -1,7 +1,7 @@
 use Rattle.std.proofs.Common.{◌≡◌, ◌*◌, ◌∙◌, ap, arith, bit_xor}
 use Rattle.std.specs.Simd.Lanes.{zip2}
 use Rattle.crypto_spec.specs.Keystream.{keystream_part}
-use Rattle.circuit_model.specs.Opened.{layered}
+use Rattle.crypto_spec.specs.HopLayer.{layered}
 use Rattle.plain_circuit.proofs.opened.layered.Goals as goal
 
 pub returns : goal.returns
