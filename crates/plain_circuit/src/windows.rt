@@ -1,7 +1,7 @@
 //! Flow control: counts over the whole log, and how far they may go.
 
-ghost use Rattle.std.specs.Prelude.{◌≡◌, ◌<◌, ◌^◌, option_map};
-ghost use Rattle.circuit_model.specs.Windows.{has_command, has_stream, has_place, is_accepted, packs_data, is_data_of, carries, drains, circuit_packaged, good_sendmes, stream_packaged, stream_sendmes, stream_grant, accepted_data, carried, drained, accept_grant};
+ghost use Rattle.std.specs.Prelude.{◌≡◌, ◌<◌, ◌^◌, nat_le, option_map};
+ghost use Rattle.circuit_model.specs.Windows.{has_command, has_stream, has_place, is_accepted, packs_data, is_data_of, carries, drains, circuit_packaged, good_sendmes, circuit_grant, stream_packaged, stream_sendmes, stream_grant, accepted_data, carried, drained, accept_grant};
 ghost use Rattle.plain_circuit.specs.Values.{log_of, entry_of, event_of, message_of, order_of};
 
 use crate::effects::Order;
@@ -96,6 +96,21 @@ pub fn good_sendmes(log: &[Entry<'_>]) -> usize
     count
 }
 
+/// How many DATA the circuit may package.
+pub fn circuit_grant(log: &[Entry<'_>]) -> u128
+    ensures grant { result ≡ circuit_grant (log_of log.now) }
+    ensures bound { result < 2 ^ 100 }
+{
+    1000 + 100 * good_sendmes(log) as u128
+}
+
+/// Whether the circuit's window is used up, so that none of its streams may package DATA.
+pub fn is_circuit_shut(log: &[Entry<'_>]) -> bool
+    ensures { result ≡ nat_le (circuit_grant (log_of log.now)) (circuit_packaged (log_of log.now)) }
+{
+    circuit_grant(log) <= packed(log) as u128
+}
+
 /// How many DATA a place packaged.
 pub fn packed_for(log: &[Entry<'_>], serial: usize) -> usize
     ensures { result ≡ stream_packaged (log_of log.now) serial }
@@ -128,6 +143,13 @@ pub fn grant_for(log: &[Entry<'_>], serial: usize) -> u128
     ensures bound { result < 2 ^ 100 }
 {
     500 + 50 * stream_sendmes(log, serial) as u128
+}
+
+/// Whether a place's window is used up.
+pub fn is_stream_shut(log: &[Entry<'_>], serial: usize) -> bool
+    ensures { result ≡ nat_le (stream_grant (log_of log.now) serial) (stream_packaged (log_of log.now) serial) }
+{
+    grant_for(log, serial) <= packed_for(log, serial) as u128
 }
 
 /// How many DATA the circuit accepted.

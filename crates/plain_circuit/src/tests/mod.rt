@@ -1,0 +1,6 @@
+//! Worked examples of one circuit.
+
+mod client;
+mod deeds;
+mod messages;
+mod windows;
