@@ -1,5 +1,5 @@
 -- The answers at the limits.
-use Rattle.std.proofs.Common.{◌≡◌, ℕ, ◌==◌, true, false, List, Option, Some, None, refl}
+use Rattle.std.proofs.Common.{◌≡◌, ℕ, ◌==◌, ◌<◌, ◌≤◌, nat_le, true, false, List, Option, Some, None, refl, arith}
 use Rattle.cell_codec.specs.declared.cell.Cell.{Cell}
 use Rattle.circuit_model.specs.Rules.{Rules}
 use Rattle.kdf_tor.specs.declared.LayerKeys.{LayerKeys}
@@ -17,7 +17,16 @@ use Rattle.switch_model.specs.Names.{circ_no}
 use Rattle.switch_model.specs.Channels.{channel_at, is_live_channel, live_channels}
 use Rattle.switch_model.specs.Legs.{at}
 use Rattle.switch_model.specs.History.{is_live}
-use Rattle.switch_model.specs.Queues.{held}
+use Rattle.switch_model.specs.Queues.{circuit_log, held}
+use Rattle.tr_io.specs.declared.answers.EdgeAnswer.TheVariants.{Shut}
+use Rattle.tr_io.specs.declared.answers.ShutWhy.{ShutWhy}
+use Rattle.tr_io.specs.declared.names.StreamKey.{StreamKey}
+use Rattle.tr_io.specs.declared.step.EventStep.{EventStep}
+use Rattle.tr_io.specs.declared.step.Octets.{Octets}
+use Rattle.circuit_model.specs.Log.{Log}
+use Rattle.circuit_model.specs.Places.{Joined}
+use Rattle.circuit_model.specs.Windows.{circuit_packaged, circuit_grant, stream_packaged, stream_grant}
+use Rattle.switch_model.specs.EdgeAnswers.{phase_of, edge_in_answer}
 use Rattle.switch_model.specs.ChannelAnswers.{channel_up_answer}
 use Rattle.switch_model.specs.CircuitAnswers.{live_circuits, is_in_use, is_peers_id, open_answer, take_answer}
 use Rattle.switch_model.specs.ClaimAnswers.{give_back_answer}
@@ -38,3 +47,23 @@ pub direction_full : (rules : Rules) (h : List Step) (chan : ℕ) (cell : Cell) 
     at h chan cell.circ ≡ Some (record { circ = c; number = 0 }) → is_live rules h c ≡ true → held rules h c Forth ≡ 1500 →
     take_answer rules h chan cell ≡ TakeAnswer.Down (circ_no c) 5
 direction_full rules h chan cell c up relay found is_open full = rw (up, relay, found, is_open, full) refl
+
+pub stream_shut : (rules : Rules) (h : List Step) (key : StreamKey) (octets : Octets) → is_live rules h key.circ.0 ≡ true →
+    phase_of (circuit_log rules h key.circ.0) key ≡ Joined →
+    stream_grant (circuit_log rules h key.circ.0) key.serial ≤ stream_packaged (circuit_log rules h key.circ.0) key.serial →
+    edge_in_answer rules h key (EventStep.Data octets) ≡ Shut ShutWhy.Stream (stream_packaged (circuit_log rules h key.circ.0) key.serial)
+stream_shut rules h key octets live joined used =
+    let l : Log = circuit_log rules h key.circ.0 in
+    let shut : nat_le (stream_grant l key.serial) (stream_packaged l key.serial) ≡ true = grind arith in
+    rw (live, joined, shut) refl
+
+pub circuit_shut : (rules : Rules) (h : List Step) (key : StreamKey) (octets : Octets) → is_live rules h key.circ.0 ≡ true →
+    phase_of (circuit_log rules h key.circ.0) key ≡ Joined →
+    stream_packaged (circuit_log rules h key.circ.0) key.serial < stream_grant (circuit_log rules h key.circ.0) key.serial →
+    circuit_grant (circuit_log rules h key.circ.0) ≤ circuit_packaged (circuit_log rules h key.circ.0) →
+    edge_in_answer rules h key (EventStep.Data octets) ≡ Shut ShutWhy.Circuit (circuit_packaged (circuit_log rules h key.circ.0))
+circuit_shut rules h key octets live joined unused used =
+    let l : Log = circuit_log rules h key.circ.0 in
+    let here : nat_le (stream_grant l key.serial) (stream_packaged l key.serial) ≡ false = grind arith in
+    let shut : nat_le (circuit_grant l) (circuit_packaged l) ≡ true = grind arith in
+    rw (live, joined, here, shut) refl

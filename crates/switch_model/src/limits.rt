@@ -1,5 +1,5 @@
 //! Laws on the answers at the limits.
-ghost use Rattle.std.specs.Prelude.{◌≡◌, ℕ, ◌==◌, List, Option, Some, None, true, false};
+ghost use Rattle.std.specs.Prelude.{◌≡◌, ℕ, ◌==◌, ◌<◌, ◌≤◌, List, Option, Some, None, true, false};
 ghost use Rattle.cell_codec.specs.declared.cell.Cell.{Cell};
 ghost use Rattle.circuit_model.specs.Rules.{Rules};
 ghost use Rattle.kdf_tor.specs.declared.LayerKeys.{LayerKeys};
@@ -17,7 +17,15 @@ ghost use Rattle.switch_model.specs.Names.{circ_no};
 ghost use Rattle.switch_model.specs.Channels.{channel_at, is_live_channel, live_channels};
 ghost use Rattle.switch_model.specs.Legs.{at};
 ghost use Rattle.switch_model.specs.History.{is_live};
-ghost use Rattle.switch_model.specs.Queues.{held};
+ghost use Rattle.switch_model.specs.Queues.{circuit_log, held};
+ghost use Rattle.tr_io.specs.declared.answers.EdgeAnswer.TheVariants.{Shut};
+ghost use Rattle.tr_io.specs.declared.answers.ShutWhy.{ShutWhy};
+ghost use Rattle.tr_io.specs.declared.names.StreamKey.{StreamKey};
+ghost use Rattle.tr_io.specs.declared.step.EventStep.{EventStep};
+ghost use Rattle.tr_io.specs.declared.step.Octets.{Octets};
+ghost use Rattle.circuit_model.specs.Places.{Joined};
+ghost use Rattle.circuit_model.specs.Windows.{circuit_packaged, circuit_grant, stream_packaged, stream_grant};
+ghost use Rattle.switch_model.specs.EdgeAnswers.{phase_of, edge_in_answer};
 ghost use Rattle.switch_model.specs.ChannelAnswers.{channel_up_answer};
 ghost use Rattle.switch_model.specs.CircuitAnswers.{live_circuits, is_in_use, is_peers_id, open_answer, take_answer};
 ghost use Rattle.switch_model.specs.ClaimAnswers.{give_back_answer};
@@ -51,4 +59,21 @@ pub fn one_cell_too_many_closes()
         is_live_channel h chan ≡ true → cell.command ≡ 3 →
         at h chan cell.circ ≡ Some (record { circ = c; number = 0 }) → is_live rules h c ≡ true →
         held rules h c Forth ≡ 1500 → take_answer rules h chan cell ≡ TakeAnswer.Down (circ_no c) 5 }
+{}
+
+/// Bytes of a joined stream are shut out where the stream's window is used up, and else where the
+/// circuit's is, with the count of DATA at which that window stands.
+#[tactic(auto, using(crate::proofs::Fullness::stream_shut, crate::proofs::Fullness::circuit_shut))]
+pub fn a_used_up_window_is_shut()
+    ensures stream { (rules : Rules) (h : List Step) (key : StreamKey) (octets : Octets) → is_live rules h key.circ.0 ≡ true →
+        phase_of (circuit_log rules h key.circ.0) key ≡ Joined →
+        stream_grant (circuit_log rules h key.circ.0) key.serial ≤ stream_packaged (circuit_log rules h key.circ.0) key.serial →
+        edge_in_answer rules h key (EventStep.Data octets)
+        ≡ Shut ShutWhy.Stream (stream_packaged (circuit_log rules h key.circ.0) key.serial) }
+    ensures circuit { (rules : Rules) (h : List Step) (key : StreamKey) (octets : Octets) → is_live rules h key.circ.0 ≡ true →
+        phase_of (circuit_log rules h key.circ.0) key ≡ Joined →
+        stream_packaged (circuit_log rules h key.circ.0) key.serial < stream_grant (circuit_log rules h key.circ.0) key.serial →
+        circuit_grant (circuit_log rules h key.circ.0) ≤ circuit_packaged (circuit_log rules h key.circ.0) →
+        edge_in_answer rules h key (EventStep.Data octets)
+        ≡ Shut ShutWhy.Circuit (circuit_packaged (circuit_log rules h key.circ.0)) }
 {}
