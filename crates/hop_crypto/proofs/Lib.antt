@@ -1,2 +1,3 @@
+mod Ahead
 mod Opening
 pub mod Working

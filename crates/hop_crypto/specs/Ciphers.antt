@@ -1,9 +1,11 @@
 -- A direction's cipher, and what it makes of bodies.
-use Rattle.std.specs.Prelude.{◌≡◌, ℕ, ◌+◌, ◌*◌, List, length, map, None}
+use Rattle.std.specs.Prelude.{◌≡◌, ℕ, ◌+◌, ◌*◌, List, length, map, Option, Some, None}
 use Rattle.tr_io.specs.declared.names.Dir.{Dir}
 use Rattle.relay_cell.specs.declared.head.Opened.{Opened}
 use Rattle.crypto_spec.specs.HopLayer.{OpeningLayer, OpenedBody, opened_all, after_opening_all, sealed_all}
-use Rattle.hop_crypto.specs.OpenerState.{opener_of}
+use Rattle.aes_ctr.specs.StreamState.{StreamState}
+use Rattle.run_digest.specs.HashState.{HashState}
+use Rattle.hop_crypto.specs.OpenerState.{place_of, opener_of}
 use Rattle.hop_crypto.specs.declared.cipher.Cipher.{Cipher}
 use Rattle.hop_crypto.specs.declared.cipher.Cipher.TheVariants.{Forth, Back}
 
@@ -16,6 +18,16 @@ direction_of (Back sealer) = Dir.Back
 abbrev pub position_of : Cipher → ℕ
 position_of (Forth opener) = opener.stream.position
 position_of (Back sealer) = sealer.position
+
+-- The key of its keystream.
+abbrev pub key_of : Cipher → List ℕ
+key_of (Forth opener) = opener.stream.key
+key_of (Back sealer) = sealer.key
+
+-- The cipher with this keystream: it opens where there is a running digest, and seals where there is none.
+abbrev pub cipher_of : StreamState → Option HashState → Cipher
+cipher_of stream (Some digest) = Forth (record { stream = place_of stream; digest = digest })
+cipher_of stream None = Back (place_of stream)
 
 -- What comes out of a cipher, as the code's type holds it.
 

@@ -1,11 +1,13 @@
 // The jobs of a crypto worker.
 
 ghost use Rattle.std.specs.Prelude.{◌≡◌, ℕ, ◌+◌, ◌*◌, ◌^◌, ◌<◌, ◌≤◌, length, IfOk, IfErr};
-ghost use Rattle.hop_crypto.specs.Ciphers.{direction_of, position_of, IsWorked};
+ghost use Rattle.crypto_spec.specs.Keystream.{keystream_part};
+ghost use Rattle.hop_crypto.specs.Ciphers.{direction_of, key_of, position_of, IsWorked};
 ghost use Rattle.hop_crypto.specs.Jobs.{IsJob, IsDone};
 
 use crate::cipher::Cipher;
 use crate::parts::{DoneParts, JobParts};
+use crate::ready::ReadyCipher;
 use cell_codec::List;
 use relay_cell::Opened;
 use std::alloc::Global;
@@ -33,11 +35,16 @@ impl Model for Job {
 }
 
 /// A job that was worked: its type keeps that output and end state are what the standard gives for
-/// start state and input. It must be spent, by `apart` or by handing it to the switch.
+/// start state and input, and that 1,024 bytes of the end state's keystream are made ahead. It must be
+/// spent, by `apart` or by handing it to the switch.
 ///
 /// Contracts see its parts.
 pub struct Done {
-    parts: DoneParts,
+    note: ClaimNote,
+    start: Cipher,
+    input: List<[u8; 509]>,
+    end: ReadyCipher,
+    output: List<Opened>,
 }
 
 impl Model for Done {
@@ -46,9 +53,9 @@ impl Model for Done {
 
     ghost Value = { DoneParts };
 
-    ghost view = { λ done. done.parts };
+    ghost view = { λ done. record { note = done.note; start = done.start; input = done.input; end = done.end; output = done.output } };
 
-    ghost invariant = { λ done. IsDone done.parts };
+    ghost invariant = { λ done. IsDone (record { note = done.note; start = done.start; input = done.input; end = done.end; output = done.output }) };
 }
 
 impl Job {
@@ -100,7 +107,15 @@ impl Done {
     pub fn note(&self) -> ClaimNote
         ensures { result ≡ self.now.note }
     {
-        self.parts.note
+        self.note
+    }
+
+    /// The keystream that is made ahead: the 1,024 bytes that the cipher behind the last body uses next.
+    pub fn ahead(&self) -> &[u8]
+        ensures next { result.now ≡ keystream_part (key_of self.now.end) (position_of self.now.end) 1024 }
+        ensures long { length result.now ≡ 1024 }
+    {
+        self.end.ahead()
     }
 
     /// The parts.
@@ -108,12 +123,24 @@ impl Done {
         ensures parts { result ≡ self }
         ensures done { IsDone result }
     {
-        let Done { parts } = self;
-        parts
+        let Done {
+            note,
+            start,
+            input,
+            end,
+            output,
+        } = self;
+        DoneParts {
+            note,
+            start,
+            input,
+            end: end.cipher(),
+            output,
+        }
     }
 }
 
-/// Lets the job's bodies go through its cipher.
+/// Lets the job's bodies go through its cipher, and makes the keystream of the bodies that follow ahead.
 pub fn work(job: Job) -> Done
     ensures note { result.note ≡ job.note }
     ensures start { result.start ≡ job.cipher }
@@ -134,12 +161,10 @@ pub fn work(job: Job) -> Done
         output.push_reserved(end.pass(body));
     }
     Done {
-        parts: DoneParts {
-            note,
-            start: cipher,
-            input: bodies,
-            end,
-            output,
-        },
+        note,
+        start: cipher,
+        input: bodies,
+        end: ReadyCipher::of(end),
+        output,
     }
 }

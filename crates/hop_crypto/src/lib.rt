@@ -4,7 +4,8 @@
 //! Forth, away from the client, an `Opener` takes the relay's layer off and tells which bodies are
 //! meant for the relay. Back, towards the client, a `Sealer` puts the layer on. A `Job` holds one
 //! direction's cipher and the bodies that wait for it; `work` makes a `Done` of it, whose type keeps
-//! that output and end state are what the standard gives for start state and input.
+//! that output and end state are what the standard gives for start state and input, and that the next
+//! 1,024 bytes of keystream are made ahead.
 //!
 //! Only `Job::of` takes memory.
 #![tactic(auto)]
@@ -13,6 +14,7 @@ mod cipher;
 mod job;
 mod opener;
 mod parts;
+mod ready;
 mod sealer;
 #[cfg(test)]
 mod tests;

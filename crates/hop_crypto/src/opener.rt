@@ -4,7 +4,7 @@ ghost use Rattle.std.specs.Prelude.{◌≡◌, ℕ, ◌+◌, ◌^◌, ◌<◌, �
 ghost use Rattle.crypto_spec.specs.RunningDigest.{running_digest};
 ghost use Rattle.crypto_spec.specs.HopLayer.{OpeningLayer, fresh_opening, is_recognised, opened, after_opening};
 ghost use Rattle.run_digest.specs.HashState.{StandsFor};
-ghost use Rattle.hop_crypto.specs.OpenerState.{opener_of};
+ghost use Rattle.hop_crypto.specs.OpenerState.{opener_of, place_of};
 
 use aes_ctr::Stream;
 use kdf_tor::LayerKeys;
@@ -53,6 +53,22 @@ impl Opener {
         let (digest, bytes) = recognise(&self.digest, body)?;
         self.digest = digest;
         Some(bytes)
+    }
+
+    // The opener with this keystream and this running digest.
+    pub(crate) fn of_parts(stream: Stream, digest: Running) -> Opener
+        ensures { result ≡ record { stream = place_of stream; digest = digest } }
+    {
+        Opener { stream, digest }
+    }
+
+    // The keystream and the running digest.
+    pub(crate) fn apart(self) -> (Stream, Running)
+        ensures stream { place_of result.0 ≡ self.stream }
+        ensures digest { result.1 ≡ self.digest }
+    {
+        let Opener { stream, digest } = self;
+        (stream, digest)
     }
 
     /// Whether the two openers agree on every list of bodies that may follow.

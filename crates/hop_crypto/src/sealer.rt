@@ -2,6 +2,7 @@
 
 ghost use Rattle.std.specs.Prelude.{◌≡◌, ◌+◌, ◌^◌, ◌<◌, ◌↔◌, IsTrue};
 ghost use Rattle.crypto_spec.specs.HopLayer.{layered};
+ghost use Rattle.hop_crypto.specs.OpenerState.{place_of};
 
 use aes_ctr::Stream;
 use kdf_tor::LayerKeys;
@@ -41,6 +42,21 @@ impl Sealer {
         ensures state { self.new ≡ record self.old { position = self.old.position + 509 } }
     {
         self.stream.apply(body);
+    }
+
+    // The sealer with this keystream.
+    pub(crate) fn of_stream(stream: Stream) -> Sealer
+        ensures { result ≡ place_of stream }
+    {
+        Sealer { stream }
+    }
+
+    // The keystream.
+    pub(crate) fn stream(self) -> Stream
+        ensures { place_of result ≡ self }
+    {
+        let Sealer { stream } = self;
+        stream
     }
 
     /// Whether the two sealers agree on every list of bodies that may follow.

@@ -1,11 +1,13 @@
 ghost use Rattle.std.specs.Prelude.{◌≡◌, ◌+◌, ◌^◌, ◌<◌};
+ghost use Rattle.hop_crypto.specs.Ciphers.{direction_of, position_of};
 
-use crate::{Cipher, Job, Opener, Sealer, work};
+use crate::{Cipher, Done, DoneParts, Job, Opener, Sealer, work};
 use aes_ctr::Stream;
 use cell_codec::List;
 use kdf_tor::LayerKeys;
 use relay_cell::Opened;
 use run_digest::Running;
+use std::alloc::Global;
 use std::test::Fail;
 use tr_io::names::{CircNo, ClaimNote, Dir};
 
@@ -96,5 +98,75 @@ fn job_back(rt: HostRuntime) -> Result<(), Fail> {
     }];
     assert_eq!(rt; parts.output.as_slice(), expected.as_slice());
     assert_eq!(rt; parts.input.as_slice(), [[6; 509]].as_slice());
+    Ok(())
+}
+
+// A job of one body, done.
+fn one_done(alloc: Global, dir: Dir, cipher: Cipher) -> Result<Done, Fail>
+    requires direction { dir ≡ direction_of cipher }
+    requires position { position_of cipher ≡ 0 }
+{
+    let mut note = NOTE;
+    note.dir = dir;
+    note.count = 1;
+    let mut bodies = List::new(alloc);
+    bodies.push([6; 509])?;
+    let job = Job::of(alloc, note, cipher, bodies);
+    Ok(work(job.ok().ok_or("no memory")?))
+}
+
+// The keystream of the second and the third body.
+fn keystream_behind_one(key: &[u8; 16]) -> ([u8; 509], [u8; 509]) {
+    let mut stream = Stream::of(key);
+    let _first = sealed(&mut stream, [0; 509]);
+    let second = sealed(&mut stream, [0; 509]);
+    (second, sealed(&mut stream, [0; 509]))
+}
+
+#[test]
+fn opener_goes_on_with_what_is_made_ahead(rt: HostRuntime) -> Result<(), Fail> {
+    let done = one_done(rt.alloc(), Dir::Forth, Cipher::Forth(Opener::of(&KEYS)))?;
+    let (second, third) = keystream_behind_one(&KEYS.kf);
+    assert_eq!(rt; done.ahead().len(), 1024);
+    assert_eq!(rt; &done.ahead()[..509], second.as_slice());
+    assert_eq!(rt; &done.ahead()[509..1018], third.as_slice());
+
+    let DoneParts { end, .. } = done.apart();
+    let Cipher::Forth(mut opener) = end else {
+        return Err("the cipher has turned".into());
+    };
+    let mut other = Opener::of(&KEYS);
+    other.take_off(&mut [6; 509]);
+    assert!(rt; opener.same(&other));
+    let mut body = [0; 509];
+    assert_eq!(rt; opener.take_off(&mut body), None);
+    assert_eq!(rt; body, second);
+    let mut body = [0; 509];
+    assert_eq!(rt; opener.take_off(&mut body), None);
+    assert_eq!(rt; body, third);
+    Ok(())
+}
+
+#[test]
+fn sealer_goes_on_with_what_is_made_ahead(rt: HostRuntime) -> Result<(), Fail> {
+    let done = one_done(rt.alloc(), Dir::Back, Cipher::Back(Sealer::of(&KEYS)))?;
+    let (second, third) = keystream_behind_one(&KEYS.kb);
+    assert_eq!(rt; done.ahead().len(), 1024);
+    assert_eq!(rt; &done.ahead()[..509], second.as_slice());
+    assert_eq!(rt; &done.ahead()[509..1018], third.as_slice());
+
+    let DoneParts { end, .. } = done.apart();
+    let Cipher::Back(mut sealer) = end else {
+        return Err("the cipher has turned".into());
+    };
+    let mut other = Sealer::of(&KEYS);
+    other.put_on(&mut [6; 509]);
+    assert!(rt; sealer.same(&other));
+    let mut body = [0; 509];
+    sealer.put_on(&mut body);
+    assert_eq!(rt; body, second);
+    let mut body = [0; 509];
+    sealer.put_on(&mut body);
+    assert_eq!(rt; body, third);
     Ok(())
 }

@@ -1,4 +1,4 @@
-use Rattle.std.proofs.Common.{length, take, arith, ap, subst, [], ◌∷◌}
+use Rattle.std.proofs.Common.{length, take, arith, ap, subst, sym, [], ◌∷◌}
 use Rattle.std.proofs.lemmas.List.{take_all, take_more}
 use Rattle.hop_crypto.specs.Ciphers.{IsWorked}
 use Rattle.hop_crypto.specs.declared.parts.JobParts.{JobParts}
@@ -35,14 +35,18 @@ loop-body-preserved c =
 
 pub invariant_of-result : goal.invariant_of-result
 invariant_of-result c =
+    let parts = c.job.inside.parts in
     let all = take_all c.loop-body.body-index c.as_slice-body-items.result.now c.loop-body-test.false in
     record {
       job = c.job.invariant.job;
-      worked = rw (all, c.as_slice-body-items.ensures) at c.loop-body.invariant.worked;
+      worked = subst (IsWorked parts.cipher parts.bodies.items c.loop-body.output.items) (sym c.of.ensures)
+          (rw (all, c.as_slice-body-items.ensures) at c.loop-body.invariant.worked);
     }
 
 pub returns-clause-worked : goal.returns-clause-worked
 returns-clause-worked c =
     let all = take_all c.loop-body.body-index c.as_slice-body-items.result.now c.loop-body-test.false in
     let P : JobParts → Type 0 = λ job. IsWorked job.cipher job.bodies.items c.loop-body.output.items c.loop-body.end in
-    subst P c.job.view_is (rw (all, c.as_slice-body-items.ensures) at c.loop-body.invariant.worked)
+    let job = c.args.job in
+    subst (IsWorked job.cipher job.bodies.items c.loop-body.output.items) (sym c.of.ensures)
+    (subst P c.job.view_is (rw (all, c.as_slice-body-items.ensures) at c.loop-body.invariant.worked))
