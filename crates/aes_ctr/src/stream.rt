@@ -4,29 +4,32 @@ ghost use Rattle.std.specs.Prelude.{◌≡◌, ◌+◌, ◌^◌, ◌<◌, ◌≤
 ghost use Rattle.std.specs.Simd.Lanes.{zip2};
 ghost use Rattle.crypto_spec.specs.Keystream.{keystream_part};
 
-use crate::pad::{make, xor};
+use crate::pad::{fill, move_down, xor};
 use aes_block::Schedule;
 use std::marker::Model;
 
 /// One direction's keystream and the number of its next byte. A stream begins at byte 0. Up to 1,024
 /// bytes from there on are made ahead.
+///
+/// Keystream is made by groups of eight blocks, and none of it twice. So the store has room for a group
+/// that is begun by those 1,024 bytes and ends behind them.
 #[derive(Drop)]
 pub struct Stream {
     schedule: Schedule,
     position: u128,
-    store: [u8; 1024],
+    store: [u8; 1152],
     used: usize,
+    ready: usize,
 }
 
 impl Model for Stream {
-    ghost use Rattle.std.specs.Prelude.{◌-◌};
     ghost use Rattle.aes_ctr.specs.StreamState.{StreamState, IsStore};
 
     ghost Value = { StreamState };
 
-    ghost view = { λ s. record { key = s.schedule; position = s.position; ready = 1024 - s.used } };
+    ghost view = { λ s. record { key = s.schedule; position = s.position; ready = s.ready } };
 
-    ghost invariant = { λ s. IsStore s.schedule s.position s.store s.used };
+    ghost invariant = { λ s. IsStore s.schedule s.position s.store s.used s.ready };
 }
 
 impl Stream {
@@ -39,8 +42,9 @@ impl Stream {
         Stream {
             schedule: Schedule::of(key),
             position: 0,
-            store: [0; 1024],
-            used: 1024,
+            store: [0; 1152],
+            used: 1152,
+            ready: 0,
         }
     }
 
@@ -65,16 +69,18 @@ impl Stream {
         ensures position { self.new.position ≡ self.old.position }
         ensures full { self.new.ready ≡ 1024 }
     {
-        let kept = 1024 - self.used;
-        let mut store = [0; 1024];
-        store[..kept].copy_from_slice(&self.store[self.used..]);
-        make(
-            &mut store[kept..],
-            &self.schedule,
-            self.position + kept as u128,
-        );
-        self.store = store;
-        self.used = 0;
+        let made = 1152 - self.used;
+        if made < 1024 {
+            let more = (1151 - made) / 128 * 128;
+            move_down(&mut self.store, more);
+            fill(
+                &mut self.store[1152 - more..],
+                &self.schedule,
+                (self.position + made as u128) / 16,
+            );
+            self.used -= more;
+        }
+        self.ready = 1024;
     }
 
     /// The bytes of keystream that are made, from the next byte on: at most 1,024.
@@ -82,7 +88,7 @@ impl Stream {
         ensures next { result.now ≡ keystream_part self.now.key self.now.position self.now.ready }
         ensures within { self.now.ready ≤ 1024 }
     {
-        &self.store[self.used..]
+        &self.store[self.used..self.used + self.ready]
     }
 
     /// The number of the next byte of keystream; the stream's first is 0.
@@ -108,6 +114,7 @@ impl Stream {
             position: self.position,
             store: self.store,
             used: self.used,
+            ready: self.ready,
         }
     }
 
@@ -118,7 +125,7 @@ impl Stream {
         ensures enough { 509 ≤ self.old.ready → self.new.ready ≡ self.old.ready }
         ensures short { self.old.ready < 509 → self.new.ready ≡ 1024 }
     {
-        if self.used > 515 {
+        if self.ready < 509 {
             self.ahead();
         }
     }
@@ -133,6 +140,7 @@ impl Stream {
     {
         xor(body, &self.store[self.used..self.used + 509]);
         self.used += 509;
+        self.ready -= 509;
         self.position += 509;
     }
 }

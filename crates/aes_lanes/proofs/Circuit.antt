@@ -1,17 +1,16 @@
 -- The circuit of SubBytes as data, run on bits and on vectors.
-use Rattle.std.proofs.Common.{◌≡◌, ℕ, zero, suc, ◌+◌, ◌%◌, ◌<◌, min, List, [], ◌∷◌, get_or, map, replicate, refl, ap, lit<}
+use Rattle.std.proofs.Common.{◌≡◌, ℕ, zero, suc, ◌+◌, ◌%◌, ◌<◌, min, List, [], ◌∷◌, get_or, map, refl, ap, lit<}
 use Rattle.std.specs.Prelude.{bit_xor, bit_and}
 use Rattle.std.specs.Int.{bit_at}
 use Rattle.std.specs.List.{range_with_len}
 use Rattle.std.specs.Simd.Lanes.{zip2}
-use Rattle.std.proofs.lemmas.Nat.Bits.{bit_at_ones}
 use Rattle.crypto_spec.specs.Aes.{times_bits, times, inverse_from, inverse, sub_byte}
 use Rattle.aes_lanes.specs.Bits.{IsBit}
 use Rattle.aes_lanes.specs.Sliced.{IsByte}
 use Rattle.aes_lanes.specs.declared.planes.Planes.{Planes}
 use Rattle.aes_lanes.proofs.Bytes.{bits_of}
 use Rattle.aes_lanes.proofs.Eight.{at_each_byte}
-use Rattle.aes_lanes.proofs.Lanes.{IsLane-splat, IsBit-lane, IsBit-xor, IsBit-and, IsBit-value}
+use Rattle.aes_lanes.proofs.Lanes.{IsBit-xor, IsBit-and, IsBit-value}
 
 -- a gate takes two wires; wire 0 is the newest
 pub data Gate : Type 0 where
@@ -58,108 +57,98 @@ after_run i b (and_of m n ∷ gates) xs vs x v d e =
 -- the gates in the order of the code
 abbrev pub gates : List Gate
 gates =
-    xor_of 5 3 ∷ xor_of 9 3 ∷ xor_of 10 7 ∷ xor_of 11 6 ∷ xor_of 11 10 ∷ xor_of 0 6 ∷ xor_of 0 11 ∷
-    xor_of 5 6 ∷ xor_of 2 16 ∷ xor_of 3 11 ∷ xor_of 0 6 ∷ xor_of 15 3 ∷ xor_of 0 15 ∷ xor_of 1 20 ∷
-    xor_of 1 15 ∷ xor_of 2 10 ∷ xor_of 2 13 ∷ xor_of 18 0 ∷ xor_of 2 1 ∷ xor_of 3 15 ∷ xor_of 15 3 ∷
-    xor_of 19 0 ∷ xor_of 30 1 ∷ and_of 15 10 ∷ and_of 13 9 ∷ xor_of 0 1 ∷ and_of 19 27 ∷
-    xor_of 0 3 ∷ and_of 26 7 ∷ and_of 19 23 ∷ xor_of 0 1 ∷ and_of 22 13 ∷ xor_of 0 3 ∷
-    and_of 30 16 ∷ and_of 33 15 ∷ xor_of 0 1 ∷ and_of 32 20 ∷ xor_of 0 3 ∷ xor_of 12 2 ∷
-    xor_of 11 1 ∷ xor_of 9 4 ∷ xor_of 8 3 ∷ xor_of 3 28 ∷ xor_of 3 23 ∷ xor_of 3 22 ∷ xor_of 3 22 ∷
-    xor_of 3 2 ∷ and_of 4 2 ∷ xor_of 2 0 ∷ and_of 2 0 ∷ xor_of 0 6 ∷ xor_of 6 5 ∷ xor_of 8 4 ∷
-    and_of 0 1 ∷ xor_of 0 8 ∷ xor_of 10 0 ∷ xor_of 7 1 ∷ and_of 11 0 ∷ xor_of 0 2 ∷ xor_of 10 1 ∷
-    and_of 9 0 ∷ xor_of 14 0 ∷ xor_of 0 3 ∷ xor_of 12 8 ∷ xor_of 13 2 ∷ xor_of 10 6 ∷ xor_of 2 3 ∷
-    and_of 1 54 ∷ and_of 9 53 ∷ and_of 14 70 ∷ and_of 5 49 ∷ and_of 9 65 ∷ and_of 21 54 ∷
-    and_of 9 56 ∷ and_of 7 55 ∷ and_of 12 59 ∷ and_of 10 68 ∷ and_of 18 66 ∷ and_of 23 71 ∷
-    and_of 14 77 ∷ and_of 18 70 ∷ and_of 30 72 ∷ and_of 18 79 ∷ and_of 16 82 ∷ and_of 21 80 ∷
-    xor_of 2 1 ∷ xor_of 8 7 ∷ xor_of 14 6 ∷ xor_of 11 10 ∷ xor_of 19 9 ∷ xor_of 20 17 ∷
-    xor_of 16 15 ∷ xor_of 24 21 ∷ xor_of 19 18 ∷ xor_of 10 9 ∷ xor_of 15 7 ∷ xor_of 6 3 ∷
-    xor_of 25 11 ∷ xor_of 27 4 ∷ xor_of 13 2 ∷ xor_of 18 3 ∷ xor_of 9 3 ∷ xor_of 13 4 ∷
-    xor_of 31 4 ∷ xor_of 3 2 ∷ xor_of 36 2 ∷ xor_of 7 3 ∷ xor_of 11 5 ∷ xor_of 20 8 ∷ xor_of 5 4 ∷
-    xor_of 17 4 ∷ xor_of 20 5 ∷ xor_of 25 7 ∷ xor_of 9 2 ∷ xor_of 19 4 ∷ xor_of 6 115 ∷
-    xor_of 8 116 ∷ xor_of 2 117 ∷ xor_of 4 118 ∷ []
-
-abbrev pub ones : List ℕ
-ones = replicate 16 255
+    xor_of 6 5 ∷ xor_of 8 2 ∷ xor_of 9 6 ∷ xor_of 7 5 ∷ xor_of 0 2 ∷ xor_of 8 0 ∷ xor_of 5 6 ∷ xor_of 8 0 ∷
+    xor_of 15 10 ∷ xor_of 3 15 ∷ xor_of 0 7 ∷ xor_of 0 11 ∷ xor_of 14 6 ∷ xor_of 0 13 ∷ and_of 6 7 ∷
+    xor_of 6 7 ∷ xor_of 15 5 ∷ and_of 4 12 ∷ xor_of 11 22 ∷ and_of 17 2 ∷ xor_of 27 13 ∷ xor_of 6 1 ∷
+    xor_of 9 21 ∷ xor_of 6 21 ∷ and_of 3 12 ∷ xor_of 2 16 ∷ and_of 3 17 ∷ xor_of 16 4 ∷ and_of 17 25 ∷
+    and_of 1 25 ∷ xor_of 1 3 ∷ and_of 17 15 ∷ and_of 32 13 ∷ xor_of 3 4 ∷ xor_of 9 14 ∷ xor_of 3 17 ∷
+    xor_of 3 18 ∷ xor_of 6 0 ∷ xor_of 3 7 ∷ xor_of 5 3 ∷ xor_of 30 0 ∷ xor_of 3 15 ∷ xor_of 20 8 ∷
+    xor_of 1 2 ∷ xor_of 51 27 ∷ xor_of 2 21 ∷ and_of 5 0 ∷ xor_of 2 8 ∷ xor_of 6 1 ∷ xor_of 3 1 ∷
+    xor_of 2 3 ∷ and_of 2 1 ∷ xor_of 0 4 ∷ and_of 9 2 ∷ xor_of 3 1 ∷ and_of 0 7 ∷ xor_of 0 5 ∷
+    xor_of 3 15 ∷ xor_of 5 0 ∷ and_of 40 6 ∷ xor_of 14 7 ∷ and_of 3 4 ∷ xor_of 0 18 ∷ xor_of 2 7 ∷
+    xor_of 0 1 ∷ and_of 2 57 ∷ and_of 54 8 ∷ and_of 53 3 ∷ xor_of 15 4 ∷ and_of 4 46 ∷ xor_of 5 11 ∷
+    xor_of 13 8 ∷ and_of 59 3 ∷ and_of 73 20 ∷ and_of 15 63 ∷ and_of 66 10 ∷ and_of 4 59 ∷ and_of 5 75 ∷
+    and_of 74 7 ∷ and_of 8 51 ∷ xor_of 10 0 ∷ xor_of 6 1 ∷ and_of 79 23 ∷ xor_of 5 9 ∷ xor_of 1 5 ∷
+    and_of 22 78 ∷ and_of 17 81 ∷ xor_of 10 5 ∷ xor_of 3 2 ∷ and_of 73 25 ∷ xor_of 2 4 ∷ xor_of 2 10 ∷
+    xor_of 26 25 ∷ xor_of 20 16 ∷ xor_of 7 4 ∷ xor_of 0 6 ∷ xor_of 0 8 ∷ xor_of 3 13 ∷ xor_of 20 5 ∷
+    xor_of 9 39 ∷ xor_of 15 2 ∷ and_of 80 43 ∷ xor_of 23 26 ∷ xor_of 36 29 ∷ xor_of 2 6 ∷ xor_of 12 4 ∷
+    xor_of 38 10 ∷ xor_of 15 2 ∷ xor_of 8 0 ∷ xor_of 15 2 ∷ xor_of 11 18 ∷ xor_of 20 1 ∷ xor_of 21 4 ∷
+    xor_of 10 0 ∷ xor_of 7 10 ∷ []
 
 -- the wires at the start
 abbrev pub planes_in : Planes → List (List ℕ)
-planes_in x = ones ∷ x.bit0 ∷ x.bit1 ∷ x.bit2 ∷ x.bit3 ∷ x.bit4 ∷ x.bit5 ∷ x.bit6 ∷ x.bit7 ∷ []
+planes_in x = x.bit0 ∷ x.bit1 ∷ x.bit2 ∷ x.bit3 ∷ x.bit4 ∷ x.bit5 ∷ x.bit6 ∷ x.bit7 ∷ []
 
-abbrev bits_in : ℕ → List ℕ
-bits_in v = 1 ∷ bits_of v
+-- what the circuit makes of a byte: SubBytes without the constant of the affine map
+abbrev pub circuit_byte : ℕ → ℕ
+circuit_byte v = bit_xor (sub_byte v) 0x63
 
 -- the wires that carry the result, its lowest bit first
 abbrev pub results : {A : Type 0} → A → List A → List A
 results none wires =
-    get_or wires 3 none ∷ get_or wires 2 none ∷ get_or wires 6 none ∷ get_or wires 7 none
-    ∷ get_or wires 8 none ∷ get_or wires 1 none ∷ get_or wires 0 none ∷ get_or wires 12 none ∷ []
+    get_or wires 9 none ∷ get_or wires 4 none ∷ get_or wires 6 none ∷ get_or wires 0 none
+    ∷ get_or wires 5 none ∷ get_or wires 1 none ∷ get_or wires 3 none ∷ get_or wires 18 none ∷ []
 
-bits_everywhere : map (λ v. results 1 (run xor_bits min 1 gates (bits_in v))) (range_with_len 0 256) ≡ map (λ v. bits_of (sub_byte v)) (range_with_len 0 256)
+bits_everywhere : map (λ v. results (bit_at v 0) (run xor_bits min (bit_at v 0) gates (bits_of v))) (range_with_len 0 256) ≡ map (λ v. bits_of (circuit_byte v)) (range_with_len 0 256)
 unfolding run times_bits times inverse_from inverse sub_byte
 bits_everywhere = refl
 
-result_bit : (v p : ℕ) → v < 256 → get_or (results 1 (run xor_bits min 1 gates (bits_in v))) p 1 ≡ get_or (bits_of (sub_byte v)) p 1
+result_bit : (v p : ℕ) → v < 256 → get_or (results (bit_at v 0) (run xor_bits min (bit_at v 0) gates (bits_of v))) p (bit_at v 0) ≡ get_or (bits_of (circuit_byte v)) p (bit_at v 0)
 result_bit v p h =
-    ap (λ (bits : List ℕ). get_or bits p 1)
-    (at_each_byte (λ v. results 1 (run xor_bits min 1 gates (bits_in v))) (λ v. bits_of (sub_byte v)) bits_everywhere v h)
+    ap (λ (bits : List ℕ). get_or bits p (bit_at v 0))
+    (at_each_byte (λ v. results (bit_at v 0) (run xor_bits min (bit_at v 0) gates (bits_of v))) (λ v. bits_of (circuit_byte v)) bits_everywhere v h)
 
-IsBit-ones : (i b : ℕ) → i < 16 → b < 8 → IsBit ones i b 1
-IsBit-ones i b h l = IsBit-lane b 1 (IsLane-splat i 255 h) (bit_at_ones 8 b l)
-
-planes_agree : (x : Planes) (i b v : ℕ) → i < 16 → b < 8 → IsByte x i b v → Agree i b (planes_in x) (bits_in v)
+planes_agree : (x : Planes) (i b v : ℕ) → IsByte x i b v → Agree i b (planes_in x) (bits_of v)
 unfolding Agree
-planes_agree x i b v h l e = (
-  IsBit-ones i b h l,
+planes_agree x i b v e = (
+  e.bits 0 (lit< tt),
   (
-    e.bits 0 (lit< tt),
+    e.bits 1 (lit< tt),
     (
-      e.bits 1 (lit< tt),
+      e.bits 2 (lit< tt),
       (
-        e.bits 2 (lit< tt),
-        (
-          e.bits 3 (lit< tt),
-          (e.bits 4 (lit< tt), (e.bits 5 (lit< tt), (e.bits 6 (lit< tt), (e.bits 7 (lit< tt), tt)))),
-        ),
+        e.bits 3 (lit< tt),
+        (e.bits 4 (lit< tt), (e.bits 5 (lit< tt), (e.bits 6 (lit< tt), (e.bits 7 (lit< tt), tt)))),
       ),
     ),
   ),
 )
 
--- a result wire of the circuit on planes
-wire_out : (x : Planes) (i b v m : ℕ) → i < 16 → b < 8 → IsByte x i b v →
-    IsBit (get_or (run (zip2 bit_xor) (zip2 bit_and) ones gates (planes_in x)) m ones) i b (get_or (run xor_bits min 1 gates (bits_in v)) m 1)
-wire_out x i b v m h l e =
-    at_wire i b (run (zip2 bit_xor) (zip2 bit_and) ones gates (planes_in x)) (run xor_bits min 1 gates (bits_in v)) ones 1 m (IsBit-ones i b h l)
-    (after_run i b gates (planes_in x) (bits_in v) ones 1 (IsBit-ones i b h l) (planes_agree x i b v h l e))
+-- a wire of the circuit on planes
+wire_out : (x : Planes) (i b v m : ℕ) → IsByte x i b v →
+    IsBit (get_or (run (zip2 bit_xor) (zip2 bit_and) x.bit0 gates (planes_in x)) m x.bit0) i b (get_or (run xor_bits min (bit_at v 0) gates (bits_of v)) m (bit_at v 0))
+wire_out x i b v m e =
+    at_wire i b (run (zip2 bit_xor) (zip2 bit_and) x.bit0 gates (planes_in x)) (run xor_bits min (bit_at v 0) gates (bits_of v)) x.bit0 (bit_at v 0) m (e.bits 0 (lit< tt))
+    (after_run i b gates (planes_in x) (bits_of v) x.bit0 (bit_at v 0) (e.bits 0 (lit< tt)) (planes_agree x i b v e))
 
-pub substituted_bit0 : (x : Planes) (i b v : ℕ) → i < 16 → b < 8 → v < 256 → IsByte x i b v →
-    IsBit (get_or (run (zip2 bit_xor) (zip2 bit_and) ones gates (planes_in x)) 3 ones) i b (bit_at (sub_byte v) 0)
-substituted_bit0 x i b v h l s e = IsBit-value (wire_out x i b v 3 h l e) (result_bit v 0 s)
+pub substituted_bit0 : (x : Planes) (i b v : ℕ) → v < 256 → IsByte x i b v →
+    IsBit (get_or (run (zip2 bit_xor) (zip2 bit_and) x.bit0 gates (planes_in x)) 9 x.bit0) i b (bit_at (circuit_byte v) 0)
+substituted_bit0 x i b v s e = IsBit-value (wire_out x i b v 9 e) (result_bit v 0 s)
 
-pub substituted_bit1 : (x : Planes) (i b v : ℕ) → i < 16 → b < 8 → v < 256 → IsByte x i b v →
-    IsBit (get_or (run (zip2 bit_xor) (zip2 bit_and) ones gates (planes_in x)) 2 ones) i b (bit_at (sub_byte v) 1)
-substituted_bit1 x i b v h l s e = IsBit-value (wire_out x i b v 2 h l e) (result_bit v 1 s)
+pub substituted_bit1 : (x : Planes) (i b v : ℕ) → v < 256 → IsByte x i b v →
+    IsBit (get_or (run (zip2 bit_xor) (zip2 bit_and) x.bit0 gates (planes_in x)) 4 x.bit0) i b (bit_at (circuit_byte v) 1)
+substituted_bit1 x i b v s e = IsBit-value (wire_out x i b v 4 e) (result_bit v 1 s)
 
-pub substituted_bit2 : (x : Planes) (i b v : ℕ) → i < 16 → b < 8 → v < 256 → IsByte x i b v →
-    IsBit (get_or (run (zip2 bit_xor) (zip2 bit_and) ones gates (planes_in x)) 6 ones) i b (bit_at (sub_byte v) 2)
-substituted_bit2 x i b v h l s e = IsBit-value (wire_out x i b v 6 h l e) (result_bit v 2 s)
+pub substituted_bit2 : (x : Planes) (i b v : ℕ) → v < 256 → IsByte x i b v →
+    IsBit (get_or (run (zip2 bit_xor) (zip2 bit_and) x.bit0 gates (planes_in x)) 6 x.bit0) i b (bit_at (circuit_byte v) 2)
+substituted_bit2 x i b v s e = IsBit-value (wire_out x i b v 6 e) (result_bit v 2 s)
 
-pub substituted_bit3 : (x : Planes) (i b v : ℕ) → i < 16 → b < 8 → v < 256 → IsByte x i b v →
-    IsBit (get_or (run (zip2 bit_xor) (zip2 bit_and) ones gates (planes_in x)) 7 ones) i b (bit_at (sub_byte v) 3)
-substituted_bit3 x i b v h l s e = IsBit-value (wire_out x i b v 7 h l e) (result_bit v 3 s)
+pub substituted_bit3 : (x : Planes) (i b v : ℕ) → v < 256 → IsByte x i b v →
+    IsBit (get_or (run (zip2 bit_xor) (zip2 bit_and) x.bit0 gates (planes_in x)) 0 x.bit0) i b (bit_at (circuit_byte v) 3)
+substituted_bit3 x i b v s e = IsBit-value (wire_out x i b v 0 e) (result_bit v 3 s)
 
-pub substituted_bit4 : (x : Planes) (i b v : ℕ) → i < 16 → b < 8 → v < 256 → IsByte x i b v →
-    IsBit (get_or (run (zip2 bit_xor) (zip2 bit_and) ones gates (planes_in x)) 8 ones) i b (bit_at (sub_byte v) 4)
-substituted_bit4 x i b v h l s e = IsBit-value (wire_out x i b v 8 h l e) (result_bit v 4 s)
+pub substituted_bit4 : (x : Planes) (i b v : ℕ) → v < 256 → IsByte x i b v →
+    IsBit (get_or (run (zip2 bit_xor) (zip2 bit_and) x.bit0 gates (planes_in x)) 5 x.bit0) i b (bit_at (circuit_byte v) 4)
+substituted_bit4 x i b v s e = IsBit-value (wire_out x i b v 5 e) (result_bit v 4 s)
 
-pub substituted_bit5 : (x : Planes) (i b v : ℕ) → i < 16 → b < 8 → v < 256 → IsByte x i b v →
-    IsBit (get_or (run (zip2 bit_xor) (zip2 bit_and) ones gates (planes_in x)) 1 ones) i b (bit_at (sub_byte v) 5)
-substituted_bit5 x i b v h l s e = IsBit-value (wire_out x i b v 1 h l e) (result_bit v 5 s)
+pub substituted_bit5 : (x : Planes) (i b v : ℕ) → v < 256 → IsByte x i b v →
+    IsBit (get_or (run (zip2 bit_xor) (zip2 bit_and) x.bit0 gates (planes_in x)) 1 x.bit0) i b (bit_at (circuit_byte v) 5)
+substituted_bit5 x i b v s e = IsBit-value (wire_out x i b v 1 e) (result_bit v 5 s)
 
-pub substituted_bit6 : (x : Planes) (i b v : ℕ) → i < 16 → b < 8 → v < 256 → IsByte x i b v →
-    IsBit (get_or (run (zip2 bit_xor) (zip2 bit_and) ones gates (planes_in x)) 0 ones) i b (bit_at (sub_byte v) 6)
-substituted_bit6 x i b v h l s e = IsBit-value (wire_out x i b v 0 h l e) (result_bit v 6 s)
+pub substituted_bit6 : (x : Planes) (i b v : ℕ) → v < 256 → IsByte x i b v →
+    IsBit (get_or (run (zip2 bit_xor) (zip2 bit_and) x.bit0 gates (planes_in x)) 3 x.bit0) i b (bit_at (circuit_byte v) 6)
+substituted_bit6 x i b v s e = IsBit-value (wire_out x i b v 3 e) (result_bit v 6 s)
 
-pub substituted_bit7 : (x : Planes) (i b v : ℕ) → i < 16 → b < 8 → v < 256 → IsByte x i b v →
-    IsBit (get_or (run (zip2 bit_xor) (zip2 bit_and) ones gates (planes_in x)) 12 ones) i b (bit_at (sub_byte v) 7)
-substituted_bit7 x i b v h l s e = IsBit-value (wire_out x i b v 12 h l e) (result_bit v 7 s)
+pub substituted_bit7 : (x : Planes) (i b v : ℕ) → v < 256 → IsByte x i b v →
+    IsBit (get_or (run (zip2 bit_xor) (zip2 bit_and) x.bit0 gates (planes_in x)) 18 x.bit0) i b (bit_at (circuit_byte v) 7)
+substituted_bit7 x i b v s e = IsBit-value (wire_out x i b v 18 e) (result_bit v 7 s)

@@ -27,6 +27,11 @@ below_sixteen P a b c d e f g h a' b' c' d' e' f' g' h' (suc (suc (suc (suc (suc
 below_sixteen P a b c d e f g h a' b' c' d' e' f' g' h' (suc (suc (suc (suc (suc (suc (suc (suc n)))))))) l =
     below_eight (λ j. P (suc (suc (suc (suc (suc (suc (suc (suc j))))))))) a' b' c' d' e' f' g' h' n (omega arith)
 
+pub below_ten : (P : ℕ → Type 0) → P 0 → P 1 → P 2 → P 3 → P 4 → P 5 → P 6 → P 7 → P 8 → P 9 → (k : ℕ) → k < 10 → P k
+below_ten P a b c d e f g h i j zero l = a
+below_ten P a b c d e f g h i j (suc zero) l = b
+below_ten P a b c d e f g h i j (suc (suc n)) l = below_eight (λ m. P (suc (suc m))) c d e f g h i j n (omega arith)
+
 pub below_two : (P : ℕ → Type 0) → P 0 → P 1 → (k : ℕ) → k < 2 → P k
 below_two P a b zero l = a
 below_two P a b (suc zero) l = b

@@ -1,11 +1,15 @@
+pub mod BlockRows
 pub mod Bytes
 pub mod Circuit
 pub mod Eight
 pub mod Exchanges
-pub mod Keys
+pub mod KeyPlanes
+pub mod LaneKeyPlanes
+pub mod LanePlaces
 pub mod Lanes
 pub mod Layers
+pub mod Masks
 pub mod MixColumns
-pub mod Rows
+pub mod Numbers
 pub mod Shuffles
 pub mod States

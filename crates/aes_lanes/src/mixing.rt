@@ -1,29 +1,29 @@
-// ShiftRows and MixColumns on planes (FIPS 197, 5.1.2 and 5.1.3).
+// ShiftRows and MixColumns on planes (FIPS 197, 5.1.2 and 5.1.3). A row of the state is four lanes side by side.
 
 ghost use Rattle.std.specs.Prelude.{ℕ, ◌<◌, bit_xor};
 ghost use Rattle.crypto_spec.specs.Aes.{times};
 ghost use Rattle.aes_lanes.specs.Bits.{IsBit};
-ghost use Rattle.aes_lanes.specs.Places.{moved_to, row_below, two_rows_below};
+ghost use Rattle.aes_lanes.specs.Places.{shifted_lane, next_row, second_row};
 
 use crate::planes::Planes;
 use std::simd::prelude::*;
 
 fn shifted(x: u8x16) -> u8x16
-    ensures { (i b v : ℕ) → i < 16 → IsBit x (moved_to i) b v → IsBit result i b v }
+    ensures { (l b v : ℕ) → l < 16 → IsBit x (shifted_lane l) b v → IsBit result l b v }
 {
-    x.swizzle([0, 5, 10, 15, 4, 9, 14, 3, 8, 13, 2, 7, 12, 1, 6, 11])
+    x.swizzle([0, 1, 2, 3, 5, 6, 7, 4, 10, 11, 8, 9, 15, 12, 13, 14])
 }
 
 fn turned_once(x: u8x16) -> u8x16
-    ensures { (i b v : ℕ) → i < 16 → IsBit x (row_below i) b v → IsBit result i b v }
+    ensures { (l b v : ℕ) → l < 16 → IsBit x (next_row l) b v → IsBit result l b v }
 {
-    x.swizzle([1, 2, 3, 0, 5, 6, 7, 4, 9, 10, 11, 8, 13, 14, 15, 12])
+    x.swizzle([4, 5, 6, 7, 8, 9, 10, 11, 12, 13, 14, 15, 0, 1, 2, 3])
 }
 
 fn turned_twice(x: u8x16) -> u8x16
-    ensures { (i b v : ℕ) → i < 16 → IsBit x (two_rows_below i) b v → IsBit result i b v }
+    ensures { (l b v : ℕ) → l < 16 → IsBit x (second_row l) b v → IsBit result l b v }
 {
-    x.swizzle([2, 3, 0, 1, 6, 7, 4, 5, 10, 11, 8, 9, 14, 15, 12, 13])
+    x.swizzle([8, 9, 10, 11, 12, 13, 14, 15, 0, 1, 2, 3, 4, 5, 6, 7])
 }
 
 impl Planes {
@@ -31,7 +31,7 @@ impl Planes {
 
     /// ShiftRows (5.1.2).
     pub fn rows_shifted(self) -> Planes
-        ensures { (i b v : ℕ) → i < 16 → IsByte self (moved_to i) b v → IsByte result i b v }
+        ensures { (l b v : ℕ) → l < 16 → IsByte self (shifted_lane l) b v → IsByte result l b v }
     {
         Planes {
             bit0: shifted(self.bit0),
@@ -48,9 +48,9 @@ impl Planes {
     /// MixColumns. Row r of a column gets twice the sum of itself and the next row, and the sum of the
     /// other three.
     pub fn columns_mixed(self) -> Planes
-        ensures { (i b x y z w : ℕ) → i < 16 → x < 256 → y < 256 → IsByte self i b x → IsByte self (row_below i) b y
-            → IsByte self (two_rows_below i) b z → IsByte self (row_below (two_rows_below i)) b w
-            → IsByte result i b (bit_xor (bit_xor (times 2 (bit_xor x y)) y) (bit_xor z w)) }
+        ensures { (l b x y z w : ℕ) → l < 16 → x < 256 → y < 256 → IsByte self l b x → IsByte self (next_row l) b y
+            → IsByte self (second_row l) b z → IsByte self (next_row (second_row l)) b w
+            → IsByte result l b (bit_xor (bit_xor (times 2 (bit_xor x y)) y) (bit_xor z w)) }
     {
         let next = self.columns_turned_once();
         let pair = self.plus(next);
@@ -74,7 +74,7 @@ impl Planes {
     }
 
     fn columns_turned_once(self) -> Planes
-        ensures { (i b v : ℕ) → i < 16 → IsByte self (row_below i) b v → IsByte result i b v }
+        ensures { (l b v : ℕ) → l < 16 → IsByte self (next_row l) b v → IsByte result l b v }
     {
         Planes {
             bit0: turned_once(self.bit0),
@@ -89,7 +89,7 @@ impl Planes {
     }
 
     fn columns_turned_twice(self) -> Planes
-        ensures { (i b v : ℕ) → i < 16 → IsByte self (two_rows_below i) b v → IsByte result i b v }
+        ensures { (l b v : ℕ) → l < 16 → IsByte self (second_row l) b v → IsByte result l b v }
     {
         Planes {
             bit0: turned_twice(self.bit0),

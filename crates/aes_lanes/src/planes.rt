@@ -7,7 +7,8 @@ ghost use Rattle.aes_lanes.specs.Bits.{IsBit, exchanged};
 use crate::exchange::{exchange_bits, exchange_halves, exchange_pairs};
 use std::simd::prelude::*;
 
-/// One vector for each bit of a byte. Lane i has that bit of byte i of each of the eight blocks.
+/// One vector for each bit of a byte. A lane has that bit of one byte of each of the eight blocks: lane
+/// c + 4r of the byte in row r of column c.
 #[derive(Clone, Copy)]
 pub struct Planes {
     pub bit0: u8x16,

@@ -1,20 +1,20 @@
 // SubBytes on planes: the circuit of 115 gates by J. Boyar and R. Peralta ("A New Combinational Logic
-// Minimization Technique with Applications to Cryptology", 2010), and four negations.
+// Minimization Technique with Applications to Cryptology", 2010). The constant 63 of the affine map, four
+// negations, is left out: the round keys bring it in. The gates stand in an order in which few values are
+// kept at a time, since there are 16 registers.
 
-ghost use Rattle.std.specs.Prelude.{ℕ, ◌<◌};
+ghost use Rattle.std.specs.Prelude.{ℕ, ◌<◌, bit_xor};
 ghost use Rattle.crypto_spec.specs.Aes.{sub_byte};
 
 use crate::planes::Planes;
-use std::simd::prelude::*;
 
 impl Planes {
     ghost use Rattle.aes_lanes.specs.Sliced.{IsByte};
 
-    /// SubBytes (FIPS 197, 5.1.1).
+    /// SubBytes (FIPS 197, 5.1.1), but for its constant.
     pub fn substituted(self) -> Planes
-        ensures { (i b v : ℕ) → i < 16 → b < 8 → v < 256 → IsByte self i b v → IsByte result i b (sub_byte v) }
+        ensures { (i b v : ℕ) → i < 16 → b < 8 → v < 256 → IsByte self i b v → IsByte result i b (bit_xor (sub_byte v) 0x63) }
     {
-        let ones = u8x16::splat(255);
         let x0 = self.bit7;
         let x1 = self.bit6;
         let x2 = self.bit5;
@@ -23,129 +23,129 @@ impl Planes {
         let x5 = self.bit2;
         let x6 = self.bit1;
         let x7 = self.bit0;
-        let y14 = x3 ^ x5;
+        let t0 = x1 ^ x2;
         let y13 = x0 ^ x6;
         let y9 = x0 ^ x3;
-        let y8 = x0 ^ x5;
-        let t0 = x1 ^ x2;
-        let y1 = t0 ^ x7;
-        let y4 = y1 ^ x3;
-        let y12 = y13 ^ y14;
-        let y2 = y1 ^ x0;
-        let y5 = y1 ^ x6;
-        let y3 = y5 ^ y8;
+        let y14 = x3 ^ x5;
+        let y12 = y14 ^ y13;
         let t1 = x4 ^ y12;
-        let y15 = t1 ^ x5;
+        let y1 = t0 ^ x7;
+        let y5 = x6 ^ y1;
+        let y8 = x0 ^ x5;
         let y20 = t1 ^ x1;
-        let y6 = y15 ^ x7;
-        let y10 = y15 ^ t0;
         let y11 = y20 ^ y9;
-        let y7 = x7 ^ y11;
-        let y17 = y10 ^ y11;
-        let y19 = y10 ^ y8;
-        let y16 = t0 ^ y11;
-        let y21 = y13 ^ y16;
-        let y18 = x0 ^ y16;
-        let t2 = y12 & y15;
-        let t3 = y3 & y6;
-        let t4 = t3 ^ t2;
-        let t5 = y4 & x7;
-        let t6 = t5 ^ t2;
-        let t7 = y13 & y16;
+        let y7 = y11 ^ x7;
+        let y15 = x5 ^ t1;
+        let y6 = y15 ^ x7;
         let t8 = y5 & y1;
+        let y3 = y8 ^ y5;
+        let y16 = t0 ^ y11;
+        let t2 = y15 & y12;
+        let y4 = y1 ^ x3;
+        let t7 = y13 & y16;
+        let y2 = x0 ^ y1;
         let t9 = t8 ^ t7;
+        let y10 = y15 ^ t0;
+        let y21 = y16 ^ y13;
         let t10 = y2 & y7;
-        let t11 = t10 ^ t7;
-        let t12 = y9 & y11;
-        let t13 = y14 & y17;
+        let y19 = y10 ^ y8;
+        let t15 = y10 & y8;
+        let y17 = y11 ^ y10;
+        let t12 = y11 & y9;
+        let t13 = y17 & y14;
+        let t16 = t12 ^ t15;
+        let t3 = y6 & y3;
+        let t5 = x7 & y4;
         let t14 = t13 ^ t12;
-        let t15 = y8 & y10;
-        let t16 = t15 ^ t12;
-        let t17 = t4 ^ t14;
-        let t18 = t6 ^ t16;
-        let t19 = t9 ^ t14;
+        let t11 = t10 ^ t7;
+        let t4 = t3 ^ t2;
+        let t6 = t5 ^ t2;
+        let t18 = t16 ^ t6;
         let t20 = t11 ^ t16;
-        let t21 = t17 ^ y20;
+        let t17 = t14 ^ t4;
+        let t21 = y20 ^ t17;
         let t22 = t18 ^ y19;
+        let t19 = t9 ^ t14;
+        let t25 = t22 ^ t21;
+        let y18 = x0 ^ y16;
         let t23 = t19 ^ y21;
-        let t24 = t20 ^ y18;
-        let t25 = t21 ^ t22;
         let t26 = t21 & t23;
-        let t27 = t24 ^ t26;
-        let t28 = t25 & t27;
-        let t29 = t28 ^ t22;
-        let t30 = t23 ^ t24;
+        let t24 = y18 ^ t20;
         let t31 = t22 ^ t26;
+        let t30 = t23 ^ t24;
+        let t27 = t24 ^ t26;
         let t32 = t31 & t30;
         let t33 = t32 ^ t24;
-        let t34 = t23 ^ t33;
+        let t28 = t25 & t27;
         let t35 = t27 ^ t33;
-        let t36 = t24 & t35;
-        let t37 = t36 ^ t34;
-        let t38 = t27 ^ t36;
+        let t36 = t35 & t24;
+        let t38 = t36 ^ t27;
+        let t29 = t28 ^ t22;
+        let t42 = t33 ^ t29;
+        let z11 = y4 & t33;
+        let t34 = t23 ^ t33;
         let t39 = t29 & t38;
-        let t40 = t25 ^ t39;
-        let t41 = t40 ^ t37;
-        let t42 = t29 ^ t33;
-        let t43 = t29 ^ t40;
-        let t44 = t33 ^ t37;
-        let t45 = t42 ^ t41;
-        let z0 = t44 & y15;
-        let z1 = t37 & y6;
-        let z2 = t33 & x7;
-        let z3 = t43 & y16;
-        let z4 = t40 & y1;
-        let z5 = t29 & y7;
-        let z6 = t42 & y11;
-        let z7 = t45 & y17;
-        let z8 = t41 & y10;
-        let z9 = t44 & y12;
-        let z10 = t37 & y3;
-        let z11 = t33 & y4;
-        let z12 = t43 & y13;
+        let t40 = t39 ^ t25;
+        let t37 = t34 ^ t36;
+        let t41 = t37 ^ t40;
         let z13 = t40 & y5;
-        let z14 = t29 & y2;
-        let z15 = t42 & y9;
-        let z16 = t45 & y14;
-        let z17 = t41 & y8;
-        let t46 = z15 ^ z16;
-        let t47 = z10 ^ z11;
-        let t48 = z5 ^ z13;
-        let t49 = z9 ^ z10;
-        let t50 = z2 ^ z12;
-        let t51 = z2 ^ z5;
-        let t52 = z7 ^ z8;
-        let t53 = z0 ^ z3;
+        let z5 = y7 & t29;
+        let z1 = y6 & t37;
+        let t44 = t33 ^ t37;
+        let z8 = t41 & y10;
+        let t45 = t41 ^ t42;
+        let t43 = t29 ^ t40;
+        let z0 = y15 & t44;
+        let z2 = x7 & t33;
+        let z6 = t42 & y11;
+        let z17 = y8 & t41;
+        let z3 = t43 & y16;
+        let z12 = t43 & y13;
+        let z16 = y14 & t45;
+        let z7 = t45 & y17;
+        let t52 = z8 ^ z7;
         let t54 = z6 ^ z7;
-        let t55 = z16 ^ z17;
-        let t56 = z12 ^ t48;
-        let t57 = t50 ^ t53;
-        let t58 = z4 ^ t46;
+        let z15 = y9 & t42;
+        let t50 = z12 ^ z2;
+        let t46 = z15 ^ z16;
+        let z4 = t40 & y1;
+        let z9 = t44 & y12;
         let t59 = z3 ^ t54;
-        let t60 = t46 ^ t57;
-        let t61 = z14 ^ t57;
-        let t62 = t52 ^ t58;
+        let t58 = t46 ^ z4;
+        let z10 = y3 & t37;
+        let t64 = t59 ^ z4;
+        let t62 = t58 ^ t52;
+        let t48 = z13 ^ z5;
+        let t53 = z0 ^ z3;
+        let t49 = z9 ^ z10;
         let t63 = t49 ^ t58;
-        let t64 = z4 ^ t59;
-        let t65 = t61 ^ t62;
-        let t66 = z1 ^ t63;
-        let s0 = t59 ^ t63;
-        let s6 = t56 ^ t62;
+        let s0 = t63 ^ t59;
+        let t57 = t53 ^ t50;
+        let t56 = z12 ^ t48;
+        let t47 = z10 ^ z11;
+        let t60 = t46 ^ t57;
+        let z14 = y2 & t29;
+        let t55 = z16 ^ z17;
+        let t51 = z5 ^ z2;
+        let t61 = z14 ^ t57;
         let s7 = t48 ^ t60;
-        let t67 = t64 ^ t65;
-        let s3 = t53 ^ t66;
-        let s4 = t51 ^ t66;
+        let t66 = z1 ^ t63;
+        let t65 = t62 ^ t61;
         let s5 = t47 ^ t65;
+        let s3 = t53 ^ t66;
+        let s6 = t56 ^ t62;
         let s1 = t64 ^ s3;
+        let t67 = t64 ^ t65;
         let s2 = t55 ^ t67;
+        let s4 = t66 ^ t51;
         Planes {
-            bit0: s7 ^ ones,
-            bit1: s6 ^ ones,
+            bit0: s7,
+            bit1: s6,
             bit2: s5,
             bit3: s4,
             bit4: s3,
-            bit5: s2 ^ ones,
-            bit6: s1 ^ ones,
+            bit5: s2,
+            bit6: s1,
             bit7: s0,
         }
     }

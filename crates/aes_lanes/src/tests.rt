@@ -22,3 +22,47 @@ fn gives_the_published_cipher_in_each_lane(rt: HostRuntime) {
         assert_eq!(rt; *got, cipher);
     }
 }
+
+// The next of a row of numbers that look random (D. Knuth's linear congruential generator, MMIX).
+fn next(seed: &mut u64) -> u64 {
+    *seed = seed
+        .wrapping_mul(6364136223846793005)
+        .wrapping_add(1442695040888963407);
+    *seed
+}
+
+fn next_block(seed: &mut u64) -> [u8; 16] {
+    let high = next(seed) as u128;
+    let low = next(seed) as u128;
+    ((high << 64) | low).to_be_bytes()
+}
+
+#[test]
+fn agrees_with_the_cipher_of_single_blocks(rt: HostRuntime) {
+    let mut seed = 1;
+    for _key in 0..50 {
+        let schedule = Schedule::of(&next_block(&mut seed));
+        let mut blocks = [[0; 16]; 8];
+        for k in 0..8 {
+            blocks[k] = next_block(&mut seed);
+        }
+        let plain = blocks;
+        encrypt8(&schedule, &mut blocks);
+        for k in 0..8 {
+            assert_eq!(rt; blocks[k], schedule.encrypt(&plain[k]));
+        }
+    }
+}
+
+#[test]
+fn counts_eight_numbers(rt: HostRuntime) {
+    let schedule = Schedule::of(&[7; 16]);
+    let keys = LaneKeys::of(&schedule);
+    for first in [0, 248, 65528, 1 << 100] {
+        let blocks = keys.encrypt_numbers(first);
+        for k in 0..8 {
+            let number = first + k as u128;
+            assert_eq!(rt; blocks[k], schedule.encrypt(&number.to_be_bytes()));
+        }
+    }
+}

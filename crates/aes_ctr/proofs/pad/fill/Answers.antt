@@ -1,5 +1,5 @@
 use borrow.Rule.Slice.PartMut.{put_mid}
-use Rattle.std.proofs.Common.{◌≡◌, ◌+◌, ◌-◌, ◌*◌, ◌≤◌, ◌∙◌, ℕ, refl, subst, ap, arith, length, take, length-take, length-drop}
+use Rattle.std.proofs.Common.{◌≡◌, ◌+◌, ◌-◌, ◌*◌, ◌≤◌, ◌∙◌, ℕ, List, subst, ap, arith, length, take, length-take, length-drop}
 use Rattle.std.specs.Int.{w128, to_be_bytes}
 use Rattle.crypto_spec.specs.Aes.{aes}
 use Rattle.crypto_spec.specs.Keystream.{keystream_part}
@@ -14,7 +14,8 @@ loop-k-preserved c =
     let block = c.copy_from_slice.new.self in
     let number : c.args.first + 8 * c.loop-group.group + c.loop-k.k ≡ c.args.first + n = omega arith in
     let made : block ≡ aes key (to_be_bytes w128 (c.args.first + n)) =
-    c.copy_from_slice.ensures.after ∙ c.eight_blocks-blocks.ensures c.loop-k.k c.loop-k-test.true
+    c.copy_from_slice.ensures.after ∙ c.encrypt_numbers-blocks.ensures c.loop-k.k c.loop-k-test.true
+    ∙ ap (λ (own : List ℕ). aes own (to_be_bytes w128 (c.args.first + 8 * c.loop-group.group + c.loop-k.k))) c.of-keys.ensures
     ∙ ap (λ (m : ℕ). aes key (to_be_bytes w128 m)) number in
     let inside : at + 16 ≤ length c.loop-k.pad = omega arith in
     let sixteen : length block ≡ 16 = c.copy_from_slice.ensures.len ∙ simp (length-take, length-drop) (omega arith) in
@@ -23,18 +24,4 @@ loop-k-preserved c =
     record {
       long = length-block_put c.loop-k.pad block at _ (omega arith) sixteen inside ∙ c.loop-k.invariant.long;
       made = subst P next (take-block_put key c.loop-k.pad block c.args.first n at _ (omega arith) sixteen inside c.loop-k.invariant.made made);
-    }
-
-pub loop-n-preserved : goal.loop-n-preserved
-loop-n-preserved c =
-    let key = c.args.schedule.now in
-    let n = c.loop-n.n in
-    let block = c.copy_from_slice-in-loop-n.new.self in
-    let made : block ≡ aes key (to_be_bytes w128 (c.args.first + n)) =
-    c.copy_from_slice-in-loop-n.ensures.after ∙ c.encrypt-block.ensures ∙ ap (aes key) c.to_be_bytes.ensures in
-    let inside : 16 * n + 16 ≤ length c.loop-n.pad = omega arith in
-    let sixteen : length block ≡ 16 = c.copy_from_slice-in-loop-n.ensures.len ∙ simp (length-take, length-drop) (omega arith) in
-    record {
-      long = length-block_put c.loop-n.pad block (16 * n) _ (omega arith) sixteen inside ∙ c.loop-n.invariant.long;
-      made = take-block_put key c.loop-n.pad block c.args.first n (16 * n) _ refl sixteen inside c.loop-n.invariant.made made;
     }

@@ -13,9 +13,3 @@ invariant-loop-k l = record {
   long : length l.pad ≡ length l.initial.pad;
   made : take (16 * (8 * l.group + l.k)) l.pad ≡ keystream_part l.schedule (16 * l.first) (16 * (8 * l.group + l.k));
 }
-
-abbrev pub invariant-loop-n : goal.invariant-loop-n
-invariant-loop-n l = record {
-  long : length l.pad ≡ length l.initial.pad;
-  made : take (16 * l.n) l.pad ≡ keystream_part l.schedule (16 * l.first) (16 * l.n);
-}

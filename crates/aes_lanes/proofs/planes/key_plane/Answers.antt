@@ -1,4 +1,4 @@
-use Rattle.aes_lanes.proofs.Keys.{IsBit-key_plane}
+use Rattle.aes_lanes.proofs.KeyPlanes.{IsBit-key_plane}
 use Rattle.aes_lanes.proofs.planes.key_plane.Goals as goal
 
 pub returns : goal.returns

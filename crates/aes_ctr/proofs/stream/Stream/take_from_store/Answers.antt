@@ -1,4 +1,4 @@
-use Rattle.std.proofs.Common.{◌≡◌, ◌-◌, ap, ◌∙◌, arith}
+use Rattle.std.proofs.Common.{◌≡◌, ap, ◌∙◌, arith}
 use Rattle.std.specs.Prelude.{bit_xor}
 use Rattle.std.specs.Simd.Lanes.{zip2}
 use Rattle.crypto_spec.specs.Keystream.{keystream_part}
@@ -9,14 +9,14 @@ use Rattle.aes_ctr.proofs.stream.Stream.take_from_store.Goals as goal
 pub invariant_of-self : goal.invariant_of-self
 invariant_of-self c =
     let s = c.self.inside in
-    let ready : 1024 - s.used ≡ c.args.self.now.ready = ap (λ (t : StreamState). t.ready) c.self.view_is in
-    left s.schedule s.position s.store s.used c.self.invariant (omega (arith, c.requires.enough))
+    let ready : s.ready ≡ c.args.self.now.ready = ap (λ (t : StreamState). t.ready) c.self.view_is in
+    left s.schedule s.position s.store s.used s.ready c.self.invariant (omega (arith, c.requires.enough, ready))
 
 pub returns-clause-body : goal.returns-clause-body
 returns-clause-body c =
     let s = c.self.inside in
-    let ready : 1024 - s.used ≡ c.args.self.now.ready = ap (λ (t : StreamState). t.ready) c.self.view_is in
+    let ready : s.ready ≡ c.args.self.now.ready = ap (λ (t : StreamState). t.ready) c.self.view_is in
     c.xor.ensures
     ∙ ap (zip2 bit_xor c.args.body.now)
-    (taken s.schedule s.position s.store s.used c.self.invariant (omega (arith, c.requires.enough))
+    (taken s.schedule s.position s.store s.used s.ready c.self.invariant (omega (arith, c.requires.enough, ready))
     ∙ ap (λ (t : StreamState). keystream_part t.key t.position 509) c.self.view_is)

@@ -8,12 +8,12 @@ returns c = λ i b v h l s e.
     let x = c.args.self in
     record {
       bits = below_eight _
-          (substituted_bit0 x i b v h l s e)
-          (substituted_bit1 x i b v h l s e)
-          (substituted_bit2 x i b v h l s e)
-          (substituted_bit3 x i b v h l s e)
-          (substituted_bit4 x i b v h l s e)
-          (substituted_bit5 x i b v h l s e)
-          (substituted_bit6 x i b v h l s e)
-          (substituted_bit7 x i b v h l s e);
+          (substituted_bit0 x i b v s e)
+          (substituted_bit1 x i b v s e)
+          (substituted_bit2 x i b v s e)
+          (substituted_bit3 x i b v s e)
+          (substituted_bit4 x i b v s e)
+          (substituted_bit5 x i b v s e)
+          (substituted_bit6 x i b v s e)
+          (substituted_bit7 x i b v s e);
     }

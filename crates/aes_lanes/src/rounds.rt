@@ -1,0 +1,28 @@
+// The steps of a round (FIPS 197, 5.1). SubBytes leaves its constant out: the round keys bring it in.
+
+ghost use Rattle.std.specs.Prelude.{ℕ, ◌<◌, List};
+ghost use Rattle.crypto_spec.specs.Aes.{add, sub_bytes, shift_rows, mix_columns};
+ghost use Rattle.aes_lanes.specs.Sliced.{IsState, masked};
+
+use crate::planes::Planes;
+
+/// SubBytes without its constant, and ShiftRows.
+pub fn moved(state: Planes) -> Planes
+    ensures { (b : ℕ) (s : List ℕ) → b < 8 → IsState state b s → IsState result b (masked (shift_rows (sub_bytes s))) }
+{
+    state.substituted().rows_shifted()
+}
+
+/// MixColumns.
+pub fn mixed(state: Planes) -> Planes
+    ensures { (b : ℕ) (s : List ℕ) → IsState state b s → IsState result b (mix_columns s) }
+{
+    state.columns_mixed()
+}
+
+/// AddRoundKey.
+pub fn keyed(state: Planes, key: Planes) -> Planes
+    ensures { (b : ℕ) (s k : List ℕ) → IsState state b s → IsState key b k → IsState result b (add s k) }
+{
+    state.plus(key)
+}
