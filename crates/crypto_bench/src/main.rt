@@ -7,6 +7,7 @@ ghost use Rattle.std.specs.Prelude.{◌≡◌, ◌+◌, ◌*◌, ◌<◌, ◌^�
 
 use aes_block::Schedule;
 use aes_ctr::Stream;
+use aes_lanes::LaneKeys;
 use hex::FromHex;
 use hop_crypto::Opener;
 use kdf_tor::LayerKeys;
@@ -16,15 +17,19 @@ use std::process::ExitCode;
 use std::{env, io};
 
 const USAGE: &str =
-    "usage: crypto_bench apply COUNT | digest COUNT | layer COUNT | block KEY BLOCK | body KEY NUMBER BODY";
+    "usage: crypto_bench apply COUNT | eight COUNT | digest COUNT | layer COUNT | pass COUNT | block KEY BLOCK | body KEY NUMBER BODY";
 
 enum Request {
     /// Apply the keystream of the zero key to a body again and again.
     Apply(u32),
+    /// The cipher of eight blocks again and again.
+    Eight(u32),
     /// Let a body go by a running digest again and again.
     Digest(u32),
     /// Take a hop's layer off so many bodies that are meant for it.
     Layer(u32),
+    /// Take a hop's layer off so many bodies that are meant for another.
+    Pass(u32),
     /// The cipher of a block.
     Block([u8; 16], [u8; 16]),
     /// The keystream of a key applied to its body of this number.
@@ -37,11 +42,17 @@ fn asked(words: &[String]) -> Option<Request> {
     if name == "apply" {
         return Some(Request::Apply(first.parse::<u32>().ok()?));
     }
+    if name == "eight" {
+        return Some(Request::Eight(first.parse::<u32>().ok()?));
+    }
     if name == "digest" {
         return Some(Request::Digest(first.parse::<u32>().ok()?));
     }
     if name == "layer" {
         return Some(Request::Layer(first.parse::<u32>().ok()?));
+    }
+    if name == "pass" {
+        return Some(Request::Pass(first.parse::<u32>().ok()?));
     }
     let key = <[u8; 16] as FromHex>::from_hex(first).ok()?;
     let second = words.get(3)?.as_str();
@@ -73,6 +84,19 @@ fn many_bodies(alloc: Global, count: u32) -> Result<String, AllocError> {
     hex::encode(alloc, body.as_slice())
 }
 
+fn many_eights(alloc: Global, count: u32) -> Result<String, AllocError> {
+    let keys = LaneKeys::of(&Schedule::of(&[0; 16]));
+    let mut sum = [0; 16];
+    for n in 0..count {
+        let mut blocks = [(n as u128).to_be_bytes(); 8];
+        keys.encrypt8(&mut blocks);
+        for k in 0..16 {
+            sum[k] ^= blocks[7][k];
+        }
+    }
+    hex::encode(alloc, sum.as_slice())
+}
+
 fn many_digests(alloc: Global, count: u32) -> Result<String, AllocError> {
     let body = [0; 509];
     let mut running = Running::seeded(&[0; 20]);
@@ -82,35 +106,61 @@ fn many_digests(alloc: Global, count: u32) -> Result<String, AllocError> {
     hex::encode(alloc, running.digest().as_slice())
 }
 
-/// Opens as many copies of the relay's first body as asked, each by the relay as it is at first.
-fn open_again(relay: &Opener, first: &[u8; 509], count: u32) -> [u8; 20]
+/// Opens as many of the relay's first bodies as asked, two by two, each two by the relay as it is at
+/// first: a store of keystream serves two bodies.
+fn open_again(relay: &Opener, bodies: &[[u8; 509]; 2], count: u32) -> [u8; 20]
     requires { relay.now.stream.position ≡ 0 }
 {
     let mut last = [0; 20];
-    for _opened in 0..count {
-        let mut body = *first;
-        if let Some(digest) = relay.copy().take_off(&mut body) {
+    for _two_opened in 0..count / 2 {
+        let mut opener = relay.copy();
+        let [mut first, mut second] = *bodies;
+        if let Some(_) = opener.take_off(&mut first)
+            && let Some(digest) = opener.take_off(&mut second)
+        {
             last = digest;
         }
     }
     last
 }
 
+const KEYS: LayerKeys = LayerKeys {
+    df: [0; 20],
+    db: [0; 20],
+    kf: [0; 16],
+    kb: [0; 16],
+};
+
 fn many_layers(alloc: Global, count: u32) -> Result<String, AllocError> {
-    let keys = LayerKeys {
-        df: [0; 20],
-        db: [0; 20],
-        kf: [0; 16],
-        kb: [0; 16],
-    };
+    let mut stream = Stream::of(&KEYS.kf);
+    let mut running = Running::seeded(&KEYS.df);
+    let mut first = [0; 509];
+    let first_digest = running.look_with(&first);
+    first[5..9].copy_from_slice(&first_digest[..4]);
+    running.absorb(&first);
+    let mut second = [0; 509];
+    let second_digest = running.look_with(&second);
+    second[5..9].copy_from_slice(&second_digest[..4]);
+    stream.apply(&mut first);
+    stream.apply(&mut second);
+    let last = open_again(&Opener::of(&KEYS), &[first, second], count);
+    hex::encode(alloc, last.as_slice())
+}
+
+/// Takes the relay's layer off the same body `count` times.
+fn pass_on(relay: &mut Opener, body: &mut [u8; 509], count: u32)
+    requires { relay.old.stream.position ≡ 0 }
+    ensures { relay.new.stream.position ≡ 509 * count }
+{
+    for _passed in 0..count {
+        let _ = relay.take_off(body);
+    }
+}
+
+fn many_passed(alloc: Global, count: u32) -> Result<String, AllocError> {
     let mut body = [0; 509];
-    let digest = Running::seeded(&keys.df).look_with(&body);
-    body[5..9].copy_from_slice(&digest[..4]);
-    Stream::of(&keys.kf).apply(&mut body);
-    hex::encode(
-        alloc,
-        open_again(&Opener::of(&keys), &body, count).as_slice(),
-    )
+    pass_on(&mut Opener::of(&KEYS), &mut body, count);
+    hex::encode(alloc, body.as_slice())
 }
 
 fn one_block(alloc: Global, key: &[u8; 16], block: &[u8; 16]) -> Result<String, AllocError> {
@@ -134,8 +184,10 @@ fn one_body(
 fn answer(alloc: Global, request: Request) -> Result<String, AllocError> {
     match request {
         Request::Apply(count) => many_bodies(alloc, count),
+        Request::Eight(count) => many_eights(alloc, count),
         Request::Digest(count) => many_digests(alloc, count),
         Request::Layer(count) => many_layers(alloc, count),
+        Request::Pass(count) => many_passed(alloc, count),
         Request::Block(key, block) => one_block(alloc, &key, &block),
         Request::Body(key, number, body) => one_body(alloc, &key, number, body),
     }
