@@ -11,10 +11,10 @@ use std::alloc::AllocError;
 /// The opening of a circuit.
 #[derive(Drop)]
 pub struct Opening {
-    /// The cell that answers, on the CircID of the cell that asks: CREATED_FAST, or DESTROY where
-    /// the handshake was refused.
+    /// The cell that answers a good handshake, on the CircID of the cell that asks: CREATED_FAST.
     pub reply: Cell,
-    /// The keys of the circuit, where the handshake was good.
+    /// The keys of the circuit, where the handshake was good. Without keys a switch refuses the
+    /// opening, and the reply doesn't leave.
     pub keys: Option<LayerKeys>,
 }
 

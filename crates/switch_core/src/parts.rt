@@ -24,10 +24,10 @@ use tr_io::answers::{OpenAnswer, OpenRefusal, UpAnswer};
 use tr_io::names::{ChanNo, CircNo, Side};
 
 /// How many channels may be live.
-const MOST_CHANNELS: usize = 64;
+const MOST_CHANNELS: u32 = 64;
 
 /// How many circuits may be live.
-const MOST_CIRCUITS: usize = 512;
+const MOST_CIRCUITS: u32 = 512;
 
 /// The channels and circuits of a switch, each list by number. None of them is gone yet.
 #[derive(Drop)]
@@ -58,8 +58,8 @@ impl Parts {
             alloc,
             steps: 0,
             tick: 0,
-            channels: Vec::with_capacity(alloc, MOST_CHANNELS)?,
-            circuits: Vec::with_capacity(alloc, MOST_CIRCUITS)?,
+            channels: Vec::with_capacity(alloc, MOST_CHANNELS as usize)?,
+            circuits: Vec::with_capacity(alloc, MOST_CIRCUITS as usize)?,
         })
     }
 
@@ -77,9 +77,9 @@ impl Parts {
         ensures answer { UpCase result ⊤ (result ≡ channel_up_result self.old) }
     {
         let number = self.channels.len();
-        if number >= MOST_CHANNELS {
+        if number >= MOST_CHANNELS as usize {
             self.steps += 1;
-            return UpAnswer::Full(64);
+            return UpAnswer::Full(MOST_CHANNELS);
         }
         if self.channels.push(Channel::new(self.alloc, side)).is_err() {
             return UpAnswer::Memory;
@@ -141,8 +141,8 @@ impl Parts {
         if keys.is_none() {
             return OpenAnswer::Refused(OpenRefusal::BadHandshake);
         }
-        if self.circuits.len() >= MOST_CIRCUITS {
-            return OpenAnswer::Refused(OpenRefusal::Full(512));
+        if self.circuits.len() >= MOST_CIRCUITS as usize {
+            return OpenAnswer::Refused(OpenRefusal::Full(MOST_CIRCUITS));
         }
         OpenAnswer::Opened(CircNo(self.circuits.len() as u64))
     }
