@@ -3,3 +3,7 @@ pub mod Answers
 pub mod Input
 pub mod Output
 pub mod Causes
+pub mod Steps
+pub mod Runs
+pub mod Playing
+pub mod Spelling

@@ -1,5 +1,5 @@
 //! Spells the answers of a tape's records.
-ghost use Rattle.std.specs.Prelude.{◌≡◌, ◌++◌, IfSome, OnOk, OnErr};
+ghost use Rattle.std.specs.Prelude.{◌≡◌, ◌++◌, Some, IfSome, OnOk, OnErr};
 ghost use Rattle.cell_codec.specs.Cells.{IsWellFormed};
 ghost use Rattle.tor_relay.specs.Answers.{up_bytes, open_bytes, next_bytes};
 
@@ -37,18 +37,31 @@ pub fn write_open(answer: OpenAnswer, out: &mut Vec<u8>) -> Result<(), AllocErro
     }
 }
 
-/// Appends the answer of `next_cell`. Where memory is wanting, what was there stays in front.
+/// Appends the answer of `next_cell`.
 pub fn write_next(answer: &Option<Cell>, out: &mut Vec<u8>) -> Result<(), AllocError>
     requires { IfSome answer.now IsWellFormed }
     ensures ok { OnOk result (out.new.items ≡ out.old.items ++ next_bytes answer.now) }
+    ensures err { OnErr result (out.new.items ≡ out.old.items) }
 {
     match answer {
-        Some(cell) => {
-            out.extend_from_slice(&[8, 1])?;
-            write_cell(cell, out)
-        }
+        Some(cell) => write_sent(cell, out),
         None => out.extend_from_slice(&[8, 0]),
     }
+}
+
+/// Appends the answer that is a cell. Where memory is wanting for the cell, its tag goes as well.
+fn write_sent(cell: &Cell, out: &mut Vec<u8>) -> Result<(), AllocError>
+    requires { IsWellFormed cell.now }
+    ensures ok { OnOk result (out.new.items ≡ out.old.items ++ next_bytes (Some cell.now)) }
+    ensures err { OnErr result (out.new.items ≡ out.old.items) }
+{
+    let before = out.len();
+    out.extend_from_slice(&[8, 1])?;
+    let written = write_cell(cell, out);
+    if written.is_err() {
+        out.truncate(before);
+    }
+    written
 }
 
 /// Appends a tag and its number.

@@ -1,6 +1,6 @@
 //! Reads a tape's bytes from a source.
-ghost use Rattle.std.specs.Prelude.{◌≤◌, ◌^◌, IfOk, length};
-ghost use Rattle.tor_relay.specs.Input.{EndCause, IsTape};
+ghost use Rattle.std.specs.Prelude.{◌≤◌, ◌^◌, ℕ, List, IfOk, OnErr, length};
+ghost use Rattle.tor_relay.specs.Input.{EndCause, IsRead, IsTape};
 
 use std::alloc::{AllocError, Global};
 use tr_io::source::{ReadAnswer, Source};
@@ -36,6 +36,7 @@ pub struct Input {
 pub fn read_tape<S: Source>(alloc: Global, source: &mut S) -> Result<Input, AllocError>
     ensures counted { S.faults source.old ≤ S.faults source.new }
     ensures cause { IfOk result (λ input. EndCause input.ending (S.faults source.old) (S.faults source.new)) }
+    ensures read { OnErr result ((bytes : List ℕ) × IsRead (S.left source.old) bytes (S.left source.new)) }
     ensures tape { IfOk result (λ input. IsTape input.ending (S.left source.old) input.bytes.items (S.left source.new)) }
 {
     let mut bytes = Vec::new(alloc);

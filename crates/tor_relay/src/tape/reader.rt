@@ -1,13 +1,27 @@
 //! Reads the records of a tape from bytes.
-ghost use Rattle.std.specs.Prelude.{◌≡◌, ◌+◌, ◌≤◌, length, take, drop};
-ghost use Rattle.tor_relay.specs.Records.{FrontIs, RestIsShorter, front_of, channel_up_front, open_circuit_front, next_cell_front, opens_circuit, create_fast_record};
+ghost use Rattle.std.specs.Prelude.{◌≡◌, ◌+◌, ◌≤◌, ◌++◌, ℕ, List, length, take, drop};
+ghost use Rattle.tor_relay.specs.declared.tape.record.Record.{Record as RecordValue};
+ghost use Rattle.tor_relay.specs.Spelling.{spelling, FitsFields};
+ghost use Rattle.tor_relay.specs.Records.{record_and, FrontIs, RestIsShorter, front_of, channel_up_front, open_circuit_front, next_cell_front, opens_circuit, create_fast_record};
 
 use crate::tape::record::{Front, Record};
 use tr_io::names::{ChanNo, Side};
 
-/// Reads the record at the front of the bytes.
-#[tactic(auto, unfolding(crate::specs::Records::front_of))]
+/// Reads the record at the front of the bytes: whatever spells one is read as it, and what is read
+/// as one spells it.
+#[tactic(auto, using(crate::proofs::Spellings::spelled_is_front, crate::proofs::Spelled::front_is_spelled))]
 pub fn read_front(bytes: &[u8]) -> Front<'_>
+    ensures front { FrontIs result (front_of bytes.now) }
+    ensures read { (r : RecordValue) (rest : List ℕ) → FitsFields r → bytes.now ≡ spelling r ++ rest → FrontIs result (record_and r rest) }
+    ensures spelled { (r : RecordValue) (rest : List ℕ) → FrontIs result (record_and r rest) → bytes.now ≡ spelling r ++ rest }
+    ensures shorter { RestIsShorter result (length bytes.now) }
+{
+    front(bytes)
+}
+
+/// The record at the front of the bytes, by its kind.
+#[tactic(auto, unfolding(crate::specs::Records::front_of))]
+fn front(bytes: &[u8]) -> Front<'_>
     ensures front { FrontIs result (front_of bytes.now) }
     ensures shorter { RestIsShorter result (length bytes.now) }
 {

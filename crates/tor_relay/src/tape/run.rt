@@ -1,7 +1,14 @@
 //! Plays a tape from its source to its sink.
-ghost use Rattle.std.specs.Prelude.{◌≡◌, ◌≤◌, true, false, IfOk, OnErr, map, string_bytes};
+ghost use Rattle.std.specs.Prelude.{◌≡◌, ◌-◌, ◌≤◌, ℕ, [], List, Some, true, false, IfOk, OnOk, OnErr, map, length, string_bytes};
+ghost use Rattle.switch_model.specs.Machine.{new_state};
 ghost use Rattle.tr_io.specs.Faults.{Rose};
+ghost use Rattle.tor_relay.specs.declared.tape.record.Record.{Record};
 ghost use Rattle.tor_relay.specs.Causes.{is_tape_line, IsRunStatus};
+ghost use Rattle.tor_relay.specs.Input.{EndCause, IsTape};
+ghost use Rattle.tor_relay.specs.Output.{IsWritten, IsPartWritten};
+ghost use Rattle.tor_relay.specs.Playing.{HandedOn, Stopped, Broken};
+ghost use Rattle.tor_relay.specs.Runs.{cut_status, reads, writes, EndsPlay, IsRun, IsGood, IsDone};
+ghost use Rattle.tor_relay.specs.Steps.{tape_start};
 
 use crate::tape::input::{Ending, Input, read_tape};
 use crate::tape::output::{WriteFault, flush, write_all};
@@ -30,6 +37,13 @@ pub fn tape_main<S: Source, K: Sink>(
     ensures status { is_tape_line (map string_bytes words.now) ≡ true → IsRunStatus result }
     ensures read { result ≡ Status.ReadFault → Rose (S.faults source.old) (S.faults source.new) }
     ensures write { result ≡ Status.WriteFault → Rose (K.faults sink.old) (K.faults sink.new) }
+    ensures run { is_tape_line (map string_bytes words.now) ≡ true → IsRun result
+        (reads (S.left source.old) (S.faults source.old) (S.left source.new) (S.faults source.new))
+        (writes (K.written sink.old) (K.faults sink.old) (K.written sink.new) (K.faults sink.new)) }
+    ensures done { is_tape_line (map string_bytes words.now) ≡ true → (tape : List ℕ) (records : List Record) → IsGood tape records
+        (reads (S.left source.old) (S.faults source.old) (S.left source.new) (S.faults source.new))
+        (writes (K.written sink.old) (K.faults sink.old) (K.written sink.new) (K.faults sink.new)) →
+        IsDone result records (writes (K.written sink.old) (K.faults sink.old) (K.written sink.new) (K.faults sink.new)) }
 {
     if !is_tape_line(words) {
         return Status::Usage;
@@ -55,64 +69,91 @@ fn play<K: Sink>(alloc: Global, input: &Input, sink: &mut K) -> Status
     ensures status { IsRunStatus result }
     ensures read { result ≡ Status.ReadFault → input.now.ending ≡ Ending.Fault }
     ensures write { result ≡ Status.WriteFault → Rose (K.faults sink.old) (K.faults sink.new) }
+    ensures play { EndsPlay result input.now.ending input.now.bytes.items (writes (K.written sink.old) (K.faults sink.old) (K.written sink.new) (K.faults sink.new)) }
 {
     let Ok(mut player) = Player::new(alloc) else {
         return Status::Memory;
     };
-    match play_records(&mut player, input, sink) {
+    let status = match play_records(&mut player, input, sink) {
         Ok(status) => status,
+        Err(WriteFault) => return Status::WriteFault,
+    };
+    match write_rest(player.answers(), sink) {
+        Ok(()) => status,
         Err(WriteFault) => Status::WriteFault,
     }
 }
 
-/// Plays the records one after another, up to one that isn't whole.
+/// Plays the records one after another, up to one that isn't whole. The last answers stay gathered.
 fn play_records<K: Sink>(
     player: &mut Player,
     input: &Input,
     sink: &mut K,
 ) -> Result<Status, WriteFault>
-    requires { player.old.switch.state.steps ≡ 0 }
+    requires start { player.old.switch.start ≡ tape_start }
+    requires state { player.old.switch.state ≡ new_state }
+    requires answers { player.old.answers.items ≡ [] }
     ensures status { IfOk result IsRunStatus }
     ensures read { IfOk result (λ status. status ≡ Status.ReadFault → input.now.ending ≡ Ending.Fault) }
     ensures written { IfOk result (λ status. ¬ (status ≡ Status.WriteFault)) }
     ensures counted { K.faults sink.old ≤ K.faults sink.new }
-    ensures cause { OnErr result (Rose (K.faults sink.old) (K.faults sink.new)) }
+    ensures stopped { IfOk result (λ status. Stopped status input.now.ending input.now.bytes.items player.new.answers.items (K.written sink.old) (K.written sink.new)) }
+    ensures broken { OnErr result (Broken input.now.bytes.items (K.written sink.old) (K.written sink.new) (K.faults sink.old) (K.faults sink.new)) }
 {
-    let mut rest = input.bytes.as_slice();
-    let status = loop {
-        let place = (input.bytes.len() - rest.len()) as u64;
+    let tape = input.bytes.as_slice();
+    let mut rest = tape;
+    loop {
+        let place = (tape.len() - rest.len()) as u64;
         match read_front(rest) {
             Front::Whole(record, behind) => {
-                if player.play(record).is_err() {
-                    break Status::Memory;
-                }
+                let Ok(()) = player.play(record) else {
+                    return Ok(Status::Memory);
+                };
                 rest = behind;
             }
-            Front::Cut => break cut_status(input.ending, place, rest.is_empty()),
-            Front::Bad => break Status::BadTape(place),
-            Front::NotBuilt(kind) => break Status::NotBuilt(kind),
+            Front::Cut => return Ok(cut_status(input.ending, place, rest)),
+            Front::Bad => return Ok(Status::BadTape(place)),
+            Front::NotBuilt(kind) => return Ok(Status::NotBuilt(kind)),
         }
-        if player.answers().len() >= MANY_ANSWERS {
-            write_all(player.answers(), sink)?;
-            player.forget_answers();
-        }
-    };
-    write_all(player.answers(), sink)?;
-    flush(sink)?;
-    Ok(status)
+        hand_on(player, sink)?;
+    }
 }
 
-/// The status where the bytes end, `at_record` between two records or else inside the one at this
-/// place.
-fn cut_status(ending: Ending, place: u64, at_record: bool) -> Status
-    ensures status { IsRunStatus result }
-    ensures read { result ≡ Status.ReadFault → ending ≡ Ending.Fault }
-    ensures written { ¬ (result ≡ Status.WriteFault) }
+/// The status where the bytes end inside the record at this place, or right behind the last one.
+fn cut_status(ending: Ending, place: u64, rest: &[u8]) -> Status
+    ensures { result ≡ cut_status ending place rest.now }
 {
     match ending {
-        Ending::End if at_record => Status::Done,
+        Ending::End if rest.is_empty() => Status::Done,
         Ending::End => Status::BadTape(place),
         Ending::Fault => Status::ReadFault,
         Ending::Limit => Status::TooLong,
     }
+}
+
+/// Writes the gathered answers once they are many.
+fn hand_on<K: Sink>(player: &mut Player, sink: &mut K) -> Result<(), WriteFault>
+    ensures switch { player.new.switch ≡ player.old.switch }
+    ensures counted { K.faults sink.old ≤ K.faults sink.new }
+    ensures ok { OnOk result (HandedOn player.old.answers.items player.new.answers.items (K.written sink.old) (K.written sink.new)) }
+    ensures err { OnErr result (IsPartWritten (K.written sink.old) player.old.answers.items (K.written sink.new)) }
+    ensures cause { OnErr result (Rose (K.faults sink.old) (K.faults sink.new)) }
+{
+    if player.answers().len() < MANY_ANSWERS {
+        return Ok(());
+    }
+    write_all(player.answers(), sink)?;
+    player.forget_answers();
+    Ok(())
+}
+
+/// Writes the last answers, and has the sink send on all of them.
+fn write_rest<K: Sink>(answers: &[u8], sink: &mut K) -> Result<(), WriteFault>
+    ensures counted { K.faults sink.old ≤ K.faults sink.new }
+    ensures ok { OnOk result (IsWritten (K.written sink.old) answers.now (K.written sink.new)) }
+    ensures err { OnErr result (IsPartWritten (K.written sink.old) answers.now (K.written sink.new)) }
+    ensures cause { OnErr result (Rose (K.faults sink.old) (K.faults sink.new)) }
+{
+    write_all(answers, sink)?;
+    flush(sink)
 }

@@ -1,0 +1,45 @@
+-- What holds while a tape is played.
+use Rattle.std.specs.Prelude.{◌≡◌, ◌⊎◌, ℕ, ◌-◌, List, [], ◌∷◌, ◌++◌, length, Option, Some}
+use Rattle.tr_io.specs.declared.status.Status.{Status}
+use Rattle.tr_io.specs.declared.status.Status.TheVariants.{Memory}
+use Rattle.tr_io.specs.Faults.{Rose}
+use Rattle.tr_io.specs.declared.step.Step.{Step}
+use Rattle.switch_model.specs.State.{State}
+use Rattle.switch_model.specs.Stands.{Stands}
+use Rattle.tor_relay.specs.declared.tape.input.Ending.{Ending}
+use Rattle.tor_relay.specs.declared.tape.record.Record.{Record}
+use Rattle.tor_relay.specs.Steps.{tape_start, step_of, answer_of, steps_of, output, IsRecords}
+use Rattle.tor_relay.specs.Output.{IsWritten, IsPartWritten}
+use Rattle.tor_relay.specs.Runs.{status_at}
+
+-- Whatever history the switch stood for, it stands for it with the record's step, whose answer is
+-- behind the others.
+pub record PlaysOn (r : Record) (old new : State) (answers more : List ℕ) : Type 0 where
+  pub stands : (h : List Step) → Stands tape_start old h → Stands tape_start new (step_of h r ∷ h)
+  pub answer : (h : List Step) → Stands tape_start old h → more ≡ answers ++ answer_of h r
+
+-- The front of the answers was written, and the others are left.
+pub record HandedOn (answers left : List ℕ) (held now : Option (List ℕ)) : Type 0 where
+  pub piece : List ℕ
+  pub written : IsWritten held piece now
+  pub whole : piece ++ left ≡ answers
+
+-- These records were played: their answers are written, but for those that are gathered.
+pub record Gathered (tape rest : List ℕ) (records : List Record) (answers : List ℕ) (held now : Option (List ℕ)) : Type 0 where
+  pub read : IsRecords tape records rest
+  pub handed : HandedOn (output records) answers held now
+
+-- The playing stopped at a place that begins no record which is built, or for want of memory.
+pub record Stopped (status : Status) (ending : Ending) (tape answers : List ℕ) (held now : Option (List ℕ)) : Type 0 where
+  pub records : List Record
+  pub rest : List ℕ
+  pub gathered : Gathered tape rest records answers held now
+  pub cause : (status_at ending (length tape - length rest) rest ≡ Some status) ⊎ (status ≡ Memory)
+
+-- The playing stopped at a fault of the sink.
+pub record Broken (tape : List ℕ) (held now : Option (List ℕ)) (faults faults_now : ℕ) : Type 0 where
+  pub cause : Rose faults faults_now
+  pub records : List Record
+  pub rest : List ℕ
+  pub read : IsRecords tape records rest
+  pub written : IsPartWritten held (output records) now

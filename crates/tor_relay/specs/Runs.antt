@@ -1,0 +1,140 @@
+-- How the run of a tape ends: its status, and what is written at each.
+use Rattle.std.specs.Prelude.{◌≡◌, ◌⊎◌, ℕ, ◌-◌, ◌≤◌, List, [], ◌∷◌, ◌++◌, length, Option, Some, None}
+use Rattle.tr_io.specs.declared.status.Status.{Status}
+use Rattle.tr_io.specs.declared.status.Status.TheVariants.{Done, ReadFault, WriteFault, BadTape, NotBuilt, TooLong, Memory}
+use Rattle.tr_io.specs.Faults.{Rose}
+use Rattle.tor_relay.specs.declared.tape.input.Ending.{Ending}
+use Rattle.tor_relay.specs.declared.tape.input.Ending.TheVariants.{End, Fault, Limit}
+use Rattle.tor_relay.specs.declared.tape.record.Record.{Record}
+use Rattle.tor_relay.specs.Records.{FrontOf, record_and, less, no_record, unbuilt, front_of}
+use Rattle.switch_model.specs.Legal.{IsLegal}
+use Rattle.tor_relay.specs.Steps.{tape_start, steps_of, IsRecords, output}
+use Rattle.tor_relay.specs.Input.{tape_limit, EndCause, IsRead, IsTape}
+use Rattle.tor_relay.specs.Output.{IsWritten, IsPartWritten}
+
+-- What a source tells of its bytes and faults, before and after a run.
+pub record Reads : Type 0 where
+  pub left : Option (List ℕ)
+  pub faults : ℕ
+  pub left_after : Option (List ℕ)
+  pub faults_after : ℕ
+
+abbrev pub reads : Option (List ℕ) → ℕ → Option (List ℕ) → ℕ → Reads
+reads left faults left_after faults_after =
+    record { left = left; faults = faults; left_after = left_after; faults_after = faults_after }
+
+-- The same of a sink.
+pub record Writes : Type 0 where
+  pub held : Option (List ℕ)
+  pub faults : ℕ
+  pub held_after : Option (List ℕ)
+  pub faults_after : ℕ
+
+abbrev pub writes : Option (List ℕ) → ℕ → Option (List ℕ) → ℕ → Writes
+writes held faults held_after faults_after =
+    record { held = held; faults = faults; held_after = held_after; faults_after = faults_after }
+
+-- The status where the bytes that are left are less than a record, at this place.
+abbrev pub cut_status : Ending → ℕ → List ℕ → Status
+cut_status End place [] = Done
+cut_status End place (byte ∷ bytes) = BadTape place
+cut_status Fault place rest = ReadFault
+cut_status Limit place rest = TooLong
+
+-- The status by what stands at the first place that begins no record which is built. A bad place
+-- decides first, and then the end of the reading.
+abbrev pub status_by : Ending → ℕ → List ℕ → FrontOf → Option Status
+status_by ending place rest (record_and r behind) = None
+status_by ending place rest less = Some (cut_status ending place rest)
+status_by ending place rest no_record = Some (BadTape place)
+status_by ending place rest (unbuilt kind) = Some (NotBuilt kind)
+
+unfoldable pub status_at : Ending → ℕ → List ℕ → Option Status
+status_at ending place rest = status_by ending place rest (front_of rest)
+
+-- These bytes begin no record that is built.
+abbrev pub BeginsNone : List ℕ → Type 0
+BeginsNone bytes = (r : Record) (behind : List ℕ) → front_of bytes ≡ record_and r behind → ⊥
+
+-- Two readings of a tape are the same.
+pub record SameReading (a b : List Record) (x y : List ℕ) : Type 0 where
+  pub records : a ≡ b
+  pub rest : x ≡ y
+
+-- A tape has no other reading, up to a place that begins no record.
+abbrev pub IsOnlyReading : List ℕ → List Record → List ℕ → Type 0
+IsOnlyReading tape records rest =
+    (others : List Record) (other : List ℕ) → IsRecords tape others other → BeginsNone other → SameReading records others rest other
+
+-- The answers of some first records are the front of those of the whole tape.
+abbrev pub IsFrontOfOutput : List ℕ → List ℕ → Type 0
+IsFrontOfOutput tape answers =
+    (all : List Record) (rest : List ℕ) → IsRecords tape all rest → BeginsNone rest → (behind : List ℕ) × (output all ≡ answers ++ behind)
+
+-- The tape begins with these records. Their steps, each with its answer, are a legal history.
+pub record FirstRecords (tape rest : List ℕ) (records : List Record) : Type 0 where
+  pub read : IsRecords tape records rest
+  pub legal : IsLegal tape_start (steps_of records)
+  pub front : IsFrontOfOutput tape (output records)
+
+-- All of the tape's records were played, up to the first place that begins none, and answered.
+pub record Played (status : Status) (ending : Ending) (tape : List ℕ) (w : Writes) : Type 0 where
+  pub records : List Record
+  pub rest : List ℕ
+  pub first : FirstRecords tape rest records
+  pub ends : status_at ending (length tape - length rest) rest ≡ Some status
+  pub only : IsOnlyReading tape records rest
+  pub written : IsWritten w.held (output records) w.held_after
+
+-- The sink failed: a front of the output was written.
+pub record CutOff (status : Status) (tape : List ℕ) (w : Writes) : Type 0 where
+  pub is : status ≡ WriteFault
+  pub cause : Rose w.faults w.faults_after
+  pub records : List Record
+  pub rest : List ℕ
+  pub first : FirstRecords tape rest records
+  pub written : IsPartWritten w.held (output records) w.held_after
+
+-- Memory was wanting at some record: the answers of those before it were written, each whole.
+pub record OutOfMemory (status : Status) (tape : List ℕ) (w : Writes) : Type 0 where
+  pub is : status ≡ Memory
+  pub records : List Record
+  pub rest : List ℕ
+  pub first : FirstRecords tape rest records
+  pub written : IsWritten w.held (output records) w.held_after
+
+abbrev pub EndsPlay : Status → Ending → List ℕ → Writes → Type 0
+EndsPlay status ending tape w = Played status ending tape w ⊎ (CutOff status tape w ⊎ OutOfMemory status tape w)
+
+-- The tape was read, up to the end, a fault or the limit, and played.
+pub record Finished (status : Status) (r : Reads) (w : Writes) : Type 0 where
+  pub ending : Ending
+  pub tape : List ℕ
+  pub cause : EndCause ending r.faults r.faults_after
+  pub bytes : IsTape ending r.left tape r.left_after
+  pub play : EndsPlay status ending tape w
+
+-- Memory was wanting while the tape was read: nothing was written.
+pub record Unread (status : Status) (r : Reads) (w : Writes) : Type 0 where
+  pub is : status ≡ Memory
+  pub bytes : List ℕ
+  pub read : IsRead r.left bytes r.left_after
+  pub held : w.held_after ≡ w.held
+
+-- A run of a tape.
+unfoldable pub IsRun : Status → Reads → Writes → Type 0
+IsRun status r w = Finished status r w ⊎ Unread status r w
+
+-- A run of a tape that is these records and nothing else: all is done, and all answers are written,
+-- unless memory was wanting.
+unfoldable pub IsDone : Status → List Record → Writes → Type 0
+IsDone status records w = ((status ≡ Done) × IsWritten w.held (output records) w.held_after) ⊎ (status ≡ Memory)
+
+-- What makes a run end so: the source tells a tape that is these records and nothing else, it isn't
+-- too long, and neither source nor sink failed.
+pub record IsGood (tape : List ℕ) (records : List Record) (r : Reads) (w : Writes) : Type 0 where
+  pub told : r.left ≡ Some tape
+  pub whole : IsRecords tape records []
+  pub short : length tape ≤ tape_limit
+  pub reading : Rose r.faults r.faults_after → ⊥
+  pub writing : Rose w.faults w.faults_after → ⊥
