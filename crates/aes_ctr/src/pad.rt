@@ -4,18 +4,16 @@ ghost use Rattle.std.specs.Prelude.{◌≡◌, ◌-◌, ◌*◌, ◌%◌, ◌^�
 ghost use Rattle.std.specs.Simd.Lanes.{zip2};
 ghost use Rattle.crypto_spec.specs.Keystream.{keystream_part};
 
-use aes_block::Schedule;
 use aes_lanes::LaneKeys;
 
 /// Writes keystream over `pad`, from block `first` on.
-pub fn fill(pad: &mut [u8], schedule: &Schedule, first: u128)
+pub fn fill(pad: &mut [u8], keys: &LaneKeys, first: u128)
     requires groups { length pad.old % 128 ≡ 0 }
     requires short { length pad.old ≤ 1152 }
     requires eighth { first % 8 ≡ 0 }
     requires room { first < 2 ^ 100 }
-    ensures { pad.new ≡ keystream_part schedule.now (16 * first) (length pad.old) }
+    ensures { pad.new ≡ keystream_part keys.now (16 * first) (length pad.old) }
 {
-    let keys = LaneKeys::of(schedule);
     for group in 0..pad.len() / 128 {
         let blocks = keys.encrypt_numbers(first + 8 * group as u128);
         for k in 0..8 {

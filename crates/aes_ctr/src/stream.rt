@@ -6,6 +6,7 @@ ghost use Rattle.crypto_spec.specs.Keystream.{keystream_part};
 
 use crate::pad::{fill, move_down, xor};
 use aes_block::Schedule;
+use aes_lanes::LaneKeys;
 use std::marker::Model;
 
 /// One direction's keystream and the number of its next byte. A stream begins at byte 0. Up to 1,024
@@ -15,7 +16,7 @@ use std::marker::Model;
 /// that is begun by those 1,024 bytes and ends behind them.
 #[derive(Drop)]
 pub struct Stream {
-    schedule: Schedule,
+    keys: LaneKeys,
     position: u128,
     store: [u8; 1152],
     used: usize,
@@ -27,9 +28,9 @@ impl Model for Stream {
 
     ghost Value = { StreamState };
 
-    ghost view = { λ s. record { key = s.schedule; position = s.position; ready = s.ready } };
+    ghost view = { λ s. record { key = s.keys; position = s.position; ready = s.ready } };
 
-    ghost invariant = { λ s. IsStore s.schedule s.position s.store s.used s.ready };
+    ghost invariant = { λ s. IsStore s.keys s.position s.store s.used s.ready };
 }
 
 impl Stream {
@@ -40,7 +41,7 @@ impl Stream {
         ensures none { result.ready ≡ 0 }
     {
         Stream {
-            schedule: Schedule::of(key),
+            keys: LaneKeys::of(&Schedule::of(key)),
             position: 0,
             store: [0; 1152],
             used: 1152,
@@ -75,7 +76,7 @@ impl Stream {
             move_down(&mut self.store, more);
             fill(
                 &mut self.store[1152 - more..],
-                &self.schedule,
+                &self.keys,
                 (self.position + made as u128) / 16,
             );
             self.used -= more;
@@ -102,7 +103,7 @@ impl Stream {
     pub fn same(&self, other: &Stream) -> bool
         ensures { IsTrue result ↔ ((self.now.key ≡ other.now.key) × (self.now.position ≡ other.now.position)) }
     {
-        self.position == other.position && self.schedule.key() == other.schedule.key()
+        self.position == other.position && self.keys.key() == other.keys.key()
     }
 
     /// The same stream once more, at the same byte.
@@ -110,7 +111,7 @@ impl Stream {
         ensures { result ≡ self.now }
     {
         Stream {
-            schedule: self.schedule.copy(),
+            keys: self.keys.copy(),
             position: self.position,
             store: self.store,
             used: self.used,

@@ -57,23 +57,23 @@ after_run i b (and_of m n ∷ gates) xs vs x v d e =
 -- the gates in the order of the code
 abbrev pub gates : List Gate
 gates =
-    xor_of 6 5 ∷ xor_of 8 2 ∷ xor_of 9 6 ∷ xor_of 7 5 ∷ xor_of 0 2 ∷ xor_of 8 0 ∷ xor_of 5 6 ∷ xor_of 8 0 ∷
-    xor_of 15 10 ∷ xor_of 3 15 ∷ xor_of 0 7 ∷ xor_of 0 11 ∷ xor_of 14 6 ∷ xor_of 0 13 ∷ and_of 6 7 ∷
-    xor_of 6 7 ∷ xor_of 15 5 ∷ and_of 4 12 ∷ xor_of 11 22 ∷ and_of 17 2 ∷ xor_of 27 13 ∷ xor_of 6 1 ∷
-    xor_of 9 21 ∷ xor_of 6 21 ∷ and_of 3 12 ∷ xor_of 2 16 ∷ and_of 3 17 ∷ xor_of 16 4 ∷ and_of 17 25 ∷
-    and_of 1 25 ∷ xor_of 1 3 ∷ and_of 17 15 ∷ and_of 32 13 ∷ xor_of 3 4 ∷ xor_of 9 14 ∷ xor_of 3 17 ∷
-    xor_of 3 18 ∷ xor_of 6 0 ∷ xor_of 3 7 ∷ xor_of 5 3 ∷ xor_of 30 0 ∷ xor_of 3 15 ∷ xor_of 20 8 ∷
-    xor_of 1 2 ∷ xor_of 51 27 ∷ xor_of 2 21 ∷ and_of 5 0 ∷ xor_of 2 8 ∷ xor_of 6 1 ∷ xor_of 3 1 ∷
-    xor_of 2 3 ∷ and_of 2 1 ∷ xor_of 0 4 ∷ and_of 9 2 ∷ xor_of 3 1 ∷ and_of 0 7 ∷ xor_of 0 5 ∷
-    xor_of 3 15 ∷ xor_of 5 0 ∷ and_of 40 6 ∷ xor_of 14 7 ∷ and_of 3 4 ∷ xor_of 0 18 ∷ xor_of 2 7 ∷
-    xor_of 0 1 ∷ and_of 2 57 ∷ and_of 54 8 ∷ and_of 53 3 ∷ xor_of 15 4 ∷ and_of 4 46 ∷ xor_of 5 11 ∷
-    xor_of 13 8 ∷ and_of 59 3 ∷ and_of 73 20 ∷ and_of 15 63 ∷ and_of 66 10 ∷ and_of 4 59 ∷ and_of 5 75 ∷
-    and_of 74 7 ∷ and_of 8 51 ∷ xor_of 10 0 ∷ xor_of 6 1 ∷ and_of 79 23 ∷ xor_of 5 9 ∷ xor_of 1 5 ∷
-    and_of 22 78 ∷ and_of 17 81 ∷ xor_of 10 5 ∷ xor_of 3 2 ∷ and_of 73 25 ∷ xor_of 2 4 ∷ xor_of 2 10 ∷
-    xor_of 26 25 ∷ xor_of 20 16 ∷ xor_of 7 4 ∷ xor_of 0 6 ∷ xor_of 0 8 ∷ xor_of 3 13 ∷ xor_of 20 5 ∷
-    xor_of 9 39 ∷ xor_of 15 2 ∷ and_of 80 43 ∷ xor_of 23 26 ∷ xor_of 36 29 ∷ xor_of 2 6 ∷ xor_of 12 4 ∷
-    xor_of 38 10 ∷ xor_of 15 2 ∷ xor_of 8 0 ∷ xor_of 15 2 ∷ xor_of 11 18 ∷ xor_of 20 1 ∷ xor_of 21 4 ∷
-    xor_of 10 0 ∷ xor_of 7 10 ∷ []
+    xor_of 2 4 ∷ xor_of 5 8 ∷ xor_of 9 3 ∷ xor_of 2 0 ∷ xor_of 7 0 ∷ xor_of 11 0 ∷ xor_of 13 8 ∷
+    xor_of 13 12 ∷ xor_of 10 3 ∷ xor_of 3 7 ∷ and_of 1 6 ∷ xor_of 11 3 ∷ xor_of 3 4 ∷ xor_of 5 3 ∷
+    xor_of 2 15 ∷ xor_of 5 15 ∷ and_of 9 3 ∷ xor_of 2 10 ∷ xor_of 9 18 ∷ xor_of 7 26 ∷ xor_of 17 6 ∷
+    and_of 2 3 ∷ xor_of 12 9 ∷ and_of 11 8 ∷ xor_of 17 11 ∷ and_of 23 15 ∷ xor_of 30 14 ∷ xor_of 16 5 ∷
+    and_of 1 28 ∷ and_of 13 9 ∷ xor_of 13 4 ∷ xor_of 20 2 ∷ and_of 31 9 ∷ xor_of 7 0 ∷ xor_of 3 2 ∷
+    and_of 32 21 ∷ xor_of 22 43 ∷ xor_of 9 3 ∷ xor_of 3 13 ∷ xor_of 1 33 ∷ xor_of 4 16 ∷ xor_of 11 5 ∷
+    xor_of 1 8 ∷ xor_of 0 22 ∷ and_of 4 0 ∷ xor_of 3 14 ∷ xor_of 1 7 ∷ xor_of 7 8 ∷ xor_of 11 2 ∷
+    xor_of 4 0 ∷ and_of 2 0 ∷ xor_of 12 0 ∷ and_of 0 36 ∷ xor_of 4 9 ∷ and_of 7 0 ∷ xor_of 6 0 ∷
+    xor_of 0 4 ∷ and_of 30 1 ∷ xor_of 8 2 ∷ xor_of 15 3 ∷ and_of 1 11 ∷ xor_of 1 0 ∷ xor_of 0 6 ∷
+    and_of 63 7 ∷ xor_of 3 14 ∷ and_of 13 0 ∷ xor_of 18 0 ∷ xor_of 15 0 ∷ and_of 1 53 ∷ xor_of 0 16 ∷
+    and_of 67 2 ∷ xor_of 9 4 ∷ xor_of 15 0 ∷ and_of 64 10 ∷ and_of 61 2 ∷ and_of 2 52 ∷ and_of 19 74 ∷
+    and_of 20 67 ∷ xor_of 14 7 ∷ and_of 12 67 ∷ and_of 12 66 ∷ and_of 29 61 ∷ and_of 20 64 ∷ xor_of 5 7 ∷
+    xor_of 3 10 ∷ xor_of 15 14 ∷ xor_of 5 2 ∷ xor_of 2 8 ∷ and_of 25 84 ∷ xor_of 7 1 ∷ xor_of 7 1 ∷
+    and_of 90 18 ∷ xor_of 0 15 ∷ xor_of 0 13 ∷ xor_of 6 1 ∷ xor_of 20 19 ∷ xor_of 43 32 ∷ xor_of 6 3 ∷
+    xor_of 2 4 ∷ and_of 80 37 ∷ and_of 93 28 ∷ xor_of 6 31 ∷ xor_of 10 1 ∷ xor_of 3 5 ∷ xor_of 18 5 ∷
+    xor_of 25 18 ∷ xor_of 16 7 ∷ xor_of 22 3 ∷ xor_of 2 0 ∷ xor_of 3 2 ∷ xor_of 12 23 ∷ xor_of 28 53 ∷
+    xor_of 5 0 ∷ xor_of 9 16 ∷ xor_of 4 11 ∷ []
 
 -- the wires at the start
 abbrev pub planes_in : Planes → List (List ℕ)
@@ -86,8 +86,8 @@ circuit_byte v = bit_xor (sub_byte v) 0x63
 -- the wires that carry the result, its lowest bit first
 abbrev pub results : {A : Type 0} → A → List A → List A
 results none wires =
-    get_or wires 9 none ∷ get_or wires 4 none ∷ get_or wires 6 none ∷ get_or wires 0 none
-    ∷ get_or wires 5 none ∷ get_or wires 1 none ∷ get_or wires 3 none ∷ get_or wires 18 none ∷ []
+    get_or wires 13 none ∷ get_or wires 10 none ∷ get_or wires 2 none ∷ get_or wires 1 none
+    ∷ get_or wires 7 none ∷ get_or wires 0 none ∷ get_or wires 6 none ∷ get_or wires 4 none ∷ []
 
 bits_everywhere : map (λ v. results (bit_at v 0) (run xor_bits min (bit_at v 0) gates (bits_of v))) (range_with_len 0 256) ≡ map (λ v. bits_of (circuit_byte v)) (range_with_len 0 256)
 unfolding run times_bits times inverse_from inverse sub_byte
@@ -122,33 +122,33 @@ wire_out x i b v m e =
     (after_run i b gates (planes_in x) (bits_of v) x.bit0 (bit_at v 0) (e.bits 0 (lit< tt)) (planes_agree x i b v e))
 
 pub substituted_bit0 : (x : Planes) (i b v : ℕ) → v < 256 → IsByte x i b v →
-    IsBit (get_or (run (zip2 bit_xor) (zip2 bit_and) x.bit0 gates (planes_in x)) 9 x.bit0) i b (bit_at (circuit_byte v) 0)
-substituted_bit0 x i b v s e = IsBit-value (wire_out x i b v 9 e) (result_bit v 0 s)
+    IsBit (get_or (run (zip2 bit_xor) (zip2 bit_and) x.bit0 gates (planes_in x)) 13 x.bit0) i b (bit_at (circuit_byte v) 0)
+substituted_bit0 x i b v s e = IsBit-value (wire_out x i b v 13 e) (result_bit v 0 s)
 
 pub substituted_bit1 : (x : Planes) (i b v : ℕ) → v < 256 → IsByte x i b v →
-    IsBit (get_or (run (zip2 bit_xor) (zip2 bit_and) x.bit0 gates (planes_in x)) 4 x.bit0) i b (bit_at (circuit_byte v) 1)
-substituted_bit1 x i b v s e = IsBit-value (wire_out x i b v 4 e) (result_bit v 1 s)
+    IsBit (get_or (run (zip2 bit_xor) (zip2 bit_and) x.bit0 gates (planes_in x)) 10 x.bit0) i b (bit_at (circuit_byte v) 1)
+substituted_bit1 x i b v s e = IsBit-value (wire_out x i b v 10 e) (result_bit v 1 s)
 
 pub substituted_bit2 : (x : Planes) (i b v : ℕ) → v < 256 → IsByte x i b v →
-    IsBit (get_or (run (zip2 bit_xor) (zip2 bit_and) x.bit0 gates (planes_in x)) 6 x.bit0) i b (bit_at (circuit_byte v) 2)
-substituted_bit2 x i b v s e = IsBit-value (wire_out x i b v 6 e) (result_bit v 2 s)
+    IsBit (get_or (run (zip2 bit_xor) (zip2 bit_and) x.bit0 gates (planes_in x)) 2 x.bit0) i b (bit_at (circuit_byte v) 2)
+substituted_bit2 x i b v s e = IsBit-value (wire_out x i b v 2 e) (result_bit v 2 s)
 
 pub substituted_bit3 : (x : Planes) (i b v : ℕ) → v < 256 → IsByte x i b v →
-    IsBit (get_or (run (zip2 bit_xor) (zip2 bit_and) x.bit0 gates (planes_in x)) 0 x.bit0) i b (bit_at (circuit_byte v) 3)
-substituted_bit3 x i b v s e = IsBit-value (wire_out x i b v 0 e) (result_bit v 3 s)
+    IsBit (get_or (run (zip2 bit_xor) (zip2 bit_and) x.bit0 gates (planes_in x)) 1 x.bit0) i b (bit_at (circuit_byte v) 3)
+substituted_bit3 x i b v s e = IsBit-value (wire_out x i b v 1 e) (result_bit v 3 s)
 
 pub substituted_bit4 : (x : Planes) (i b v : ℕ) → v < 256 → IsByte x i b v →
-    IsBit (get_or (run (zip2 bit_xor) (zip2 bit_and) x.bit0 gates (planes_in x)) 5 x.bit0) i b (bit_at (circuit_byte v) 4)
-substituted_bit4 x i b v s e = IsBit-value (wire_out x i b v 5 e) (result_bit v 4 s)
+    IsBit (get_or (run (zip2 bit_xor) (zip2 bit_and) x.bit0 gates (planes_in x)) 7 x.bit0) i b (bit_at (circuit_byte v) 4)
+substituted_bit4 x i b v s e = IsBit-value (wire_out x i b v 7 e) (result_bit v 4 s)
 
 pub substituted_bit5 : (x : Planes) (i b v : ℕ) → v < 256 → IsByte x i b v →
-    IsBit (get_or (run (zip2 bit_xor) (zip2 bit_and) x.bit0 gates (planes_in x)) 1 x.bit0) i b (bit_at (circuit_byte v) 5)
-substituted_bit5 x i b v s e = IsBit-value (wire_out x i b v 1 e) (result_bit v 5 s)
+    IsBit (get_or (run (zip2 bit_xor) (zip2 bit_and) x.bit0 gates (planes_in x)) 0 x.bit0) i b (bit_at (circuit_byte v) 5)
+substituted_bit5 x i b v s e = IsBit-value (wire_out x i b v 0 e) (result_bit v 5 s)
 
 pub substituted_bit6 : (x : Planes) (i b v : ℕ) → v < 256 → IsByte x i b v →
-    IsBit (get_or (run (zip2 bit_xor) (zip2 bit_and) x.bit0 gates (planes_in x)) 3 x.bit0) i b (bit_at (circuit_byte v) 6)
-substituted_bit6 x i b v s e = IsBit-value (wire_out x i b v 3 e) (result_bit v 6 s)
+    IsBit (get_or (run (zip2 bit_xor) (zip2 bit_and) x.bit0 gates (planes_in x)) 6 x.bit0) i b (bit_at (circuit_byte v) 6)
+substituted_bit6 x i b v s e = IsBit-value (wire_out x i b v 6 e) (result_bit v 6 s)
 
 pub substituted_bit7 : (x : Planes) (i b v : ℕ) → v < 256 → IsByte x i b v →
-    IsBit (get_or (run (zip2 bit_xor) (zip2 bit_and) x.bit0 gates (planes_in x)) 18 x.bit0) i b (bit_at (circuit_byte v) 7)
-substituted_bit7 x i b v s e = IsBit-value (wire_out x i b v 18 e) (result_bit v 7 s)
+    IsBit (get_or (run (zip2 bit_xor) (zip2 bit_and) x.bit0 gates (planes_in x)) 4 x.bit0) i b (bit_at (circuit_byte v) 7)
+substituted_bit7 x i b v s e = IsBit-value (wire_out x i b v 4 e) (result_bit v 7 s)

@@ -5,7 +5,7 @@ ghost use Rattle.crypto_spec.specs.Aes.{aes};
 ghost use Rattle.aes_lanes.specs.Sliced.{IsState, masked};
 
 use crate::planes::Planes;
-use crate::rounds::{keyed, mixed, moved};
+use crate::rounds::{finished, keyed, rounded};
 use crate::rows::{joined, row, sliced};
 use aes_block::Schedule;
 use std::marker::Model;
@@ -69,6 +69,24 @@ impl LaneKeys {
         }
     }
 
+    /// The key's 16 bytes.
+    pub fn key(&self) -> &[u8; 16]
+        ensures { result.now ≡ self.now }
+    {
+        &self.key
+    }
+
+    /// The same round keys once more.
+    pub fn copy(&self) -> LaneKeys
+        ensures { result ≡ self.now }
+    {
+        LaneKeys {
+            key: self.key,
+            first: self.first,
+            others: self.others,
+        }
+    }
+
     /// The cipher of each of eight blocks.
     pub fn encrypt8(&self, blocks: &mut [[u8; 16]; 8])
         ensures { blocks.new ≡ map (aes self.now) blocks.old }
@@ -76,15 +94,22 @@ impl LaneKeys {
         *blocks = joined(self.passed(sliced(blocks)));
     }
 
-    /// The cipher of the blocks that the planes hold.
+    /// The cipher of the blocks that the planes hold. The rounds stand one behind another, since the
+    /// planes of a state fill all registers: a loop would move them at each turn.
     #[inline(always)]
     pub(crate) fn passed(&self, state: Planes) -> Planes
         ensures { (b : ℕ) (s : List ℕ) → b < 8 → IsState state b s → IsState result b (aes self.now s) }
     {
-        let mut state = keyed(state, self.first);
-        for round in 0..9 {
-            state = keyed(mixed(moved(state)), self.others[round]);
-        }
-        keyed(moved(state), self.others[9])
+        let start = keyed(state, self.first);
+        let round1 = rounded(start, self.others[0]);
+        let round2 = rounded(round1, self.others[1]);
+        let round3 = rounded(round2, self.others[2]);
+        let round4 = rounded(round3, self.others[3]);
+        let round5 = rounded(round4, self.others[4]);
+        let round6 = rounded(round5, self.others[5]);
+        let round7 = rounded(round6, self.others[6]);
+        let round8 = rounded(round7, self.others[7]);
+        let round9 = rounded(round8, self.others[8]);
+        finished(round9, self.others[9])
     }
 }

@@ -7,5 +7,5 @@ use Rattle.aes_ctr.proofs.stream.Stream.ready.Goals as goal
 pub returns-clause-next : goal.returns-clause-next
 returns-clause-next c =
     let s = c.self.inside in
-    all_ready s.schedule s.position s.store s.used s.ready c.self.invariant
+    all_ready s.keys s.position s.store s.used s.ready c.self.invariant
     ∙ ap (λ (t : StreamState). keystream_part t.key t.position t.ready) c.self.view_is

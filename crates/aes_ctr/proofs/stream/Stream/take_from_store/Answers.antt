@@ -10,7 +10,7 @@ pub invariant_of-self : goal.invariant_of-self
 invariant_of-self c =
     let s = c.self.inside in
     let ready : s.ready ≡ c.args.self.now.ready = ap (λ (t : StreamState). t.ready) c.self.view_is in
-    left s.schedule s.position s.store s.used s.ready c.self.invariant (omega (arith, c.requires.enough, ready))
+    left s.keys s.position s.store s.used s.ready c.self.invariant (omega (arith, c.requires.enough, ready))
 
 pub returns-clause-body : goal.returns-clause-body
 returns-clause-body c =
@@ -18,5 +18,5 @@ returns-clause-body c =
     let ready : s.ready ≡ c.args.self.now.ready = ap (λ (t : StreamState). t.ready) c.self.view_is in
     c.xor.ensures
     ∙ ap (zip2 bit_xor c.args.body.now)
-    (taken s.schedule s.position s.store s.used s.ready c.self.invariant (omega (arith, c.requires.enough, ready))
+    (taken s.keys s.position s.store s.used s.ready c.self.invariant (omega (arith, c.requires.enough, ready))
     ∙ ap (λ (t : StreamState). keystream_part t.key t.position 509) c.self.view_is)
