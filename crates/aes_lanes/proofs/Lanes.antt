@@ -1,10 +1,10 @@
 -- Lanes of vectors, and their bits.
-use Rattle.std.proofs.Common.{◌≡◌, ℕ, zero, suc, ◌+◌, ◌%◌, ◌<◌, min, List, [], ◌∷◌, length, get_or, replicate, refl, subst, ap, sym, ◌∙◌, arith}
-use Rattle.std.specs.Prelude.{bit_xor, bit_and}
+use Rattle.std.proofs.Common.{◌≡◌, ℕ, zero, suc, ◌+◌, ◌%◌, ◌<◌, min, max, List, [], ◌∷◌, length, get_or, replicate, refl, subst, ap, sym, ◌∙◌, arith}
+use Rattle.std.specs.Prelude.{bit_xor, bit_and, bit_or}
 use Rattle.std.specs.Int.{bit_at}
 use Rattle.std.specs.Simd.Lanes.{zip2}
 use Rattle.std.proofs.lemmas.Simd.{get_or-zip2, get_or-replicate}
-use Rattle.std.proofs.lemmas.Nat.Bits.{bit_at_xor, bit_at_and}
+use Rattle.std.proofs.lemmas.Nat.Bits.{bit_at_xor, bit_at_and, bit_at_or}
 use Rattle.aes_lanes.specs.Bits.{IsBit}
 
 -- lane i of a vector is v
@@ -45,6 +45,12 @@ IsBit-and {xs} {ys} {i} {b} {m} {n} x y =
     IsBit-lane b _ (IsLane-zip2 bit_and (IsLane-self x) (IsLane-self y))
     (bit_at_and (get_or xs i 0) (get_or ys i 0) b
     ∙ ap (λ (k : ℕ). min k (bit_at (get_or ys i 0) b)) x.bit ∙ ap (λ (k : ℕ). min m k) y.bit)
+
+pub IsBit-or : {xs ys : List ℕ} {i b m n : ℕ} → IsBit xs i b m → IsBit ys i b n → IsBit (zip2 bit_or xs ys) i b (max m n)
+IsBit-or {xs} {ys} {i} {b} {m} {n} x y =
+    IsBit-lane b _ (IsLane-zip2 bit_or (IsLane-self x) (IsLane-self y))
+    (bit_at_or (get_or xs i 0) (get_or ys i 0) b
+    ∙ ap (λ (k : ℕ). max k (bit_at (get_or ys i 0) b)) x.bit ∙ ap (λ (k : ℕ). max m k) y.bit)
 
 pub IsBit-value : {xs : List ℕ} {i b m n : ℕ} → IsBit xs i b m → m ≡ n → IsBit xs i b n
 IsBit-value x e = record { within = x.within; bit = x.bit ∙ e }

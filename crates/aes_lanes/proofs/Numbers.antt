@@ -1,9 +1,9 @@
 -- Eight numbers in a row, as planes.
-use Rattle.std.proofs.Common.{◌≡◌, ℕ, ◌+◌, ◌*◌, ◌/◌, ◌%◌, ◌<◌, cond, List, [], ◌∷◌, get_or, refl, ap, sym, subst, ◌∙◌, lit<, arith}
+use Rattle.std.proofs.Common.{◌≡◌, ℕ, zero, suc, ◌+◌, ◌*◌, ◌/◌, ◌%◌, ◌^◌, ◌<◌, cond, List, [], ◌∷◌, get_or, refl, ap, sym, subst, ◌∙◌, lit<, arith}
 use Rattle.std.specs.Prelude.{bit_xor, nat_eq}
 use Rattle.std.specs.Int.{bit_at, w128, to_be_bytes}
 use Rattle.std.specs.Simd.Lanes.{zip2}
-use Rattle.std.proofs.Math.Nat.{div-div-eq-div-mul}
+use Rattle.std.proofs.Math.Nat.{div-div-eq-div-mul, pow-suc}
 use Rattle.std.proofs.lemmas.Nat.Bits.{bit_at-zero, bit_at-lt}
 use Rattle.aes_lanes.specs.Bits.{IsBit}
 use Rattle.aes_lanes.specs.Places.{lane_of}
@@ -161,6 +161,53 @@ count_at first b i small eighth h =
 small_byte : (n i : ℕ) → i < 16 → get_or (to_be_bytes w128 n) i 0 < 256
 small_byte n = below_sixteen (λ i. get_or (to_be_bytes w128 n) i 0 < 256)
     (omega arith) (omega arith) (omega arith) (omega arith) (omega arith) (omega arith) (omega arith) (omega arith) (omega arith) (omega arith) (omega arith) (omega arith) (omega arith) (omega arith) (omega arith) (omega arith)
+
+-- a number without its lowest bytes
+unfoldable pub without_bytes : ℕ → ℕ → ℕ
+without_bytes zero n = n
+without_bytes (suc k) n = without_bytes k n / 256
+
+byte_over : (k n : ℕ) → without_bytes (suc k) n ≡ n / 256 ^ suc k
+unfolding without_bytes
+byte_over zero n = refl
+byte_over (suc k) n =
+    ap (λ (m : ℕ). m / 256) (byte_over k n) ∙ div-div-eq-div-mul n (256 ^ suc k) 256 ∙ ap (λ (m : ℕ). n / m) (sym (pow-suc 256 (suc k)))
+
+byte_at : (x n k : ℕ) → x ≡ n → without_bytes (suc k) x % 256 ≡ n / 256 ^ suc k % 256
+byte_at x n k e = ap (λ (m : ℕ). without_bytes (suc k) m % 256) e ∙ ap (λ (m : ℕ). m % 256) (byte_over k n)
+
+-- its bytes in the lanes of a block
+abbrev pub number_lanes : ℕ → List ℕ
+number_lanes n =
+    without_bytes 15 n % 256 ∷ without_bytes 11 n % 256 ∷ without_bytes 7 n % 256 ∷ without_bytes 3 n % 256
+    ∷ without_bytes 14 n % 256 ∷ without_bytes 10 n % 256 ∷ without_bytes 6 n % 256 ∷ without_bytes 2 n % 256
+    ∷ without_bytes 13 n % 256 ∷ without_bytes 9 n % 256 ∷ without_bytes 5 n % 256 ∷ without_bytes 1 n % 256
+    ∷ without_bytes 12 n % 256 ∷ without_bytes 8 n % 256 ∷ without_bytes 4 n % 256 ∷ without_bytes 0 n % 256 ∷ []
+
+pub IsRow-number : (halves n : ℕ) → halves ≡ n → IsRow (number_lanes halves) (to_be_bytes w128 n)
+unfolding without_bytes
+IsRow-number x n e = record {
+  long = refl;
+  lanes = refl;
+  small = λ i h. small_byte n i h;
+  bytes = below_sixteen (λ i. get_or (number_lanes x) (lane_of i) 0 ≡ get_or (to_be_bytes w128 n) i 0)
+      (byte_at x n 14 e)
+      (byte_at x n 13 e)
+      (byte_at x n 12 e)
+      (byte_at x n 11 e)
+      (byte_at x n 10 e)
+      (byte_at x n 9 e)
+      (byte_at x n 8 e)
+      (byte_at x n 7 e)
+      (byte_at x n 6 e)
+      (byte_at x n 5 e)
+      (byte_at x n 4 e)
+      (byte_at x n 3 e)
+      (byte_at x n 2 e)
+      (byte_at x n 1 e)
+      (byte_at x n 0 e)
+      (ap (λ (m : ℕ). m % 256) e);
+}
 
 pub numbers_state : (x : Planes) (row u v w : List ℕ) (first b : ℕ) → first % 8 ≡ 0 → b < 8 → IsRow row (to_be_bytes w128 first) →
     ((l : ℕ) → l < 16 → IsByte x l b (get_or row l 0)) →

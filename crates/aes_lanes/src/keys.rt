@@ -94,22 +94,16 @@ impl LaneKeys {
         *blocks = joined(self.passed(sliced(blocks)));
     }
 
-    /// The cipher of the blocks that the planes hold. The rounds stand one behind another, since the
-    /// planes of a state fill all registers: a loop would move them at each turn.
+    /// The cipher of the blocks that the planes hold. The rounds are a loop, whose code a processor keeps
+    /// decoded: written one behind another they take longer.
     #[inline(always)]
     pub(crate) fn passed(&self, state: Planes) -> Planes
         ensures { (b : ℕ) (s : List ℕ) → b < 8 → IsState state b s → IsState result b (aes self.now s) }
     {
-        let start = keyed(state, self.first);
-        let round1 = rounded(start, self.others[0]);
-        let round2 = rounded(round1, self.others[1]);
-        let round3 = rounded(round2, self.others[2]);
-        let round4 = rounded(round3, self.others[3]);
-        let round5 = rounded(round4, self.others[4]);
-        let round6 = rounded(round5, self.others[5]);
-        let round7 = rounded(round6, self.others[6]);
-        let round8 = rounded(round7, self.others[7]);
-        let round9 = rounded(round8, self.others[8]);
-        finished(round9, self.others[9])
+        let mut state = keyed(state, self.first);
+        for round in 0..9 {
+            state = rounded(state, self.others[round]);
+        }
+        finished(state, self.others[9])
     }
 }

@@ -22,7 +22,7 @@ const USAGE: &str =
 enum Request {
     /// Apply the keystream of the zero key to a body again and again.
     Apply(u32),
-    /// The cipher of eight blocks again and again.
+    /// The cipher of eight blocks, of that cipher, and so on.
     Eight(u32),
     /// Let a body go by a running digest again and again.
     Digest(u32),
@@ -86,15 +86,11 @@ fn many_bodies(alloc: Global, count: u32) -> Result<String, AllocError> {
 
 fn many_eights(alloc: Global, count: u32) -> Result<String, AllocError> {
     let keys = LaneKeys::of(&Schedule::of(&[0; 16]));
-    let mut sum = [0; 16];
-    for n in 0..count {
-        let mut blocks = [(n as u128).to_be_bytes(); 8];
+    let mut blocks = [[0; 16]; 8];
+    for _done in 0..count {
         keys.encrypt8(&mut blocks);
-        for k in 0..16 {
-            sum[k] ^= blocks[7][k];
-        }
     }
-    hex::encode(alloc, sum.as_slice())
+    hex::encode(alloc, blocks[7].as_slice())
 }
 
 fn many_digests(alloc: Global, count: u32) -> Result<String, AllocError> {
