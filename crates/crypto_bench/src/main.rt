@@ -22,7 +22,7 @@ const USAGE: &str =
 enum Request {
     /// Apply the keystream of the zero key to a body again and again.
     Apply(u32),
-    /// The cipher of eight blocks, of that cipher, and so on.
+    /// The cipher of eight blocks again and again: four groups take turns, each over its last cipher.
     Eight(u32),
     /// Let a body go by a running digest again and again.
     Digest(u32),
@@ -86,11 +86,11 @@ fn many_bodies(alloc: Global, count: u32) -> Result<String, AllocError> {
 
 fn many_eights(alloc: Global, count: u32) -> Result<String, AllocError> {
     let keys = LaneKeys::of(&Schedule::of(&[0; 16]));
-    let mut blocks = [[0; 16]; 8];
-    for _done in 0..count {
-        keys.encrypt8(&mut blocks);
+    let mut groups = [[[0; 16]; 8]; 4];
+    for n in 0..count as usize {
+        keys.encrypt8(&mut groups[n % 4]);
     }
-    hex::encode(alloc, blocks[7].as_slice())
+    hex::encode(alloc, groups[0][7].as_slice())
 }
 
 fn many_digests(alloc: Global, count: u32) -> Result<String, AllocError> {
