@@ -14,3 +14,4 @@ pub mod RelayCells
 pub mod Texts
 pub mod VersionsLength
 pub mod WrongStarts
+pub mod Fitting

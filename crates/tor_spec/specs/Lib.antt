@@ -1,4 +1,5 @@
 pub mod Begin
+pub mod CellCommands
 pub mod CellEncoding
 pub mod CellReading
 pub mod CellStream
@@ -8,8 +9,10 @@ pub mod Decimal
 pub mod Ends
 pub mod Extend
 pub mod Netinfo
+pub mod Reasons
 pub mod RelayCell
 pub mod Resolve
 pub mod Sendme
+pub mod StreamWindow
 pub mod Text
 pub mod Versions

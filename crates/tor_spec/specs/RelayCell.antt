@@ -1,6 +1,6 @@
 -- Relay cells (tor-spec, "Relay cells"): what the 509 bytes of a relay cell's body hold once
 -- every layer of encryption is off. Bytes are numbers below 256, numbers are big-endian.
-use Rattle.std.specs.Prelude.{ℕ, ◌-◌, [], ◌∷◌, ◌++◌, List, length, Bool, nat_le, take, drop, replicate, slice_index, slice_range}
+use Rattle.std.specs.Prelude.{ℕ, ◌+◌, ◌-◌, [], ◌∷◌, ◌++◌, List, length, Bool, nat_le, take, drop, replicate, slice_index, slice_range}
 use Rattle.std.specs.Int.{w16, to_be_bytes, from_be_bytes}
 
 -- The fields in front of the data.
@@ -47,6 +47,12 @@ unsealed_head command stream size =
 -- The body with its Digest field, at offsets 5 to 8, set to these four bytes.
 unfoldable pub with_digest : List ℕ → List ℕ → List ℕ
 with_digest body first_four = take 5 body ++ first_four ++ drop 9 body
+
+-- The body with the bytes of another one as its padding. The payload ends with up to four zero bytes
+-- (tor-spec, "Relay cells"), which stay.
+unfoldable pub with_padding : List ℕ → List ℕ → List ℕ
+with_padding body from =
+    take (15 + (relay_head body).length) body ++ drop (15 + (relay_head body).length) from
 
 -- The relay commands.
 abbrev pub begin_command : ℕ
