@@ -27,12 +27,12 @@ impl Body {
 }
 
 /// A cell of a link (tor-spec, "Cell format"). It is well formed where its body is variable
-/// exactly where its command is (7, and 128 and above) and isn't too long.
+/// exactly where its command is (VERSIONS, and 128 and above) and isn't too long.
 #[derive(Drop)]
 pub struct Cell {
     /// The CircID. 0 is for the link itself.
     pub circ: u32,
-    /// The command: 3 is RELAY, 7 is VERSIONS, and so on.
+    /// What the cell is, as one of [`command`](crate::command).
     pub command: u8,
     /// The payload.
     pub body: Body,

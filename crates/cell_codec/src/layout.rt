@@ -13,8 +13,5 @@ pub const LENGTH: usize = 2;
 /// Bytes of a fixed-length payload.
 pub const PAYLOAD: usize = 509;
 
-/// The command of VERSIONS.
-pub const VERSIONS: u8 = 7;
-
 /// The least command, beside VERSIONS, of a cell of variable length.
 pub const LEAST_VARIABLE: u8 = 128;

@@ -7,7 +7,10 @@
 
 mod byte_list;
 mod cell;
+pub mod command;
 mod decoder;
+pub mod destroy_reason;
+pub mod laws;
 mod layout;
 mod list;
 mod queue;

@@ -3,7 +3,8 @@ ghost use Rattle.std.specs.Int.{w16, to_be_bytes};
 ghost use Rattle.tor_spec.specs.CellEncoding.{is_variable};
 ghost use Rattle.tor_spec.specs.CellReading.{cell_size, first_size, wrong_start};
 
-use crate::layout::{CIRC, COMMAND, FIRST_CIRC, LEAST_VARIABLE, LENGTH, PAYLOAD, VERSIONS};
+use crate::command::VERSIONS;
+use crate::layout::{CIRC, COMMAND, FIRST_CIRC, LEAST_VARIABLE, LENGTH, PAYLOAD};
 
 /// The byte at `i` of `rest` and then `piece`.
 fn byte_at(rest: &[u8], piece: &[u8], i: usize) -> u8

@@ -1,7 +1,10 @@
 ghost use Rattle.std.specs.Prelude.{◌<◌, All};
 ghost use Rattle.cell_codec.specs.Cells.{IsWellFormed};
 
-use crate::{Body, Bytes, Cell, DecodeFault, Decoder, List, Queue, write_cell, write_versions};
+use crate::{
+    Body, Bytes, Cell, DecodeFault, Decoder, List, Queue, command, destroy_reason, write_cell,
+    write_versions,
+};
 use std::alloc::{AllocError, Global};
 use std::test::Fail;
 
@@ -9,10 +12,10 @@ use std::test::Fail;
 fn cells_lie_on_a_link_as_the_standard_says(rt: HostRuntime) -> Result<(), Fail> {
     let mut out = Vec::new(rt.alloc());
     let mut body = [0; 509];
-    body[0] = 3;
+    body[0] = destroy_reason::REQUESTED;
     let destroy = Cell {
         circ: 0x8000_0001,
-        command: 4,
+        command: command::DESTROY,
         body: Body::Fixed(body),
     };
     write_cell(&destroy, &mut out)?;
@@ -22,7 +25,7 @@ fn cells_lie_on_a_link_as_the_standard_says(rt: HostRuntime) -> Result<(), Fail>
     out.clear();
     let padding = Cell {
         circ: 0,
-        command: 128,
+        command: command::VPADDING,
         body: Body::Var(Bytes::of(rt.alloc(), &[9, 8, 7])?),
     };
     write_cell(&padding, &mut out)?;
@@ -87,7 +90,7 @@ fn a_cell_cut_anywhere_is_the_same_cell(rt: HostRuntime) -> Result<(), Fail> {
     let mut bytes = Vec::new(rt.alloc());
     let relay = Cell {
         circ: 0x0102_0304,
-        command: 3,
+        command: command::RELAY,
         body: Body::Fixed([7; 509]),
     };
     write_cell(&relay, &mut bytes)?;
@@ -111,7 +114,7 @@ fn a_link_begins_with_versions(rt: HostRuntime) -> Result<(), Fail> {
     write_versions(&[4], &mut bytes)?;
     let netinfo = Cell {
         circ: 0,
-        command: 8,
+        command: command::NETINFO,
         body: Body::Fixed([0; 509]),
     };
     write_cell(&netinfo, &mut bytes)?;
@@ -119,21 +122,24 @@ fn a_link_begins_with_versions(rt: HostRuntime) -> Result<(), Fail> {
     let cells = decoder.feed(bytes.as_slice())?;
     let commands = cells.as_slice();
     assert_eq!(rt; commands.len(), 2);
-    assert_eq!(rt; (commands[0].command, commands[1].command), (7, 8));
+    assert_eq!(rt;
+        (commands[0].command, commands[1].command),
+        (command::VERSIONS, command::NETINFO)
+    );
 
     for (start, fault) in [
         (
             [0, 0, 3],
             DecodeFault::BadFirst {
                 circ: 0,
-                command: 3,
+                command: command::RELAY,
             },
         ),
         (
             [1, 2, 7],
             DecodeFault::BadFirst {
                 circ: 258,
-                command: 7,
+                command: command::VERSIONS,
             },
         ),
     ] {
@@ -174,7 +180,7 @@ fn random_cells(alloc: Global, noise: &[u8], seed: &mut u64) -> Result<Vec<u8>, 
     let mut cells = Vec::new(alloc);
     for _ in 0..1000 {
         let command = (next(seed) % 256) as u8;
-        let body = if command == 7 || command >= 128 {
+        let body = if command == command::VERSIONS || command >= command::VPADDING {
             let size = (next(seed) % 1000) as usize;
             Body::Var(Bytes::of(alloc, &noise[..size.min(noise.len())])?)
         } else {

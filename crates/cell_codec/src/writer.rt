@@ -4,7 +4,8 @@ ghost use Rattle.tor_spec.specs.Versions.{versions_cell};
 ghost use Rattle.cell_codec.specs.Cells.{wire_cell, IsWellFormed};
 
 use crate::cell::{Body, Cell};
-use crate::layout::{CIRC, COMMAND, FIRST_CIRC, LENGTH, VERSIONS};
+use crate::command;
+use crate::layout::{CIRC, COMMAND, FIRST_CIRC, LENGTH};
 use std::alloc::AllocError;
 
 /// Adds the cell to `out` as it lies on a link (tor-spec, "Cell format"): 514 bytes for a cell of
@@ -50,7 +51,7 @@ pub fn write_versions(versions: &[u16], out: &mut Vec<u8>) -> Result<(), AllocEr
     let size = 2 * versions.len();
     out.reserve(FIRST_CIRC + COMMAND + LENGTH + size)?;
     out.extend_from_slice(&0u16.to_be_bytes())?;
-    out.push_reserved(VERSIONS);
+    out.push_reserved(command::VERSIONS);
     out.extend_from_slice(&(size as u16).to_be_bytes())?;
     for version in versions {
         out.extend_from_slice(&version.to_be_bytes())?;
