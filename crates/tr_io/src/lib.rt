@@ -15,3 +15,4 @@ pub mod source;
 pub mod standard;
 pub mod status;
 pub mod step;
+pub mod stepping;

@@ -45,9 +45,9 @@ pub enum Step {
     ChannelUp(u32, Side, UpAnswer),
     /// `channel_down`.
     ChannelDown(ChanNo, BackAnswer),
-    /// `open_circuit`: the channel, the CircID, the opening's reply and, where its handshake was
-    /// good, its keys.
-    OpenCircuit(ChanNo, u32, Cell, Option<LayerKeys>, OpenAnswer),
+    /// `open_circuit`: the channel, the CircID, the opening's reply, where its handshake was good its
+    /// keys, and the key of the padding, if there is one.
+    OpenCircuit(ChanNo, u32, Cell, Option<LayerKeys>, Option<[u8; 16]>, OpenAnswer),
     /// `take`.
     Take(ChanNo, Cell, TakeAnswer),
     /// `claim`: the worker, and the note of the job that it was given.
