@@ -1,20 +1,38 @@
 -- RESOLVED: what is written spells one answer, and bytes spell one list of answers.
-use Rattle.std.proofs.Common.{◌≡◌, ℕ, ◌^◌, ◌<◌, List, [], ◌∷◌, ◌++◌, length, take, drop, refl, ap, sym, ◌∙◌, append_assoc}
+use Rattle.std.proofs.Common.{◌≡◌, ℕ, ◌^◌, ◌<◌, List, [], ◌∷◌, ◌++◌, length, take, drop, refl, ap, sym, subst, ◌∙◌, append_assoc, lit<}
 use Rattle.std.specs.List.{flat_map, AllByRecursion}
 use Rattle.std.specs.Int.{w32, to_be_bytes, from_be_bytes}
 use Rattle.std.proofs.lemmas.List.{append-nil, take_at, drop_at}
 use Rattle.std.proofs.lemmas.Nat.{from_be_bytes-to_be_bytes_4}
 use Rattle.tor_spec.specs.Resolve.{resolved_payload}
+use Rattle.tor_spec.specs.CellStream.{IsBytes}
 use Rattle.cell_laws.specs.Resolved.{Answer, answer_bytes, IsAnswer, SpellsAnswers}
+use Rattle.cell_laws.proofs.Bytes.{IsBytes-append, IsBytes-cons, IsBytes-to_be_bytes}
 
-pub answer_written : (kind : ℕ) (value : List ℕ) (ttl : ℕ) → ttl < 2 ^ 32
-    → SpellsAnswers (resolved_payload kind value ttl) (record { kind = kind; value = value; ttl = ttl } ∷ [])
+pub answer_written : (answer : Answer) → IsAnswer answer
+    → SpellsAnswers (resolved_payload answer.kind answer.value answer.ttl) (answer ∷ [])
 unfolding resolved_payload
-answer_written kind value ttl fits = record {
-  spelling = sym (append-nil (kind ∷ length value ∷ value ++ to_be_bytes w32 ttl));
+answer_written answer is = record {
+  spelling = sym (append-nil (answer_bytes answer));
   some = λ e. cc;
-  each = (fits, tt);
+  each = (is, tt);
 }
+
+-- An answer is spelled by bytes.
+answer_fits : (a : Answer) → IsAnswer a → IsBytes (answer_bytes a)
+answer_fits a is =
+    IsBytes-append (a.kind ∷ length a.value ∷ a.value) (to_be_bytes w32 a.ttl)
+    (IsBytes-cons a.kind (length a.value ∷ a.value) is.kind_fits
+    (IsBytes-cons (length a.value) a.value is.length_fits is.value_bytes))
+    (IsBytes-to_be_bytes w32 a.ttl)
+
+answers_fit : (answers : List Answer) → AllByRecursion IsAnswer answers → IsBytes (flat_map answer_bytes answers)
+answers_fit [] each = λ i. lit< tt
+answers_fit (a ∷ answers) each =
+    IsBytes-append (answer_bytes a) (flat_map answer_bytes answers) (answer_fits a each.0) (answers_fit answers each.1)
+
+pub spelled_bytes : (payload : List ℕ) (answers : List Answer) → SpellsAnswers payload answers → IsBytes payload
+spelled_bytes payload answers spells = subst IsBytes (sym spells.spelling) (answers_fit answers spells.each)
 
 -- Lists that begin alike, of equal length, are alike, and so are those behind them.
 parts : (a b x y : List ℕ) → length a ≡ length b → a ++ x ≡ b ++ y → (a ≡ b) × (x ≡ y)
@@ -45,7 +63,7 @@ front_same a b x y a_is b_is e =
     (sym (append_assoc a.value (to_be_bytes w32 a.ttl) x) ∙ tail ∙ append_assoc b.value (to_be_bytes w32 b.ttl) y) in
     let ttl = parts (to_be_bytes w32 a.ttl) (to_be_bytes w32 b.ttl) x y refl value.1 in
     record {
-      answer = same_answer a b kind value.0 (same_number a.ttl b.ttl a_is b_is ttl.0);
+      answer = same_answer a b kind value.0 (same_number a.ttl b.ttl a_is.ttl_fits b_is.ttl_fits ttl.0);
       behind = ttl.1;
     }
 

@@ -1,4 +1,5 @@
--- The short payloads of relay cells, as lists of bytes.
+-- The short payloads of relay cells, as lists of bytes. That anything may follow a payload is a rule of
+-- this relay.
 use Rattle.std.specs.Prelude.{ℕ, ◌≡◌, ◌<◌, ◌^◌, ◌⊎◌, [], ◌∷◌, ◌++◌, List, length}
 use Rattle.std.specs.Int.{w16, w32, to_be_bytes}
 use Rattle.tor_spec.specs.Connected.{ConnectedTo}

@@ -3,7 +3,8 @@ use Rattle.std.specs.Prelude.{ℕ, ◌≡◌, ◌≤◌, List, length}
 use Rattle.std.specs.List.{AllByRecursion}
 use Rattle.tor_spec.specs.Decimal.{decimal_value}
 
--- One to five decimal digits in ASCII with a value from 1 to 65,535. Zeros may lead.
+-- One to five decimal digits in ASCII with a value from 1 to 65,535. That zeros may lead is a rule of
+-- this relay.
 pub record SpellsPort (text : List ℕ) (port : ℕ) : Type 0 where
   pub some : 1 ≤ length text
   pub short : length text ≤ 5

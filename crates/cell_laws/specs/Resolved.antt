@@ -1,7 +1,9 @@
--- The payload of RESOLVED (tor-spec, "Remote hostname lookup").
+-- The payload of RESOLVED (tor-spec, "Remote hostname lookup"), a list of answers.
 use Rattle.std.specs.Prelude.{ℕ, ◌≡◌, ◌≢◌, ◌<◌, ◌^◌, [], ◌∷◌, ◌++◌, List, length}
 use Rattle.std.specs.List.{flat_map, AllByRecursion}
 use Rattle.std.specs.Int.{w32, to_be_bytes}
+use Rattle.tor_spec.specs.CellStream.{IsBytes}
+use Rattle.tor_spec.specs.Reasons.{resolved_ipv4}
 
 pub record Answer : Type 0 where
   pub kind : ℕ
@@ -12,8 +14,15 @@ pub record Answer : Type 0 where
 abbrev pub answer_bytes : Answer → List ℕ
 answer_bytes a = a.kind ∷ length a.value ∷ a.value ++ to_be_bytes w32 a.ttl
 
-abbrev pub IsAnswer : Answer → Type 0
-IsAnswer a = a.ttl < 2 ^ 32
+-- An answer that bytes can spell. An IPv4 address has 4 bytes and an IPv6 address (type 6) has 16; the
+-- value of another type may have any length.
+pub record IsAnswer (a : Answer) : Type 0 where
+  pub kind_fits : a.kind < 256
+  pub length_fits : length a.value < 256
+  pub value_bytes : IsBytes a.value
+  pub ipv4 : a.kind ≡ resolved_ipv4 → length a.value ≡ 4
+  pub ipv6 : a.kind ≡ 6 → length a.value ≡ 16
+  pub ttl_fits : a.ttl < 2 ^ 32
 
 -- One answer or more, up to the end.
 pub record SpellsAnswers (payload : List ℕ) (answers : List Answer) : Type 0 where

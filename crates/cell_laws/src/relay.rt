@@ -13,7 +13,7 @@ ghost use Rattle.cell_laws.specs.Body.{SpellsBody};
 ghost use Rattle.cell_laws.specs.Extends.{SpellsExtend};
 ghost use Rattle.cell_laws.specs.Payloads.{SpellsConnected, SpellsProof, SpellsEnd, SpellsTruncated, SpellsReply, SpellsRequest};
 ghost use Rattle.cell_laws.specs.Ports.{SpellsPort};
-ghost use Rattle.cell_laws.specs.Resolved.{Answer, SpellsAnswers};
+ghost use Rattle.cell_laws.specs.Resolved.{Answer, IsAnswer, SpellsAnswers};
 
 /// A body of 509 bytes whose Length fits spells the head and the payload that are read from it.
 pub fn bodies_are_read_as_spelled()
@@ -23,8 +23,8 @@ pub fn bodies_are_read_as_spelled()
         SpellsBody body (relay_head body) (payload_of body) }
 {}
 
-/// The port that is read from a text in BEGIN is the one that it spells; where none is read, it spells
-/// none.
+/// The port that is read from a text in BEGIN is the one that it spells, zeros in front of it included;
+/// where none is read, it spells none.
 pub fn ports_are_read_as_spelled()
     ensures { (text : List ℕ) (port : ℕ) → SpellsPort text port ↔ (port_of_text text ≡ Some port) }
 {}
@@ -74,10 +74,12 @@ pub fn extends_are_read_as_spelled()
         SpellsExtend payload request ↔ (extend_request payload ≡ Some request) }
 {}
 
-/// A RESOLVED that is written spells its one answer, and no payload spells two lists of answers.
+/// A RESOLVED that is written spells its one answer, only bytes spell answers, and no payload spells two
+/// lists of them.
 pub fn answers_have_one_spelling()
-    ensures written { (kind : ℕ) (value : List ℕ) (ttl : ℕ) → ttl < 2 ^ 32 →
-        SpellsAnswers (resolved_payload kind value ttl) (record { kind = kind; value = value; ttl = ttl } ∷ []) }
+    ensures written { (answer : Answer) → IsAnswer answer →
+        SpellsAnswers (resolved_payload answer.kind answer.value answer.ttl) (answer ∷ []) }
+    ensures bytes { (payload : List ℕ) (answers : List Answer) → SpellsAnswers payload answers → IsBytes payload }
     ensures one { (payload : List ℕ) (answers others : List Answer) →
         SpellsAnswers payload answers → SpellsAnswers payload others → answers ≡ others }
 {}
