@@ -1,5 +1,5 @@
 -- What the code answers, as an answer of the negotiation.
-use Rattle.std.specs.Prelude.{ℕ, ◌≡◌, List, map, All, Option, Some, None}
+use Rattle.std.specs.Prelude.{◌≡◌, map, All, Some, None}
 use Rattle.cell_codec.specs.Cells.{wire_cell, IsWellFormed}
 use Rattle.link_negotiate.specs.declared.answer.LinkAnswer.{LinkAnswer}
 use Rattle.link_negotiate.specs.declared.answer.LinkAnswer.TheVariants.{Send, Ready, PassedOver, Refused, Memory}

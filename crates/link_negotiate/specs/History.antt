@@ -12,24 +12,27 @@ is_told (Ok false) = false
 is_told (Ok true) = true
 is_told (Err fault) = true
 
-abbrev pub tells : WireCell → Bool
-tells c = is_told (netinfo_told c)
+abbrev pub tells : ℕ → WireCell → Bool
+tells version c = is_told (netinfo_told version c)
 
--- The first cell that isn't.
-abbrev pub first_told : List WireCell → Option WireCell
-first_told cells = find tells cells
+-- The first cell that isn't, where this version was agreed on.
+abbrev pub first_told : ℕ → List WireCell → Option WireCell
+first_told version cells = find (tells version) cells
 
 -- Behind the cell that ended the negotiation: an open link awaits nothing, and a refusal is repeated.
 abbrev pub answer_behind_end : Result Bool LinkFault → WireCell → Answer
 answer_behind_end (Ok _) c = Refuses (Unexpected c.command)
 answer_behind_end (Err fault) c = Refuses fault
 
-abbrev pub answer_behind_told : Bool → Option WireCell → Result ℕ LinkFault → WireCell → Answer
-answer_behind_told opener told (Err fault) c = Refuses fault
-answer_behind_told opener None (Ok version) c = answer_to_netinfo opener version (netinfo_told c)
-answer_behind_told opener (Some told) (Ok version) c = answer_behind_end (netinfo_told told) c
+abbrev pub answer_behind_told : Bool → ℕ → Option WireCell → WireCell → Answer
+answer_behind_told opener version None c = answer_to_netinfo opener version (netinfo_told version c)
+answer_behind_told opener version (Some told) c = answer_behind_end (netinfo_told version told) c
+
+abbrev pub answer_behind_versions : Bool → Result ℕ LinkFault → List WireCell → WireCell → Answer
+answer_behind_versions opener (Err fault) more c = Refuses fault
+answer_behind_versions opener (Ok version) more c = answer_behind_told opener version (first_told version more) c
 
 -- The first cell is to be VERSIONS, and the first behind it that isn't passed over NETINFO.
 abbrev pub answer_after : Bool → List WireCell → WireCell → Answer
 answer_after opener [] c = answer_to_versions opener (versions_told c)
-answer_after opener (first ∷ more) c = answer_behind_told opener (first_told more) (versions_told first) c
+answer_after opener (first ∷ more) c = answer_behind_versions opener (versions_told first) more c

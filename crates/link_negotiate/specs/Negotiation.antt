@@ -1,8 +1,11 @@
 -- How two sides open a link (tor-spec, "Negotiating and initializing channels"): what a side
--- answers to a cell, by the cells so far.
-use Rattle.std.specs.Prelude.{ℕ, ◌%◌, [], ◌∷◌, List, length, Bool, true, false, ◌==◌, ◌||◌, if◌then◌else◌, Option, Some, None, Result, Ok, Err}
+-- answers to a cell, by the cells so far. The standard has VERSIONS come first, the highest common
+-- version be taken and NETINFO end the negotiation. What is refused and how, and that our NETINFO tells
+-- nothing, are rules of this relay.
+use Rattle.std.specs.Prelude.{ℕ, ◌%◌, [], ◌∷◌, List, length, Bool, true, false, ◌==◌, ◌||◌, ◌&&◌, nat_le, if◌then◌else◌, Option, Some, None, Result, Ok, Err}
 use Rattle.std.specs.List.{fold}
 use Rattle.tor_spec.specs.CellEncoding.{WireCell}
+use Rattle.tor_spec.specs.CellCommands.{versions_command, netinfo_command, padding_command, vpadding_command, padding_negotiate_command, certs_command, auth_challenge_command, authenticate_command}
 use Rattle.tor_spec.specs.Versions.{versions_of, versions_cell, highest_common}
 use Rattle.tor_spec.specs.Netinfo.{is_netinfo, silent_netinfo}
 use Rattle.cell_codec.specs.declared.LinkFault.{LinkFault}
@@ -10,9 +13,9 @@ use Rattle.cell_codec.specs.declared.LinkFault.TheVariants.{OddVersions, NoCommo
 use Rattle.link_negotiate.specs.declared.phase.Phase.{Phase}
 use Rattle.link_negotiate.specs.declared.phase.Phase.TheVariants.{Versions, Netinfo, Open, Refused}
 
--- The versions that our side speaks.
+-- The link protocols that our side speaks.
 abbrev pub our_versions : List ℕ
-our_versions = 4 ∷ []
+our_versions = 4 ∷ 5 ∷ []
 
 -- What the first awaited cell tells: the highest version that both sides speak.
 abbrev pub version_or : Option ℕ → Result ℕ LinkFault
@@ -21,19 +24,30 @@ version_or (Some version) = Ok version
 
 abbrev pub versions_told : WireCell → Result ℕ LinkFault
 versions_told c =
-    if c.command == 7 then
+    if c.command == versions_command then
     (if (length c.payload % 2) == 0 then version_or (highest_common our_versions (versions_of c.payload)) else Err OddVersions)
     else Err (Unexpected c.command)
 
--- PADDING, VPADDING, CERTS, AUTH_CHALLENGE and AUTHENTICATE may come before NETINFO.
-abbrev pub may_come_before : ℕ → Bool
-may_come_before command = (command == 0) || (command == 128) || (command == 129) || (command == 130) || (command == 131)
+-- The cells that may come between VERSIONS and NETINFO (rule of this relay): PADDING, VPADDING, CERTS,
+-- AUTH_CHALLENGE and AUTHENTICATE.
+abbrev pub comes_in_between : ℕ → Bool
+comes_in_between command =
+    (command == padding_command) || (command == vpadding_command) || (command == certs_command)
+    || (command == auth_challenge_command) || (command == authenticate_command)
+
+-- PADDING_NEGOTIATE is of link protocol 5 and later ones (padding-spec, "Connection-level padding").
+abbrev pub negotiates_padding : ℕ → ℕ → Bool
+negotiates_padding version command = nat_le 5 version && (command == padding_negotiate_command)
+
+-- Whether a cell is passed over, where this version was agreed on.
+abbrev pub may_come_before : ℕ → ℕ → Bool
+may_come_before version command = comes_in_between command || negotiates_padding version command
 
 -- What a cell behind VERSIONS tells: whether it is the NETINFO.
-abbrev pub netinfo_told : WireCell → Result Bool LinkFault
-netinfo_told c =
-    if c.command == 8 then (if is_netinfo c.payload then Ok true else Err BadNetinfo)
-    else if may_come_before c.command then Ok false
+abbrev pub netinfo_told : ℕ → WireCell → Result Bool LinkFault
+netinfo_told version c =
+    if c.command == netinfo_command then (if is_netinfo c.payload then Ok true else Err BadNetinfo)
+    else if may_come_before version c.command then Ok false
     else Err (Unexpected c.command)
 
 -- A side of a link: whether it opened the connection, and where the negotiation stands.
@@ -68,10 +82,10 @@ answer_to_netinfo opener version (Ok false) = PassesOver
 answer_to_netinfo true version (Ok true) = IsReady version (Some silent_netinfo)
 answer_to_netinfo false version (Ok true) = IsReady version None
 
--- An open link awaits nothing, and a refusal is repeated.
+-- An open link awaits nothing, and a refusal is repeated (rules of this relay).
 abbrev pub answer_in : Bool → Phase → WireCell → Answer
 answer_in opener Versions c = answer_to_versions opener (versions_told c)
-answer_in opener (Netinfo version) c = answer_to_netinfo opener version (netinfo_told c)
+answer_in opener (Netinfo version) c = answer_to_netinfo opener version (netinfo_told version c)
 answer_in opener Open c = Refuses (Unexpected c.command)
 answer_in opener (Refused fault) c = Refuses fault
 
@@ -89,7 +103,7 @@ behind_netinfo version (Ok true) = Open
 
 abbrev pub phase_behind : Phase → WireCell → Phase
 phase_behind Versions c = behind_versions (versions_told c)
-phase_behind (Netinfo version) c = behind_netinfo version (netinfo_told c)
+phase_behind (Netinfo version) c = behind_netinfo version (netinfo_told version c)
 phase_behind Open c = Open
 phase_behind (Refused fault) c = Refused fault
 

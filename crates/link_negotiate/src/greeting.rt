@@ -4,10 +4,12 @@ ghost use Rattle.tor_spec.specs.Netinfo.{silent_netinfo};
 ghost use Rattle.cell_codec.specs.Cells.{wire_cell, IsWellFormed};
 ghost use Rattle.link_negotiate.specs.Negotiation.{our_versions};
 
-use cell_codec::{Body, Bytes, Cell, List};
+use crate::versions::OUR_VERSIONS;
+use cell_codec::{Body, Bytes, Cell, List, command};
 use std::alloc::{AllocError, Global};
 
-/// The NETINFO that is sent: time 0, the other side's address as 0.0.0.0, and no address of ours.
+/// The NETINFO that is sent: time 0, the other side's address as 0.0.0.0, and no address of ours. That
+/// it tells nothing is a rule of this relay.
 pub fn own_netinfo() -> Cell
     ensures cell { wire_cell result ≡ silent_netinfo }
     ensures well_formed { IsWellFormed result }
@@ -17,7 +19,7 @@ pub fn own_netinfo() -> Cell
     payload[5] = 4;
     Cell {
         circ: 0,
-        command: 8,
+        command: command::NETINFO,
         body: Body::Fixed(payload),
     }
 }
@@ -27,10 +29,14 @@ fn own_versions(alloc: Global) -> Result<Cell, AllocError>
     ensures cell { IfOk result (λ c. wire_cell c ≡ versions_cell our_versions) }
     ensures well_formed { IfOk result IsWellFormed }
 {
+    let mut payload = Bytes::new(alloc);
+    for version in OUR_VERSIONS {
+        payload.extend(&version.to_be_bytes())?;
+    }
     Ok(Cell {
         circ: 0,
-        command: 7,
-        body: Body::Var(Bytes::of(alloc, &[0, 4])?),
+        command: command::VERSIONS,
+        body: Body::Var(payload),
     })
 }
 

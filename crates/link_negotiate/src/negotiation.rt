@@ -54,7 +54,8 @@ impl Negotiation {
 
     /// Answers the next cell that came. `OddVersions`, `NoCommonVersion` and `BadNetinfo` tell
     /// what is wrong with a cell, and `Unexpected` that it may not stand here. A refusal is
-    /// repeated for every later cell, and an open link refuses each as unexpected.
+    /// repeated for every later cell, and an open link refuses each as unexpected: these are rules of
+    /// this relay.
     ///
     /// After `Memory` the cell was not taken.
     pub fn step(&mut self, cell: &Cell) -> LinkAnswer
@@ -82,7 +83,7 @@ impl Negotiation {
                     LinkAnswer::Refused(fault)
                 }
             },
-            Phase::Netinfo(version) => match read_netinfo(cell) {
+            Phase::Netinfo(version) => match read_netinfo(cell, version) {
                 Ok(true) => {
                     self.phase = Phase::Open;
                     let netinfo = if self.opener {

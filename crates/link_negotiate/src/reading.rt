@@ -3,46 +3,39 @@ ghost use Rattle.cell_codec.specs.Cells.{wire_cell};
 ghost use Rattle.link_negotiate.specs.Negotiation.{versions_told, netinfo_told};
 
 use crate::netinfo::has_form;
-use crate::versions::{OUR_VERSIONS, lists};
-use cell_codec::{Cell, LinkFault};
+use crate::versions::{PADDING_NEGOTIATION, highest_common};
+use cell_codec::{Cell, LinkFault, command};
 
-const VERSIONS: u8 = 7;
-
-const NETINFO: u8 = 8;
-
-/// The version that both sides speak, if the cell is VERSIONS and lists it.
+/// The highest version that both sides speak, if the cell is VERSIONS and lists one.
 pub fn read_versions(cell: &Cell) -> Result<u16, LinkFault>
     ensures { result ≡ versions_told (wire_cell cell.now) }
 {
-    if cell.command != VERSIONS {
+    if cell.command != command::VERSIONS {
         return Err(LinkFault::Unexpected(cell.command));
     }
     let payload = cell.body.payload();
     if payload.len() % 2 != 0 {
         return Err(LinkFault::OddVersions);
     }
-    let [ours] = OUR_VERSIONS;
-    if lists(payload, ours) {
-        Ok(ours)
-    } else {
-        Err(LinkFault::NoCommonVersion)
-    }
+    highest_common(payload).ok_or(LinkFault::NoCommonVersion)
 }
 
-/// Whether the cell is NETINFO or one that is passed over.
-pub fn read_netinfo(cell: &Cell) -> Result<bool, LinkFault>
-    ensures { result ≡ netinfo_told (wire_cell cell.now) }
+/// Whether the cell is NETINFO or one that is passed over, where this version was agreed on. Which cells
+/// are passed over is a rule of this relay.
+pub fn read_netinfo(cell: &Cell, version: u16) -> Result<bool, LinkFault>
+    ensures { result ≡ netinfo_told version (wire_cell cell.now) }
 {
     match cell.command {
-        NETINFO => {
+        command::NETINFO => {
             if has_form(cell.body.payload()) {
                 Ok(true)
             } else {
                 Err(LinkFault::BadNetinfo)
             }
         }
-        // PADDING, VPADDING, CERTS, AUTH_CHALLENGE and AUTHENTICATE.
-        0 | 128 | 129 | 130 | 131 => Ok(false),
+        command::PADDING | command::VPADDING => Ok(false),
+        command::CERTS | command::AUTH_CHALLENGE | command::AUTHENTICATE => Ok(false),
+        command::PADDING_NEGOTIATE if version >= PADDING_NEGOTIATION => Ok(false),
         other => Err(LinkFault::Unexpected(other)),
     }
 }

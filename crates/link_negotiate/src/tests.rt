@@ -1,12 +1,12 @@
 use crate::{LinkAnswer, LinkFault, Negotiation};
-use cell_codec::{Body, Bytes, Cell, Decoder};
+use cell_codec::{Body, Bytes, Cell, Decoder, command};
 use std::alloc::{AllocError, Global};
 use std::test::Fail;
 
 fn versions(alloc: Global, payload: &[u8]) -> Result<Cell, AllocError> {
     Ok(Cell {
         circ: 0,
-        command: 7,
+        command: command::VERSIONS,
         body: Body::Var(Bytes::of(alloc, payload)?),
     })
 }
@@ -16,7 +16,7 @@ fn netinfo(addresses: [u8; 8]) -> Cell {
     payload[4..12].copy_from_slice(&addresses);
     Cell {
         circ: 0,
-        command: 8,
+        command: command::NETINFO,
         body: Body::Fixed(payload),
     }
 }
@@ -38,7 +38,7 @@ fn two_sides_open_a_link(rt: HostRuntime) -> Result<(), Fail> {
         LinkAnswer::Send(cells) => {
             assert_eq!(rt; cells.len(), 2);
             let sent = cells.as_slice();
-            assert_eq!(rt; sent[0].body.payload(), [0, 4].as_slice());
+            assert_eq!(rt; sent[0].body.payload(), [0, 4, 0, 5].as_slice());
             let told = sent[1].body.payload();
             assert_eq!(rt; told.len(), 509);
             assert_eq!(rt;
@@ -47,8 +47,8 @@ fn two_sides_open_a_link(rt: HostRuntime) -> Result<(), Fail> {
             );
             assert!(rt; matches!(opener.step(&sent[0]), LinkAnswer::PassedOver));
             match opener.step(&sent[1]) {
-                LinkAnswer::Ready(4, Some(own)) => {
-                    assert!(rt; matches!(answerer.step(&own), LinkAnswer::Ready(4, None)));
+                LinkAnswer::Ready(5, Some(own)) => {
+                    assert!(rt; matches!(answerer.step(&own), LinkAnswer::Ready(5, None)));
                 }
                 _ => assert!(rt; false),
             }
@@ -57,7 +57,7 @@ fn two_sides_open_a_link(rt: HostRuntime) -> Result<(), Fail> {
     }
     assert_eq!(rt;
         fault(opener.step(&offered)),
-        Some(LinkFault::Unexpected(7))
+        Some(LinkFault::Unexpected(command::VERSIONS))
     );
     Ok(())
 }
@@ -81,7 +81,51 @@ fn a_link_opens_by_its_bytes(rt: HostRuntime) -> Result<(), Fail> {
             _other => assert!(rt; false),
         }
     }
-    assert_eq!(rt; (sent, version), (2, Some(4)));
+    assert_eq!(rt; (sent, version), (2, Some(5)));
+    Ok(())
+}
+
+#[test]
+fn protocol_4_is_taken_of_a_peer_that_speaks_no_higher_one(rt: HostRuntime) -> Result<(), Fail> {
+    let offered = versions(rt.alloc(), &[0, 4])?;
+    let told = netinfo([4, 4, 0, 0, 0, 0, 0, 0]);
+
+    let mut answerer = Negotiation::answerer(rt.alloc());
+    match answerer.step(&offered) {
+        LinkAnswer::Send(cells) => {
+            let sent = cells.as_slice();
+            assert_eq!(rt; sent.len(), 2);
+            assert_eq!(rt; sent[0].command, command::VERSIONS);
+            assert_eq!(rt; sent[0].body.payload(), [0, 4, 0, 5].as_slice());
+            assert_eq!(rt; sent[1].command, command::NETINFO);
+        }
+        _ => assert!(rt; false),
+    }
+    assert!(rt; matches!(answerer.step(&told), LinkAnswer::Ready(4, None)));
+
+    let mut opener = Negotiation::opener(rt.alloc());
+    assert!(rt; matches!(opener.step(&offered), LinkAnswer::PassedOver));
+    assert!(rt; matches!(opener.step(&told), LinkAnswer::Ready(4, Some(_))));
+    Ok(())
+}
+
+#[test]
+fn padding_is_negotiated_from_protocol_5_on(rt: HostRuntime) -> Result<(), Fail> {
+    let negotiation = Cell {
+        circ: 0,
+        command: command::PADDING_NEGOTIATE,
+        body: Body::Fixed([0; 509]),
+    };
+    let mut side = Negotiation::opener(rt.alloc());
+    assert!(rt; fault(side.step(&versions(rt.alloc(), &[0, 5])?)).is_none());
+    assert!(rt; matches!(side.step(&negotiation), LinkAnswer::PassedOver));
+
+    let mut side = Negotiation::opener(rt.alloc());
+    assert!(rt; fault(side.step(&versions(rt.alloc(), &[0, 4])?)).is_none());
+    assert_eq!(rt;
+        fault(side.step(&negotiation)),
+        Some(LinkFault::Unexpected(command::PADDING_NEGOTIATE))
+    );
     Ok(())
 }
 
@@ -109,7 +153,7 @@ fn refusals_have_their_names_and_stay(rt: HostRuntime) -> Result<(), Fail> {
     ] {
         let mut side = Negotiation::opener(rt.alloc());
         let early = side.step(&netinfo(addresses));
-        assert_eq!(rt; fault(early), Some(LinkFault::Unexpected(8)));
+        assert_eq!(rt; fault(early), Some(LinkFault::Unexpected(command::NETINFO)));
         let mut side = Negotiation::opener(rt.alloc());
         assert!(rt; fault(side.step(&versions(rt.alloc(), &[0, 4])?)).is_none());
         assert_eq!(rt; fault(side.step(&netinfo(addresses))), want);

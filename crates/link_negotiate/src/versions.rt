@@ -1,8 +1,27 @@
 ghost use Rattle.std.specs.Prelude.{◌≡◌};
-ghost use Rattle.tor_spec.specs.Versions.{versions_of, lists_version};
+ghost use Rattle.tor_spec.specs.Versions.{versions_of, lists_version, highest_common};
+ghost use Rattle.link_negotiate.specs.Negotiation.{our_versions};
 
-/// The link versions that this side speaks: 4 has CircIDs of 4 bytes.
-pub const OUR_VERSIONS: [u16; 1] = [4];
+/// The link protocols that this side speaks, the lowest first: 4 has CircIDs of 4 bytes, and 5 brought
+/// PADDING_NEGOTIATE.
+pub const OUR_VERSIONS: [u16; 2] = [4, 5];
+
+/// The link protocol that brought PADDING_NEGOTIATE.
+pub const PADDING_NEGOTIATION: u16 = 5;
+
+/// The highest of our link protocols that a VERSIONS payload lists.
+pub fn highest_common(payload: &[u8]) -> Option<u16>
+    ensures { result ≡ highest_common our_versions (versions_of payload.now) }
+{
+    let [older, newer] = OUR_VERSIONS;
+    if lists(payload, newer) {
+        Some(newer)
+    } else if lists(payload, older) {
+        Some(older)
+    } else {
+        None
+    }
+}
 
 /// Whether a VERSIONS payload lists this version.
 pub fn lists(payload: &[u8], version: u16) -> bool
