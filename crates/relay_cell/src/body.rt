@@ -1,8 +1,13 @@
 //! Bodies as they are written (tor-spec, "Relay cells").
 
-ghost use Rattle.std.specs.Prelude.{◌≡◌, ◌≤◌, ◌∷◌, ◌++◌, [], length};
+ghost use Rattle.std.specs.Prelude.{◌≡◌, ◌≤◌, ◌∷◌, ◌++◌, [], length, IsTrue};
 ghost use Rattle.std.specs.Int.{w16, to_be_bytes};
-ghost use Rattle.tor_spec.specs.RelayCell.{relay_body, relay_head_bytes, with_digest};
+ghost use Rattle.tor_spec.specs.RelayCell.{fits_length, relay_body, relay_head_bytes, with_digest, with_padding};
+
+use crate::head::{HEAD_LEN, fields_of};
+
+/// The zero bytes between a payload and its padding.
+const GAP: usize = 4;
 
 /// The body with this command, stream and payload: Recognized and Digest are 0, and so is the
 /// padding.
@@ -45,4 +50,15 @@ pub fn put_digest(body: &mut [u8; 509], first: [u8; 4])
     ensures { body.new ≡ with_digest body.old first }
 {
     body[5..9].copy_from_slice(&first);
+}
+
+/// Puts the bytes of another body behind the payload and the four zero bytes that follow it: from
+/// offset 15 + Length on each byte is that of `from` at its offset, and all others stay.
+pub fn put_padding(body: &mut [u8; 509], from: &[u8; 509])
+    requires { IsTrue (fits_length body.old) }
+    ensures { body.new ≡ with_padding body.old from.now }
+{
+    let payload_end = HEAD_LEN + fields_of(body).length as usize;
+    let start = (payload_end + GAP).min(body.len());
+    body[start..].copy_from_slice(&from[start..]);
 }

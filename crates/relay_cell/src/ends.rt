@@ -6,20 +6,21 @@ ghost use Rattle.tor_spec.specs.Ends.{end_reason};
 ghost use Rattle.tor_spec.specs.RelayCell.{end_command, relay_body, truncate_command, truncated_command};
 
 use crate::body::write_body;
-use crate::command;
+use crate::{command, stream_end};
 
-/// Why a stream ended: the first byte of an END, or 1, which is MISC, where there is none.
+/// Why a stream ended: the first byte of an END, as one of [`stream_end`](crate::stream_end), or MISC
+/// where there is none.
 #[tactic(auto, unfolding(tor_spec::specs::Ends::end_reason))]
 pub fn end_reason(payload: &[u8]) -> u8
     ensures { result ≡ end_reason payload.now }
 {
     match payload {
         [reason, ..] => *reason,
-        [] => 1,
+        [] => stream_end::MISC,
     }
 }
 
-/// The body of an END with this reason.
+/// The body of an END with this reason, one of [`stream_end`](crate::stream_end).
 pub fn end_body(stream: u16, reason: u8) -> [u8; 509]
     ensures { result ≡ relay_body end_command stream (reason ∷ []) }
 {

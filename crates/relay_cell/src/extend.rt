@@ -50,13 +50,15 @@ pub fn read_handshake_reply(payload: &[u8]) -> Option<&[u8]>
     Some(reply)
 }
 
-/// The type and the data of a handshake at the front of the bytes.
+/// The client's half of a handshake at the front of the payload, its type HTYPE and its data HDATA:
+/// that of an EXTEND2 behind its link specifiers, or of a CREATE2. `None` exactly where the payload
+/// ends within it.
 #[tactic(auto, unfolding(tor_spec::specs::Extend::handshake_request))]
-fn read_handshake_request(bytes: &[u8]) -> Option<(u16, &[u8])>
-    ensures some { IfSome result (λ request. handshake_request bytes.now ≡ Some (request.0, request.1.now)) }
-    ensures none { IfNone result (handshake_request bytes.now ≡ None) }
+pub fn read_handshake_request(payload: &[u8]) -> Option<(u16, &[u8])>
+    ensures some { IfSome result (λ request. handshake_request payload.now ≡ Some (request.0, request.1.now)) }
+    ensures none { IfNone result (handshake_request payload.now ≡ None) }
 {
-    let (htype, rest) = bytes.split_first_chunk::<2>()?;
+    let (htype, rest) = payload.split_first_chunk::<2>()?;
     let hdata = read_handshake_reply(rest)?;
     Some((u16::from_be_bytes(*htype), hdata))
 }

@@ -5,7 +5,7 @@ ghost use Rattle.tor_spec.specs.RelayCell.{relay_head, fits_length, payload_of};
 ghost use Rattle.relay_cell.specs.Head.{head_of};
 
 /// The bytes of a head.
-const HEAD_LEN: usize = 11;
+pub(crate) const HEAD_LEN: usize = 11;
 
 /// The bytes of a body behind its head.
 const DATA_LEN: u16 = 498;
@@ -59,8 +59,9 @@ pub fn payload_of(body: &[u8; 509]) -> &[u8]
     &data[..fields_of(body).length as usize]
 }
 
+/// The fields of a body, whose Length may be too great.
 #[tactic(auto, using(tor_spec::proofs::RelayCells::relay_head_at))]
-fn fields_of(body: &[u8; 509]) -> RelayHead
+pub(crate) fn fields_of(body: &[u8; 509]) -> RelayHead
     ensures { head_of result ≡ relay_head body.now }
 {
     RelayHead {

@@ -38,8 +38,8 @@ pub fn resolve_body(stream: u16, host: &[u8]) -> [u8; 509]
     write_body(command::RESOLVE, stream, payload.as_slice())
 }
 
-/// The body of a RESOLVED with one answer: its type, its value, and the seconds for which it may
-/// be kept.
+/// The body of a RESOLVED with one answer: its type, one of [`resolved_type`](crate::resolved_type),
+/// its value, and the seconds for which it may be kept.
 #[tactic(auto, unfolding(tor_spec::specs::Resolve::resolved_payload))]
 pub fn resolved_body(stream: u16, kind: u8, value: &[u8], ttl: u32) -> [u8; 509]
     requires { length value.now ≤ 255 }

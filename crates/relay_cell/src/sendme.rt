@@ -2,7 +2,7 @@
 
 ghost use Rattle.std.specs.Prelude.{◌≡◌, [], IfSome, IfNone, Some, None};
 ghost use Rattle.tor_spec.specs.RelayCell.{relay_body, sendme_command};
-ghost use Rattle.tor_spec.specs.Sendme.{sendme_payload, sendme_proof};
+ghost use Rattle.tor_spec.specs.Sendme.{is_version_0, sendme_payload, sendme_proof};
 
 use crate::body::write_body;
 use crate::command;
@@ -40,4 +40,15 @@ pub fn stream_sendme_body(stream: u16) -> [u8; 509]
     ensures { result ≡ relay_body sendme_command stream [] }
 {
     write_body(command::SENDME, stream, &[])
+}
+
+/// Whether a circuit's SENDME with this payload is of version 0, which has no proof: it is empty, or
+/// begins with the version.
+pub fn is_version_0(payload: &[u8]) -> bool
+    ensures { result ≡ is_version_0 payload.now }
+{
+    match payload {
+        [version, ..] => *version == 0,
+        [] => true,
+    }
 }

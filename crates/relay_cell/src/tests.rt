@@ -84,8 +84,8 @@ fn reads_short_payloads(rt: HostRuntime) -> Result<(), Fail> {
         read_proof(b"\x01\0\x14aaaaaaaaaaaaaaaaaaa").is_none() && read_proof(b"").is_none()
     );
     assert!(rt; read_proof(b"\x00\0\x14aaaaaaaaaaaaaaaaaaaa").is_none());
-    assert_eq!(rt; end_reason(b""), 1);
-    assert_eq!(rt; end_reason(b"\x06"), 6);
+    assert_eq!(rt; end_reason(b""), stream_end::MISC);
+    assert_eq!(rt; end_reason(b"\x06"), stream_end::DONE);
     Ok(())
 }
 
@@ -96,7 +96,10 @@ fn writes_bodies(rt: HostRuntime) -> Result<(), Fail> {
     let bodies: [([u8; 509], &[u8]); 12] = [
         (begin, b"\x01\0\0\0\x01HASH\0\x10echo.test:65535\0"),
         (data_body(7, b"bytes"), b"\x02\0\0\0\x07\0\0\0\0\0\x05bytes"),
-        (end_body(7, 4), b"\x03\0\0\0\x07\0\0\0\0\0\x01\x04"),
+        (
+            end_body(7, stream_end::EXIT_POLICY),
+            b"\x03\0\0\0\x07\0\0\0\0\0\x01\x04",
+        ),
         (
             connected_body(7, [127, 0, 0, 1], 60),
             b"\x04\0\0\0\x07\0\0\0\0\0\x08\x7f\0\0\x01\0\0\0\x3c",
@@ -118,7 +121,7 @@ fn writes_bodies(rt: HostRuntime) -> Result<(), Fail> {
             b"\x0b\0\0\0\x07\0\0\0\0\0\x08no.test\0",
         ),
         (
-            resolved_body(7, 4, b"\x7f\0\0\x01", 60),
+            resolved_body(7, resolved_type::IPV4, b"\x7f\0\0\x01", 60),
             b"\x0c\0\0\0\x07\0\0\0\0\0\x0a\x04\x04\x7f\0\0\x01\0\0\0\x3c",
         ),
     ];
@@ -142,5 +145,35 @@ fn writes_bodies(rt: HostRuntime) -> Result<(), Fail> {
     assert_eq!(rt; read_head(&opened.body).ok_or("a head")?.length, 498);
     long[10] = 0xf3;
     assert!(rt; read_head(&long).is_none());
+    Ok(())
+}
+
+#[test]
+fn pads_behind_four_zero_bytes(rt: HostRuntime) -> Result<(), Fail> {
+    let mut from = [0xee; 509];
+    from[16..32].copy_from_slice(
+        b"\x58\xe2\xfc\xce\xfa\x7e\x30\x61\x36\x7f\x1d\x57\xa4\xe7\x45\x5a",
+    );
+    let mut end = end_body(7, stream_end::EXIT_POLICY);
+    assert_eq!(rt; read_head(&end).ok_or("a head")?.length, 1);
+    put_padding(&mut end, &from);
+    assert_eq!(rt;
+        &end[..16],
+        b"\x03\0\0\0\x07\0\0\0\0\0\x01\x04\0\0\0\0".as_slice()
+    );
+    assert_eq!(rt; &end[16..], &from[16..]);
+
+    // Up to four zero bytes, as far as there is room.
+    for (length, zeros) in [(493usize, 4), (494, 4), (496, 2), (498, 0)] {
+        let mut body = data_body(7, &[1; 498][..length]);
+        assert!(rt; read_head(&body).is_some());
+        put_padding(&mut body, &from);
+        assert!(rt; body[11..11 + length].iter().all(|byte| *byte == 1));
+        let behind = &body[11 + length..];
+        assert!(rt; zeros <= behind.len());
+        let (gap, padding) = behind.split_at(zeros);
+        assert!(rt; gap.iter().all(|byte| *byte == 0));
+        assert!(rt; padding.iter().all(|byte| *byte == 0xee));
+    }
     Ok(())
 }

@@ -49,7 +49,8 @@ fn last_colon(text: &[u8]) -> Option<usize>
     text.iter().rposition(|byte| *byte == b':')
 }
 
-/// The port that one to five decimal digits write, from 1 to 65,535.
+/// The port that one to five decimal digits write, from 1 to 65,535. That zeros may lead is a rule of this
+/// relay.
 #[tactic(auto, unfolding(tor_spec::specs::Begin::port_of_text))]
 pub(crate) fn read_port(text: &[u8]) -> Option<u16>
     ensures { result ≡ port_of_text text.now }
