@@ -1,0 +1,24 @@
+//! The payloads of the cells that answer the opening of a circuit.
+ghost use Rattle.std.specs.Prelude.{◌≡◌, ◌≤◌, length};
+ghost use Rattle.hop_handshake.specs.Payloads.{filled, created2_payload};
+
+/// These fields, then zeros up to the 509 bytes of a fixed payload.
+pub fn filled(fields: &[u8]) -> [u8; 509]
+    requires { length fields.now ≤ 509 }
+    ensures { result ≡ filled fields.now }
+{
+    let mut payload = [0; 509];
+    payload[..fields.len()].copy_from_slice(fields);
+    payload
+}
+
+/// The payload of a CREATED2 with this HDATA.
+#[tactic(auto, unfolding(tor_spec::specs::Extend::handshake_reply_payload))]
+pub fn created2_payload(hdata: &[u8]) -> [u8; 509]
+    requires { length hdata.now ≤ 507 }
+    ensures { result ≡ created2_payload hdata.now }
+{
+    let mut payload = filled(&(hdata.len() as u16).to_be_bytes());
+    payload[2..2 + hdata.len()].copy_from_slice(hdata);
+    payload
+}
