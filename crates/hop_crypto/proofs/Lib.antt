@@ -1,3 +1,4 @@
 mod Ahead
 mod Opening
+mod Sealing
 pub mod Working

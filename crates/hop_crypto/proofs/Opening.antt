@@ -8,7 +8,7 @@ use Rattle.crypto_spec.specs.HopLayer.{OpeningLayer, layered, is_recognised, ope
 use Rattle.hop_crypto.specs.OpenerState.{StreamPlace, OpenerState, opener_of}
 
 -- An opener is that of a layer by its parts.
-opener_by_parts : (o : OpenerState) (layer : OpeningLayer) → o.stream.key ≡ layer.key
+pub opener_by_parts : (o : OpenerState) (layer : OpeningLayer) → o.stream.key ≡ layer.key
     → o.stream.position ≡ layer.position → o.digest ≡ hash_state (digest_message layer.seed layer.absorbed)
     → o ≡ opener_of layer
 opener_by_parts o layer key position digest =

@@ -1,11 +1,11 @@
 -- Bodies that go through a cipher one by one, and in two parts.
 use Rattle.std.proofs.Common.{◌≡◌, ℕ, ◌+◌, ◌*◌, [], ◌∷◌, ◌++◌, List, length, map, refl, ap, sym, subst, ◌∙◌, arith, length-append}
-use Rattle.std.proofs.lemmas.List.{map-append}
+use Rattle.std.proofs.lemmas.List.{length-map, map-append}
 use Rattle.relay_cell.specs.declared.head.Opened.{Opened}
 use Rattle.crypto_spec.specs.HopLayer.{OpeningLayer, OpenedBody, opened, after_opening, opened_all, after_opening_all, sealed_all}
-use Rattle.crypto_spec.proofs.HopLayers.{opened_all-append, after_opening_all-append, sealed_all-append}
+use Rattle.crypto_spec.proofs.HopLayers.{opened_all-append, after_opening_all-append, after_opening_all-position, length-opened_all, sealed_all-append, length-sealed_all}
 use Rattle.hop_crypto.specs.OpenerState.{OpenerState, opener_of}
-use Rattle.hop_crypto.specs.Ciphers.{IsWorked, opened_from, sealed_from}
+use Rattle.hop_crypto.specs.Ciphers.{IsOfLayer, IsWorked, direction_of, position_of, opened_from, sealed_from}
 use Rattle.hop_crypto.specs.declared.cipher.Cipher.{Cipher}
 use Rattle.hop_crypto.specs.declared.cipher.Cipher.TheVariants.{Forth, Back}
 
@@ -41,3 +41,28 @@ IsWorked-append (Back start) middle end xs ys os ps first second =
       rw (sealed_all-append start.key start.position xs ys) (rw (map-append sealed_from) (ap (λ (o : List Opened). o ++ ps) first.0 ∙ ap (λ (o : List Opened). map sealed_from (sealed_all start.key start.position xs) ++ o) s.0)),
       s.1 ∙ ap (λ (p : ℕ). Back (record { key = start.key; position = p })) long,
     )
+
+-- One thing comes out of each body.
+pub IsWorked-many : (start end : Cipher) (input : List (List ℕ)) (output : List Opened) → IsOfLayer start
+    → IsWorked start input output end → length output ≡ length input
+IsWorked-many (Forth start) end input output of worked =
+    let out = worked of.layer of.state_is in
+    ap length out.0 ∙ length-map (opened_all of.layer input) opened_from ∙ length-opened_all of.layer input
+IsWorked-many (Back start) end input output of worked =
+    ap length worked.0 ∙ length-map (sealed_all start.key start.position input) sealed_from
+    ∙ length-sealed_all start.key start.position input
+
+-- The direction stays.
+pub IsWorked-direction : (start end : Cipher) (input : List (List ℕ)) (output : List Opened) → IsOfLayer start
+    → IsWorked start input output end → direction_of end ≡ direction_of start
+IsWorked-direction (Forth start) end input output of worked = ap direction_of (worked of.layer of.state_is).1
+IsWorked-direction (Back start) end input output of worked = ap direction_of worked.1
+
+-- The keystream goes on by 509 bytes for each body.
+pub IsWorked-position : (start end : Cipher) (input : List (List ℕ)) (output : List Opened) → IsOfLayer start
+    → IsWorked start input output end → position_of end ≡ position_of start + 509 * length input
+IsWorked-position (Forth start) end input output of worked =
+    let there : of.layer.position ≡ start.stream.position = ap (λ (o : OpenerState). o.stream.position) (sym of.state_is) in
+    ap position_of (worked of.layer of.state_is).1 ∙ after_opening_all-position of.layer input
+    ∙ ap (λ (p : ℕ). p + 509 * length input) there
+IsWorked-position (Back start) end input output of worked = ap position_of worked.1

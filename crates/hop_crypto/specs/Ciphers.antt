@@ -1,11 +1,13 @@
 -- A direction's cipher, and what it makes of bodies.
-use Rattle.std.specs.Prelude.{◌≡◌, ℕ, ◌+◌, ◌*◌, List, length, map, Option, Some, None}
+use Rattle.std.specs.Prelude.{◌≡◌, ℕ, ◌+◌, ◌*◌, List, length, map, None}
 use Rattle.tr_io.specs.declared.names.Dir.{Dir}
 use Rattle.relay_cell.specs.declared.head.Opened.{Opened}
 use Rattle.crypto_spec.specs.HopLayer.{OpeningLayer, OpenedBody, opened_all, after_opening_all, sealed_all}
 use Rattle.aes_ctr.specs.StreamState.{StreamState}
-use Rattle.run_digest.specs.HashState.{HashState}
-use Rattle.hop_crypto.specs.OpenerState.{place_of, opener_of}
+use Rattle.hop_crypto.specs.OpenerState.{IsOpenerOfLayer, place_of, opener_of}
+use Rattle.hop_crypto.specs.SealerState.{IsSealerOfLayer}
+use Rattle.hop_crypto.specs.declared.ready.Direction.{Direction}
+use Rattle.hop_crypto.specs.declared.ready.Direction.TheVariants.{Forth as forth_direction, Back as back_direction}
 use Rattle.hop_crypto.specs.declared.cipher.Cipher.{Cipher}
 use Rattle.hop_crypto.specs.declared.cipher.Cipher.TheVariants.{Forth, Back}
 
@@ -24,10 +26,15 @@ abbrev pub key_of : Cipher → List ℕ
 key_of (Forth opener) = opener.stream.key
 key_of (Back sealer) = sealer.key
 
--- The cipher with this keystream: it opens where there is a running digest, and seals where there is none.
-abbrev pub cipher_of : StreamState → Option HashState → Cipher
-cipher_of stream (Some digest) = Forth (record { stream = place_of stream; digest = digest })
-cipher_of stream None = Back (place_of stream)
+-- The cipher with this keystream that serves this direction.
+abbrev pub cipher_of : StreamState → Direction → Cipher
+cipher_of stream (forth_direction digest) = Forth (record { stream = place_of stream; digest = digest })
+cipher_of stream back_direction = Back (place_of stream)
+
+-- A layer has its state.
+abbrev pub IsOfLayer : Cipher → Type 0
+IsOfLayer (Forth opener) = IsOpenerOfLayer opener
+IsOfLayer (Back sealer) = IsSealerOfLayer sealer
 
 -- What comes out of a cipher, as the code's type holds it.
 
@@ -38,7 +45,8 @@ abbrev pub sealed_from : List ℕ → Opened
 sealed_from body = record { body = body; recognised = None }
 
 -- The bodies of input, one after another, went through the cipher start: output came out, and it was
--- the cipher end behind them. Forth this speaks of every layer that the opener is that of.
+-- the cipher end behind them. Forth this speaks of every layer that the opener is that of, and there is
+-- one (`IsOfLayer`).
 abbrev pub IsWorked : Cipher → List (List ℕ) → List Opened → Cipher → Type 0
 IsWorked (Forth start) input output end =
     (layer : OpeningLayer) → start ≡ opener_of layer

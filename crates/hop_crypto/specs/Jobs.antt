@@ -2,7 +2,7 @@
 use Rattle.std.specs.Prelude.{◌≡◌, ◌+◌, ◌*◌, ◌^◌, ◌<◌, ◌≤◌, [], length}
 use Rattle.cell_codec.specs.Roomy.{Roomy}
 use Rattle.relay_cell.specs.declared.head.Opened.{Opened}
-use Rattle.hop_crypto.specs.Ciphers.{direction_of, position_of, IsWorked}
+use Rattle.hop_crypto.specs.Ciphers.{direction_of, position_of, IsOfLayer, IsWorked}
 use Rattle.hop_crypto.specs.declared.parts.JobParts.{JobParts}
 use Rattle.hop_crypto.specs.declared.parts.DoneParts.{DoneParts}
 
@@ -21,7 +21,9 @@ pub record HasRoom (parts : JobParts) (output : Roomy Opened) : Type 0 where
   pub empty : output.items ≡ []
   pub ample : length parts.bodies.items ≤ output.spare
 
--- Output and end state are what the cipher makes of start state and input, which were a job's.
+-- Output and end state are what the cipher makes of start state and input, which were a job's. A layer
+-- has the start state, so that this says something of every such cipher.
 pub record IsDone (done : DoneParts) : Type 0 where
   pub job : IsJob (record { note = done.note; cipher = done.start; bodies = done.input })
+  pub layer : IsOfLayer done.start
   pub worked : IsWorked done.start done.input.items done.output.items done.end

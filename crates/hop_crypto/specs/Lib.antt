@@ -1,3 +1,4 @@
 pub mod OpenerState
+pub mod SealerState
 pub mod Ciphers
 pub mod Jobs

@@ -1,5 +1,5 @@
 -- What contracts see of an `Opener`, and the layer that it stands for.
-use Rattle.std.specs.Prelude.{ℕ, List}
+use Rattle.std.specs.Prelude.{◌≡◌, ℕ, List}
 use Rattle.aes_ctr.specs.StreamState.{StreamState}
 use Rattle.run_digest.specs.HashState.{HashState, hash_state}
 use Rattle.crypto_spec.specs.RunningDigest.{digest_message}
@@ -25,3 +25,8 @@ opener_of layer = record {
   stream = record { key = layer.key; position = layer.position };
   digest = hash_state (digest_message layer.seed layer.absorbed);
 }
+
+-- A layer has this state.
+pub record IsOpenerOfLayer (state : OpenerState) : Type 0 where
+  pub layer : OpeningLayer
+  pub state_is : state ≡ opener_of layer

@@ -1,7 +1,7 @@
 // One direction's cipher.
 
 ghost use Rattle.std.specs.Prelude.{◌≡◌, ◌+◌, ◌^◌, ◌<◌, ◌↔◌, [], ◌∷◌, IsTrue};
-ghost use Rattle.hop_crypto.specs.Ciphers.{position_of, IsWorked};
+ghost use Rattle.hop_crypto.specs.Ciphers.{position_of, IsOfLayer, IsWorked};
 
 use crate::opener::Opener;
 use crate::sealer::Sealer;
@@ -17,7 +17,8 @@ pub enum Cipher {
 impl Cipher {
     /// A second cipher in this state.
     pub fn copy(&self) -> Cipher
-        ensures { result ≡ self.now }
+        ensures copy { result ≡ self.now }
+        ensures layer { IsOfLayer self.now }
     {
         match self {
             Cipher::Forth(opener) => Cipher::Forth(opener.copy()),

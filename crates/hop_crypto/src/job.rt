@@ -2,7 +2,7 @@
 
 ghost use Rattle.std.specs.Prelude.{◌≡◌, ℕ, ◌+◌, ◌*◌, ◌^◌, ◌<◌, ◌≤◌, length, IfOk, IfErr};
 ghost use Rattle.crypto_spec.specs.Keystream.{keystream_part};
-ghost use Rattle.hop_crypto.specs.Ciphers.{direction_of, key_of, position_of, IsWorked};
+ghost use Rattle.hop_crypto.specs.Ciphers.{direction_of, key_of, position_of, IsOfLayer, IsWorked};
 ghost use Rattle.hop_crypto.specs.Jobs.{IsJob, IsDone};
 
 use crate::cipher::Cipher;
@@ -118,10 +118,13 @@ impl Done {
         self.end.ahead()
     }
 
-    /// The parts.
+    /// The parts. One thing came out of each body, the direction stayed, and the keystream went on.
     pub fn apart(self) -> DoneParts
         ensures parts { result ≡ self }
         ensures done { IsDone result }
+        ensures many { length result.output.items ≡ length result.input.items }
+        ensures direction { direction_of result.end ≡ direction_of result.start }
+        ensures position { position_of result.end ≡ position_of result.start + 509 * length result.input.items }
     {
         let Done {
             note,
@@ -145,6 +148,7 @@ pub fn work(job: Job) -> Done
     ensures note { result.note ≡ job.note }
     ensures start { result.start ≡ job.cipher }
     ensures input { result.input ≡ job.bodies }
+    ensures layer { IsOfLayer job.cipher }
     ensures worked { IsWorked job.cipher job.bodies.items result.output.items result.end }
 {
     let Job {

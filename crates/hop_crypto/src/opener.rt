@@ -4,7 +4,7 @@ ghost use Rattle.std.specs.Prelude.{◌≡◌, ℕ, ◌+◌, ◌^◌, ◌<◌, �
 ghost use Rattle.crypto_spec.specs.RunningDigest.{running_digest};
 ghost use Rattle.crypto_spec.specs.HopLayer.{OpeningLayer, fresh_opening, is_recognised, opened, after_opening};
 ghost use Rattle.run_digest.specs.HashState.{StandsFor};
-ghost use Rattle.hop_crypto.specs.OpenerState.{opener_of, place_of};
+ghost use Rattle.hop_crypto.specs.OpenerState.{IsOpenerOfLayer, opener_of, place_of};
 
 use aes_ctr::Stream;
 use kdf_tor::LayerKeys;
@@ -15,7 +15,7 @@ use std::marker::Model;
 /// are meant for this relay.
 ///
 /// Contracts see the place in the keystream and the state of the running digest. `opener_of` gives
-/// them for a layer, that is, for the keys and the bodies recognised so far.
+/// them for a layer, that is, for the keys and the bodies recognised so far; they are always those of one.
 #[derive(Drop)]
 pub struct Opener {
     stream: Stream,
@@ -23,11 +23,13 @@ pub struct Opener {
 }
 
 impl Model for Opener {
-    ghost use Rattle.hop_crypto.specs.OpenerState.{OpenerState, place_of};
+    ghost use Rattle.hop_crypto.specs.OpenerState.{OpenerState, IsOpenerOfLayer, place_of};
 
     ghost Value = { OpenerState };
 
     ghost view = { λ o. record { stream = place_of o.stream; digest = o.digest } };
+
+    ghost invariant = { λ o. IsOpenerOfLayer (record { stream = place_of o.stream; digest = o.digest }) };
 }
 
 impl Opener {
@@ -57,6 +59,7 @@ impl Opener {
 
     // The opener with this keystream and this running digest.
     pub(crate) fn of_parts(stream: Stream, digest: Running) -> Opener
+        requires { IsOpenerOfLayer (record { stream = place_of stream; digest = digest }) }
         ensures { result ≡ record { stream = place_of stream; digest = digest } }
     {
         Opener { stream, digest }
@@ -66,6 +69,7 @@ impl Opener {
     pub(crate) fn apart(self) -> (Stream, Running)
         ensures stream { place_of result.0 ≡ self.stream }
         ensures digest { result.1 ≡ self.digest }
+        ensures layer { IsOpenerOfLayer self }
     {
         let Opener { stream, digest } = self;
         (stream, digest)
@@ -80,7 +84,8 @@ impl Opener {
 
     /// A second opener in this state.
     pub fn copy(&self) -> Opener
-        ensures { result ≡ self.now }
+        ensures copy { result ≡ self.now }
+        ensures layer { IsOpenerOfLayer self.now }
     {
         Opener {
             stream: self.stream.copy(),

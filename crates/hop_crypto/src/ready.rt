@@ -2,7 +2,7 @@
 
 ghost use Rattle.std.specs.Prelude.{◌≡◌, ◌^◌, ◌<◌, length};
 ghost use Rattle.crypto_spec.specs.Keystream.{keystream_part};
-ghost use Rattle.hop_crypto.specs.Ciphers.{key_of, position_of, cipher_of};
+ghost use Rattle.hop_crypto.specs.Ciphers.{key_of, position_of, cipher_of, IsOfLayer};
 
 use crate::cipher::Cipher;
 use crate::opener::Opener;
@@ -11,25 +11,33 @@ use aes_ctr::Stream;
 use run_digest::Running;
 use std::marker::Model;
 
-/// One direction's cipher with the next 1,024 bytes of its keystream made ahead. Forth there is a
-/// running digest, back there is none.
+/// Which way a cipher's bodies go, and what it keeps beside its keystream.
+#[derive(Drop)]
+pub enum Direction {
+    /// Away from the client: the digest of the bodies recognised so far.
+    Forth(Running),
+    /// Towards the client.
+    Back,
+}
+
+/// One direction's cipher with the next 1,024 bytes of its keystream made ahead.
 ///
 /// Contracts see the cipher.
 pub struct ReadyCipher {
     stream: Stream,
-    digest: Option<Running>,
+    direction: Direction,
 }
 
 impl Model for ReadyCipher {
     ghost use Rattle.hop_crypto.specs.declared.cipher.Cipher.{Cipher};
-    ghost use Rattle.hop_crypto.specs.Ciphers.{cipher_of};
+    ghost use Rattle.hop_crypto.specs.Ciphers.{cipher_of, IsOfLayer};
     ghost use Rattle.std.specs.Prelude.{◌≡◌};
 
     ghost Value = { Cipher };
 
-    ghost view = { λ c. cipher_of c.stream c.digest };
+    ghost view = { λ c. cipher_of c.stream c.direction };
 
-    ghost invariant = { λ c. c.stream.ready ≡ 1024 };
+    ghost invariant = { λ c. (c.stream.ready ≡ 1024) × IsOfLayer (cipher_of c.stream c.direction) };
 }
 
 impl ReadyCipher {
@@ -38,9 +46,9 @@ impl ReadyCipher {
         requires { position_of cipher < 2 ^ 100 }
         ensures { result ≡ cipher }
     {
-        let (mut stream, digest) = parts_of(cipher);
+        let (mut stream, direction) = parts_of(cipher);
         stream.ahead();
-        ReadyCipher { stream, digest }
+        ReadyCipher { stream, direction }
     }
 
     /// The keystream that is made ahead.
@@ -55,23 +63,24 @@ impl ReadyCipher {
     pub fn cipher(self) -> Cipher
         ensures { result ≡ self }
     {
-        let ReadyCipher { stream, digest } = self;
-        match digest {
-            Some(digest) => Cipher::Forth(Opener::of_parts(stream, digest)),
-            None => Cipher::Back(Sealer::of_stream(stream)),
+        let ReadyCipher { stream, direction } = self;
+        match direction {
+            Direction::Forth(digest) => Cipher::Forth(Opener::of_parts(stream, digest)),
+            Direction::Back => Cipher::Back(Sealer::of_stream(stream)),
         }
     }
 }
 
-// The keystream of a cipher, and forth the running digest.
-fn parts_of(cipher: Cipher) -> (Stream, Option<Running>)
-    ensures { cipher_of result.0 result.1 ≡ cipher }
+// The keystream of a cipher, and its direction.
+fn parts_of(cipher: Cipher) -> (Stream, Direction)
+    ensures parts { cipher_of result.0 result.1 ≡ cipher }
+    ensures layer { IsOfLayer cipher }
 {
     match cipher {
         Cipher::Forth(opener) => {
             let (stream, digest) = opener.apart();
-            (stream, Some(digest))
+            (stream, Direction::Forth(digest))
         }
-        Cipher::Back(sealer) => (sealer.stream(), None),
+        Cipher::Back(sealer) => (sealer.stream(), Direction::Back),
     }
 }

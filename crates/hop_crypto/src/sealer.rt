@@ -3,6 +3,7 @@
 ghost use Rattle.std.specs.Prelude.{◌≡◌, ◌+◌, ◌^◌, ◌<◌, ◌↔◌, IsTrue};
 ghost use Rattle.crypto_spec.specs.HopLayer.{layered};
 ghost use Rattle.hop_crypto.specs.OpenerState.{place_of};
+ghost use Rattle.hop_crypto.specs.SealerState.{IsSealerOfLayer};
 
 use aes_ctr::Stream;
 use kdf_tor::LayerKeys;
@@ -11,7 +12,7 @@ use std::marker::Model;
 /// Puts a relay's layer on the bodies that go towards the client. Those that the relay packages
 /// have their digests already.
 ///
-/// Contracts see the place in the keystream.
+/// Contracts see the place in the keystream, which is always that of a layer: it begins a body.
 #[derive(Drop)]
 pub struct Sealer {
     stream: Stream,
@@ -19,10 +20,13 @@ pub struct Sealer {
 
 impl Model for Sealer {
     ghost use Rattle.hop_crypto.specs.OpenerState.{StreamPlace, place_of};
+    ghost use Rattle.hop_crypto.specs.SealerState.{IsSealerOfLayer};
 
     ghost Value = { StreamPlace };
 
     ghost view = { λ s. place_of s.stream };
+
+    ghost invariant = { λ s. IsSealerOfLayer (place_of s.stream) };
 }
 
 impl Sealer {
@@ -46,6 +50,7 @@ impl Sealer {
 
     // The sealer with this keystream.
     pub(crate) fn of_stream(stream: Stream) -> Sealer
+        requires { IsSealerOfLayer (place_of stream) }
         ensures { result ≡ place_of stream }
     {
         Sealer { stream }
@@ -53,7 +58,8 @@ impl Sealer {
 
     // The keystream.
     pub(crate) fn stream(self) -> Stream
-        ensures { place_of result ≡ self }
+        ensures stream { place_of result ≡ self }
+        ensures layer { IsSealerOfLayer self }
     {
         let Sealer { stream } = self;
         stream
@@ -68,7 +74,8 @@ impl Sealer {
 
     /// A second sealer in this state.
     pub fn copy(&self) -> Sealer
-        ensures { result ≡ self.now }
+        ensures copy { result ≡ self.now }
+        ensures layer { IsSealerOfLayer self.now }
     {
         Sealer {
             stream: self.stream.copy(),

@@ -7,8 +7,8 @@ use Rattle.hop_crypto.proofs.job.work.Goals as goal
 
 pub loop-body-init : goal.loop-body-init
 loop-body-init c = record {
-  worked = rw (c.copy-end.ensures, c.job.invariant.empty) (IsWorked-none c.job.inside.parts.cipher);
-  position = rw c.copy-end.ensures (omega arith);
+  worked = rw (c.copy-end.ensures.copy, c.job.invariant.empty) (IsWorked-none c.job.inside.parts.cipher);
+  position = rw c.copy-end.ensures.copy (omega arith);
   ample = rw c.as_slice-body-items.ensures (omega (arith, c.job.invariant.ample));
 }
 
@@ -39,6 +39,7 @@ invariant_of-result c =
     let all = take_all c.loop-body.body-index c.as_slice-body-items.result.now c.loop-body-test.false in
     record {
       job = c.job.invariant.job;
+      layer = c.copy-end.ensures.layer;
       worked = subst (IsWorked parts.cipher parts.bodies.items c.loop-body.output.items) (sym c.of.ensures)
           (rw (all, c.as_slice-body-items.ensures) at c.loop-body.invariant.worked);
     }

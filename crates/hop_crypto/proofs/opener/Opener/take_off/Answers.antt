@@ -1,4 +1,5 @@
 use Rattle.std.proofs.Common.{ap, ◌∙◌}
+use Rattle.crypto_spec.specs.HopLayer.{after_opening}
 use Rattle.hop_crypto.specs.OpenerState.{OpenerState, place_of}
 use Rattle.hop_crypto.proofs.Opening.{TookOff, opened_recognised, opened_other, state_recognised, state_other}
 use Rattle.hop_crypto.proofs.opener.Opener.take_off.Goals as goal
@@ -39,3 +40,29 @@ returns-clause-state c = λ layer stands.
     state_recognised here (place_of c.apply.new.self) c.in_ok-digest.digest layer c.args.body.now c.apply.new.body took
     (c.in_ok-digest.ensures.some layer.seed layer.absorbed digest)
     (c.in_ok-digest.ensures.digest layer.seed layer.absorbed digest)
+
+pub invariant_of-self : goal.invariant_of-self
+invariant_of-self c =
+    let here : OpenerState = record { stream = place_of c.self.inside.stream; digest = c.self.inside.digest } in
+    let layer = c.self.invariant.layer in
+    let took : TookOff here (place_of c.apply.new.self) layer c.args.body.now c.apply.new.body =
+    record { stands = c.self.invariant.state_is; off = c.apply.ensures.body; key = c.apply.ensures.key; position = c.apply.ensures.position } in
+    record {
+      layer = after_opening layer c.args.body.now;
+      state_is = state_other here (place_of c.apply.new.self) layer c.args.body.now c.apply.new.body took
+          (c.in_err-digest.ensures.none layer.seed layer.absorbed (ap (λ (o : OpenerState). o.digest) took.stands));
+    }
+
+pub invariant_of-self-2 : goal.invariant_of-self-2
+invariant_of-self-2 c =
+    let here : OpenerState = record { stream = place_of c.self.inside.stream; digest = c.self.inside.digest } in
+    let layer = c.self.invariant.layer in
+    let took : TookOff here (place_of c.apply.new.self) layer c.args.body.now c.apply.new.body =
+    record { stands = c.self.invariant.state_is; off = c.apply.ensures.body; key = c.apply.ensures.key; position = c.apply.ensures.position } in
+    let digest = ap (λ (o : OpenerState). o.digest) took.stands in
+    record {
+      layer = after_opening layer c.args.body.now;
+      state_is = state_recognised here (place_of c.apply.new.self) c.in_ok-digest.digest layer c.args.body.now c.apply.new.body took
+          (c.in_ok-digest.ensures.some layer.seed layer.absorbed digest)
+          (c.in_ok-digest.ensures.digest layer.seed layer.absorbed digest);
+    }
