@@ -1,12 +1,9 @@
 -- How what stands for a circuit's window goes on.
-use Rattle.std.proofs.Common.{◌≡◌, ◌≢◌, ℕ, zero, suc, Bool, not, ◌+◌, ◌-◌, ◌/◌, ◌%◌, ◌≤◌, [], ◌∷◌, ◌++◌, List, length, drop, take, refl, ap, sym, ◌∙◌, arith, true, false, Some, bytes_eq, length-append, length-drop, get_or}
+use Rattle.std.proofs.Common.{◌≡◌, ◌≢◌, ℕ, ◌+◌, ◌-◌, ◌/◌, ◌%◌, ◌≤◌, [], ◌∷◌, ◌++◌, List, length, drop, take, ap, sym, ◌∙◌, arith, length-append, length-drop}
 use Rattle.std.proofs.lemmas.List.{take-append-le, drop-take}
-use Rattle.tor_spec.specs.Sendme.{sendme_proof}
-use Rattle.tor_spec.specs.CircuitWindow.{CircuitWindow, proofs, owed, after_packaging, after_acknowledging, after_accepting}
+use Rattle.tor_spec.specs.CircuitWindow.{CircuitWindow, proofs, after_packaging, after_acknowledging, after_accepting}
 use Rattle.tor_spec.proofs.CircuitWindows.{owed_more, owed_same, owed_less}
 use Rattle.sendme_windows.specs.WindowsState.{WindowsState, StandsFor}
-use Rattle.sendme_windows.specs.Answers.{answer_to}
-use Rattle.sendme_windows.specs.declared.ProofAnswer.TheVariants.{Good, Wrong, NoneOwed}
 
 -- One more DATA cell, the 100th of its hundred.
 pub packed_due : (s : WindowsState) (w : CircuitWindow) (digest : List ℕ) (calls : ℕ) (more : List (List ℕ)) → StandsFor s w
@@ -50,36 +47,6 @@ turned n xs some within =
     let front : n - 1 ≤ length (drop 1 xs) = omega (arith, length-drop 1 xs) in
     let whole : 1 + (n - 1) ≡ n = omega arith in
     take-append-le (n - 1) (drop 1 xs) (take 1 xs) front ∙ sym (rw whole at (drop-take 1 (n - 1) xs))
-
--- The queue's first place.
-pub next_first : (n : ℕ) (xs : List (List ℕ)) → n ≢ 0 → 1 ≤ length xs → get_or xs 0 [] ∷ drop 1 (take n xs) ≡ take n xs
-next_first zero xs some within = absurd (some refl)
-next_first (suc n) [] some within = absurd (omega arith)
-next_first (suc n) (x ∷ xs) some within = refl
-
--- What a test of inequality says.
-
-pub differ : (same other : Bool) → other ≡ not same → other ≡ true → same ≡ false
-differ true other is so = sym so ∙ is
-differ false other is so = refl
-
-pub agree : (same other : Bool) → other ≡ not same → other ≡ false → same ≡ true
-agree true other is so = refl
-agree false other is so = sym so ∙ is
-
--- What a proof that was read is worth.
-
-pub answer_none : (w : CircuitWindow) (payload given : List ℕ) → sendme_proof payload ≡ Some given → [] ≡ owed w
-    → NoneOwed ≡ answer_to w payload
-answer_none w payload given read none = rw (read, ← none) refl
-
-pub answer_wrong : (w : CircuitWindow) (payload given expected : List ℕ) (rest : List (List ℕ)) → sendme_proof payload ≡ Some given
-    → expected ∷ rest ≡ owed w → bytes_eq given expected ≡ false → Wrong expected given ≡ answer_to w payload
-answer_wrong w payload given expected rest read next other = rw (read, ← next, other) refl
-
-pub answer_good : (w : CircuitWindow) (payload given expected : List ℕ) (rest : List (List ℕ)) → sendme_proof payload ≡ Some given
-    → expected ∷ rest ≡ owed w → bytes_eq given expected ≡ true → Good ≡ answer_to w payload
-answer_good w payload given expected rest read next same = rw (read, ← next, same) refl
 
 -- One more DATA cell of the other side.
 pub one_accepted : (s : WindowsState) (w : CircuitWindow) (calls : ℕ) → StandsFor s w

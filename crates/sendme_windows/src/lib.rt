@@ -6,52 +6,42 @@
 //! no memory.
 #![tactic(auto)]
 
-ghost use Rattle.std.specs.Prelude.{◌≡◌, ◌+◌, ◌^◌, ◌<◌, ◌↔◌, IsTrue};
-ghost use Rattle.tor_spec.specs.CircuitWindow.{CircuitWindow, fresh_window, after_packaging, after_accepting, is_sendme_due};
-ghost use Rattle.sendme_windows.specs.WindowsState.{StandsFor, HasRoom};
-ghost use Rattle.sendme_windows.specs.Answers.{answer_to, window_after};
+pub mod laws;
+mod proof_answer;
 
-use relay_cell::read_proof;
+ghost use Rattle.std.specs.Prelude.{◌≡◌, ℕ, ◌+◌, ◌^◌, ◌<◌, ◌≤◌, ◌↔◌, IsTrue, Option, Some};
+ghost use Rattle.std.specs.Option.{option_map};
+ghost use Rattle.tor_spec.specs.CircuitWindow.{CircuitWindow, circuit_start, least_start, fresh_window, after_packaging, after_accepting, next_owed, is_sendme_due};
+ghost use Rattle.tor_spec.specs.Sendme.{needs_no_proof};
+ghost use Rattle.sendme_windows.specs.WindowsState.{StandsFor, HasRoom, KeepsLimits};
+ghost use Rattle.sendme_windows.specs.Answers.{answer_to, judged, window_after};
+
+pub use proof_answer::ProofAnswer;
+use relay_cell::{is_version_0, read_proof};
 use std::marker::Model;
 
 #[cfg(test)]
 mod tests;
 
-/// The cells that a circuit's window begins with.
-const START: u64 = 1000;
-
-/// The cells by which each SENDME raises it.
+/// The cells by which each SENDME raises the window.
 const STEP: u64 = 100;
 
-/// What a circuit's SENDME is worth.
-#[derive(Clone, Copy, Debug, PartialEq, Eq)]
-pub enum ProofAnswer {
-    /// It has the oldest proof that is owed, and raises the window by 100 cells.
-    Good,
-    /// It has another proof. Nothing changed.
-    Wrong {
-        /// The proof that is owed.
-        expected: [u8; 20],
-        /// The proof that it has.
-        given: [u8; 20],
-    },
-    /// It has a proof, and none is owed. Nothing changed.
-    NoneOwed,
-    /// Its payload isn't that of a circuit's SENDME. Nothing changed.
-    BadForm,
-}
+/// The proofs that may wait at a time.
+const MOST_OWED: usize = 10;
 
 /// Both windows of a circuit at one side.
 ///
-/// Contracts see the calls made, the counts, and the proofs that are owed; `StandsFor` ties them to
-/// the cells and SENDMEs that went by.
+/// Contracts see what it was made with, the calls made, the counts, and the proofs that are owed;
+/// `StandsFor` ties them to the cells and SENDMEs that went by.
 #[derive(Drop)]
 pub struct Windows {
+    start: u32,
+    least: u8,
     calls: u64,
     packed: u64,
     good: u64,
     accepted: u64,
-    owed: [[u8; 20]; 10],
+    owed: [[u8; 20]; MOST_OWED],
     owed_count: usize,
 }
 
@@ -68,27 +58,36 @@ impl Model for Windows {
 }
 
 impl Windows {
-    /// The windows of a circuit that was just opened.
+    /// The windows of a circuit that was just opened: `start` DATA cells, 100 to 1000, may be packaged
+    /// before the first SENDME, and SENDMEs of version `least`, 0 or 1, and above are accepted.
     #[tactic(auto, unfolding(tor_spec::specs::CircuitWindow::proofs))]
-    pub fn new() -> Windows
+    pub fn new(start: u32, least: u8) -> Windows
+        requires least_start { least_start ≤ start }
+        requires most_start { start ≤ circuit_start }
+        requires version { least ≤ 1 }
         ensures stands { StandsFor result fresh_window }
+        ensures start { result.start ≡ start }
+        ensures least { result.least ≡ least }
         ensures calls { result.calls ≡ 0 }
     {
         Windows {
+            start,
+            least,
             calls: 0,
             packed: 0,
             good: 0,
             accepted: 0,
-            owed: [[0; 20]; 10],
+            owed: [[0; 20]; MOST_OWED],
             owed_count: 0,
         }
     }
 
-    /// Whether one more DATA cell may be packaged.
+    /// Whether one more DATA cell may be packaged: as many may be as the window began with, and a SENDME's
+    /// step more for each one that was good.
     pub fn may_pack(&self) -> bool
         ensures { IsTrue result ↔ HasRoom self.now }
     {
-        self.packed < START + STEP * self.good
+        self.packed < u64::from(self.start) + STEP * self.good
     }
 
     /// Counts a DATA cell that is packaged; `digest` is the running digest after it.
@@ -96,6 +95,7 @@ impl Windows {
         requires calls { self.old.calls < 2 ^ 63 }
         requires room { HasRoom self.old }
         ensures stands { (w : CircuitWindow) → StandsFor self.old w → StandsFor self.new (after_packaging w digest.now) }
+        ensures limits { KeepsLimits self.old self.new }
         ensures calls { self.new.calls ≡ self.old.calls + 1 }
     {
         self.calls += 1;
@@ -106,23 +106,41 @@ impl Windows {
         }
     }
 
-    /// Judges a SENDME of the circuit by its payload.
+    /// Judges a SENDME of the circuit by its payload: `BadForm` exactly where it needs a proof and has none
+    /// of the right form, else `NoneOwed` exactly where no proof waits, else `Wrong` exactly where it has
+    /// another than the oldest.
     pub fn proof_of(&mut self, payload: &[u8]) -> ProofAnswer
         requires { self.old.calls < 2 ^ 63 }
-        ensures answer { (w : CircuitWindow) → StandsFor self.old w → result ≡ answer_to w payload.now }
+        ensures answer { (w : CircuitWindow) → StandsFor self.old w → result ≡ answer_to self.old.least w payload.now }
         ensures stands { (w : CircuitWindow) → StandsFor self.old w → StandsFor self.new (window_after result w) }
+        ensures limits { KeepsLimits self.old self.new }
         ensures calls { self.new.calls ≡ self.old.calls + 1 }
     {
         self.calls += 1;
-        let Some(given) = read_proof(payload) else {
-            return ProofAnswer::BadForm;
-        };
+        if self.least == 0 && is_version_0(payload) {
+            return self.judge(None);
+        }
+        match read_proof(payload) {
+            Some(given) => self.judge(Some(given)),
+            None => ProofAnswer::BadForm,
+        }
+    }
+
+    /// Judges a SENDME by its proof, or one that needs none.
+    fn judge(&mut self, given: Option<[u8; 20]>) -> ProofAnswer
+        ensures answer { (w : CircuitWindow) → StandsFor self.old w → result ≡ judged (next_owed w) given }
+        ensures stands { (w : CircuitWindow) → StandsFor self.old w → StandsFor self.new (window_after result w) }
+        ensures limits { KeepsLimits self.old self.new }
+        ensures calls { self.new.calls ≡ self.old.calls }
+    {
         if self.owed_count == 0 {
             return ProofAnswer::NoneOwed;
         }
         let expected = self.owed[0];
-        if given != expected {
-            return ProofAnswer::Wrong { expected, given };
+        if let Some(given) = given {
+            if given != expected {
+                return ProofAnswer::Wrong { expected, given };
+            }
         }
         self.owed.rotate_left(1);
         self.owed_count -= 1;
@@ -134,8 +152,9 @@ impl Windows {
     /// it: for each 100th one.
     pub fn accepted(&mut self) -> bool
         requires { self.old.calls < 2 ^ 63 }
-        ensures due { (w : CircuitWindow) → StandsFor self.old w → result ≡ is_sendme_due (after_accepting w) }
+        ensures due { (w : CircuitWindow) → StandsFor self.old w → result ≡ is_sendme_due (after_accepting w).accepted }
         ensures stands { (w : CircuitWindow) → StandsFor self.old w → StandsFor self.new (after_accepting w) }
+        ensures limits { KeepsLimits self.old self.new }
         ensures calls { self.new.calls ≡ self.old.calls + 1 }
     {
         self.calls += 1;
