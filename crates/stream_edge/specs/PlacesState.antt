@@ -1,7 +1,9 @@
 -- What contracts see of a `Places`.
-use Rattle.std.specs.Prelude.{◌≡◌, ◌≢◌, ℕ, ◌+◌, ◌*◌, ◌≤◌, ◌^◌, List, Option, Some, None, get_or, set, length}
+use Rattle.std.specs.Prelude.{◌≡◌, ◌≢◌, ℕ, ◌+◌, ◌≤◌, ◌^◌, List, Option, Some, None, IsTrue, get_or, set, length}
+use Rattle.tor_spec.specs.StreamWindow.{stream_start}
 use Rattle.stream_edge.specs.declared.held.Held.{Held}
 use Rattle.stream_edge.specs.declared.held.Phase.TheVariants.{Ending}
+use Rattle.stream_edge.specs.Streams.{accept_grant, is_live_as, pack_grant}
 
 -- The 32 places, the serial of the next stream, and the calls that could change them.
 pub record PlacesState : Type 0 where
@@ -27,17 +29,25 @@ IsEnding s place = (h : Held) × (held_at s place ≡ Some h) × (h.phase ≡ En
 abbrev pub with_held : PlacesState → ℕ → Option Held → PlacesState
 with_held s place holds = record s { held = set s.held place holds; calls = s.calls + 1 }
 
--- No count of a stream passes the calls, no SENDME came before its cells, and what was drained was
--- accepted before.
+-- No count of a stream passes its grant, its window never opens past its start, what was drained was
+-- accepted before, and no count passes the calls.
 pub record IsCounted (h : Held) (calls : ℕ) : Type 0 where
-  pub serial : h.serial ≤ calls
-  pub packed : h.packed ≤ calls
-  pub credits : 50 * h.credits ≤ h.packed
-  pub accepted : h.accepted ≤ calls
+  pub packed : h.packed ≤ pack_grant h
+  pub window : pack_grant h ≤ stream_start + h.packed
+  pub accepted : h.accepted ≤ accept_grant h
   pub drained : h.drained ≤ h.accepted
+  pub serial_within : h.serial ≤ calls
+  pub packed_within : h.packed ≤ calls
+  pub accepted_within : h.accepted ≤ calls
+
+-- A StreamID is live at one place at most.
+abbrev pub LivesOnce : List (Option Held) → Type 0
+LivesOnce held =
+    (one other id : ℕ) → IsTrue (is_live_as id (get_or held one None)) → IsTrue (is_live_as id (get_or held other None)) → one ≡ other
 
 pub record IsInStep (s : PlacesState) : Type 0 where
   pub places : length s.held ≡ 32
   pub next_serial : s.next_serial ≤ s.calls
   pub calls : s.calls ≤ 2 ^ 63
+  pub live_once : LivesOnce s.held
   pub counted : (place : ℕ) (h : Held) → held_at s place ≡ Some h → IsCounted h s.calls

@@ -1,8 +1,8 @@
 //! The places of a circuit.
 
-ghost use Rattle.std.specs.Prelude.{◌≡◌, ◌+◌, ◌^◌, ◌<◌, ◌≤◌, IsTrue, IfSome, IfNone, if◌then◌else◌, Option, Some, None, option_map, position, replicate};
-ghost use Rattle.stream_edge.specs.Streams.{after_accepting, after_credit, after_draining, after_packaging, begun, is_free, is_live_as, may_accept, may_credit, may_package, sendme_due};
-ghost use Rattle.stream_edge.specs.PlacesState.{IsCounted, IsEnding, IsLive, IsTaken, held_at, with_held};
+ghost use Rattle.std.specs.Prelude.{◌≡◌, ℕ, ◌+◌, ◌^◌, ◌<◌, ◌≤◌, IsTrue, IfSome, IfNone, if◌then◌else◌, Option, Some, None, option_map, is_some, length, position, replicate};
+ghost use Rattle.stream_edge.specs.Streams.{after_accepting, after_credit, after_draining, after_packaging, begun, is_free, is_live_as, is_stream, may_accept, may_credit, may_drain, may_package, sendme_due};
+ghost use Rattle.stream_edge.specs.PlacesState.{IsCounted, IsEnding, IsLive, IsTaken, LivesOnce, held_at, with_held};
 ghost use Rattle.stream_edge.specs.declared.held.Held.{Held};
 
 use crate::held::{Held, Phase};
@@ -11,10 +11,10 @@ use std::marker::Model;
 /// The places of a circuit.
 const PLACES: usize = 32;
 
-/// The cells that a stream's window begins with.
+/// The cells that a stream's window begins with (tor-spec, "Stream-level flow control").
 const START: u64 = 500;
 
-/// The cells by which each SENDME raises it.
+/// The cells by which each SENDME of the stream raises it.
 const STEP: u64 = 50;
 
 /// The number of a place, below 32.
@@ -33,11 +33,12 @@ pub enum AcceptAnswer {
 #[derive(Clone, Copy, PartialEq, Eq, Debug)]
 pub enum CreditAnswer {
     Raised,
-    /// The window would pass 500 cells.
+    /// The window would pass its start.
     TooMuch,
 }
 
-/// The streams of a circuit.
+/// The streams of a circuit. Its type keeps that a StreamID is live at one place at most, that no count of a
+/// stream passes its grant, and that no window opens past its start.
 #[derive(Drop)]
 pub struct Places {
     held: [Option<Held>; 32],
@@ -75,15 +76,35 @@ impl Places {
         Some(PlaceNo(place as u32))
     }
 
+    /// The place of the stream with this StreamID and serial, if it has one.
+    pub fn place_of(&self, id: u16, serial: u64) -> Option<PlaceNo>
+        ensures first { option_map (λ place. place.0) result ≡ position (is_stream id serial) self.now.held }
+        ensures within { IfSome result (λ place. place.0 < 32) }
+    {
+        let place = stream_place(&self.held, id, serial)?;
+        Some(PlaceNo(place as u32))
+    }
+
+    /// Whether a place is free.
+    pub fn has_free(&self) -> bool
+        ensures free { result ≡ is_some (position is_free self.now.held) }
+        ensures places { length self.now.held ≡ 32 }
+        ensures live_once { LivesOnce self.now.held }
+    {
+        free_place(&self.held).is_some()
+    }
+
     /// Takes a place for a stream that was just accepted. `None`, and nothing is taken, exactly where
     /// all 32 are taken.
     pub fn take_place(&mut self, id: u16) -> Option<PlaceNo>
         requires calls { self.old.calls < 2 ^ 63 }
         requires new { position (is_live_as id) self.old.held ≡ None }
         ensures place { option_map (λ place. place.0) result ≡ position is_free self.old.held }
+        ensures within { IfSome result (λ place. place.0 < 32) }
         ensures some { IfSome result (λ place. self.new ≡ record (with_held self.old place.0 (Some (begun id self.old.next_serial))) { next_serial = self.old.next_serial + 1 }) }
         ensures taken { IfSome result (λ place. held_at self.new place.0 ≡ Some (begun id self.old.next_serial)) }
         ensures none { IfNone result (self.new ≡ record self.old { calls = self.old.calls + 1 }) }
+        ensures live_once { LivesOnce self.new.held }
         ensures calls { self.new.calls ≡ self.old.calls + 1 }
     {
         self.calls += 1;
@@ -150,7 +171,7 @@ impl Places {
     }
 
     /// Counts an accepted DATA cell whose bytes the connection has taken. `None` exactly where there
-    /// is none; else whether a SENDME is due, which raises the window by 50: for each 50th.
+    /// is none; else whether a SENDME is due, which raises the window: for each 50th.
     pub fn drained(&mut self, place: PlaceNo) -> Option<bool>
         requires calls { self.old.calls < 2 ^ 63 }
         requires live { IsLive self.old place.0 }
@@ -196,7 +217,7 @@ impl Places {
         );
     }
 
-    /// A SENDME of the stream, which raises its window by 50 cells, where it stays at or below 500.
+    /// A SENDME of the stream, which raises its window by 50 cells, where it stays at or below its start.
     pub fn credit(&mut self, place: PlaceNo) -> CreditAnswer
         requires calls { self.old.calls < 2 ^ 63 }
         requires live { IsLive self.old place.0 }
@@ -257,6 +278,15 @@ impl Places {
         self.stream_at(place).packed
     }
 
+    /// Whether a DATA cell that was accepted for the stream is undrained.
+    pub fn has_undrained(&self, place: PlaceNo) -> bool
+        requires { IsTaken self.now place.0 }
+        ensures { (h : Held) → held_at self.now place.0 ≡ Some h → result ≡ may_drain h }
+    {
+        let stream = self.stream_at(place);
+        stream.drained < stream.accepted
+    }
+
     fn get(&self, place: PlaceNo) -> Option<Held>
         ensures { result ≡ held_at self.now place.0 }
     {
@@ -283,6 +313,7 @@ impl Places {
         requires calls { self.old.calls < 2 ^ 63 }
         requires within { place.0 < 32 }
         requires counted { (h : Held) → held ≡ Some h → IsCounted h (self.old.calls + 1) }
+        requires lives { (id : ℕ) → IsTrue (is_live_as id held) → IsTrue (is_live_as id (held_at self.old place.0)) }
         ensures { self.new ≡ with_held self.old place.0 held }
     {
         self.held[place.0 as usize] = held;
@@ -297,6 +328,13 @@ fn live_place(held: &[Option<Held>; 32], id: u16) -> Option<usize>
     held.iter().position(|held| is_live_as(held, id))
 }
 
+fn stream_place(held: &[Option<Held>; 32], id: u16, serial: u64) -> Option<usize>
+    ensures first { result ≡ position (is_stream id serial) held.now }
+    ensures within { IfSome result (λ place. place < 32) }
+{
+    held.iter().position(|held| is_stream(held, id, serial))
+}
+
 fn free_place(held: &[Option<Held>; 32]) -> Option<usize>
     ensures first { result ≡ position is_free held.now }
     ensures within { IfSome result (λ place. place < 32) }
@@ -309,6 +347,15 @@ fn is_live_as(held: &Option<Held>, id: u16) -> bool
 {
     match held {
         Some(stream) => stream.stream == id && stream.phase != Phase::Ending,
+        None => false,
+    }
+}
+
+fn is_stream(held: &Option<Held>, id: u16, serial: u64) -> bool
+    ensures { result ≡ is_stream id serial held.now }
+{
+    match held {
+        Some(stream) => stream.stream == id && stream.serial == serial,
         None => false,
     }
 }
