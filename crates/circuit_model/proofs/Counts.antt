@@ -48,7 +48,7 @@ not-both false b one other = cc
 -- What an event that isn't bytes of the edge has packaged is no DATA.
 packaged-no_data : (rules : Rules) (l : Log) (e : Event) → ((serial : ℕ) → is_data_of serial e ≡ false) → is_data_body (packaged_by e (effects_after rules l e).back) ≡ false
 unfolding open_effects
-packaged-no_data rules l (Born reply keys) other = closed-no_data (is_closed l) no_effects refl
+packaged-no_data rules l (Born reply keys pad) other = closed-no_data (is_closed l) no_effects refl
 packaged-no_data rules l (Forward command body) other = closed-no_data (is_closed l) _ (received-no_data rules l command (received l command body))
 packaged-no_data rules l (Backward body) other = refl
 packaged-no_data rules l (Connected serial) other = closed-no_data (is_closed l) _ (connected-tame l (place_at l serial)).no_data
@@ -69,7 +69,7 @@ stream_counts_its_data rules h serial bytes = rw (same-number serial)
 pub other_events_leave_stream : (rules : Rules) (h : List Event) (e : Event) (serial : ℕ) → is_data_of serial e ≡ false → stream_packaged (log rules (e ∷ h)) serial ≡ stream_packaged (log rules h) serial
 other_events_leave_stream rules h e serial other = rw other
 
-pub circuit_grant_stays : (rules : Rules) (h : List Event) (e : Event) → has_command sendme_command (message_at (log rules h) e) ≡ false → circuit_grant (log rules (e ∷ h)) ≡ circuit_grant (log rules h)
+pub circuit_grant_stays : (rules : Rules) (h : List Event) (e : Event) → has_command sendme_command (message_at (log rules h) e) ≡ false → circuit_grant rules (log rules (e ∷ h)) ≡ circuit_grant rules (log rules h)
 circuit_grant_stays rules h e none = rw none
 
 pub stream_grant_stays : (rules : Rules) (h : List Event) (e : Event) (serial : ℕ) → has_command sendme_command (message_at (log rules h) e) ≡ false → stream_grant (log rules (e ∷ h)) serial ≡ stream_grant (log rules h) serial
@@ -80,11 +80,11 @@ unfolding open_effects
 data_moves_window rules h serial bytes place live found =
     rw (live, found, command-package_of (log rules h) data_command place.key.stream bytes)
 
-does-right : (rules : Rules) (l : Log) (m : Message) → m.command ≡ sendme_command → m.stream ≡ 0 → is_right_sendme l m.payload ≡ true → message_effects rules l m ≡ no_effects
+does-right : (rules : Rules) (l : Log) (m : Message) → m.command ≡ sendme_command → m.stream ≡ 0 → is_right_sendme rules l m.payload ≡ true → message_effects rules l m ≡ no_effects
 unfolding message_effects
 does-right rules l m command stream right = rw (command, stream, right)
 
-pub right_sendme_grants : (rules : Rules) (h : List Event) (e : Event) (m : Message) → message_at (log rules h) e ≡ Some m → m.command ≡ sendme_command → m.stream ≡ 0 → is_right_sendme (log rules h) m.payload ≡ true → circuit_grant (log rules (e ∷ h)) ≡ circuit_grant (log rules h) + 100
+pub right_sendme_grants : (rules : Rules) (h : List Event) (e : Event) (m : Message) → message_at (log rules h) e ≡ Some m → m.command ≡ sendme_command → m.stream ≡ 0 → is_right_sendme rules (log rules h) m.payload ≡ true → circuit_grant rules (log rules (e ∷ h)) ≡ circuit_grant rules (log rules h) + 100
 right_sendme_grants rules h e m found command stream right =
     let does : effects_after rules (log rules h) e ≡ no_effects = read-effects rules (log rules h) e m found ∙ does-right rules (log rules h) m command stream right in
     rw (found, does, command, stream) (omega arith)

@@ -21,7 +21,7 @@ use Rattle.circuit_model.proofs.Tame.{message-tame, drained-tame, ended-tame}
 
 message-not_linked_in : (l : Log) (e : Event) (m : Message) → message_in l e ≡ Some m → is_linked e ≡ false
 message-not_linked_in l (Forward command body) m found = refl
-message-not_linked_in l (Born reply keys) m found = refl
+message-not_linked_in l (Born reply keys pad) m found = refl
 message-not_linked_in l (Backward body) m found = refl
 message-not_linked_in l (Connected serial) m found = refl
 message-not_linked_in l (Data serial bytes) m found = refl
@@ -92,7 +92,7 @@ extending-none l (Some handshake) = if-none (nat_le (length handshake) 496) _ _ 
 open-none : (rules : Rules) (l : Log) (e : Event) → is_linked e ≡ false → has_leg (next_hop l) ≡ false → (open_effects rules l e).forth ≡ None
 unfolding open_effects
 open-none rules l (Forward command body) other leg = received-none rules l command (received l command body) leg
-open-none rules l (Born reply keys) other leg = refl
+open-none rules l (Born reply keys pad) other leg = refl
 open-none rules l (Backward body) other leg = refl
 open-none rules l (Connected serial) other leg = connected-none l (place_at l serial)
 open-none rules l (Data serial bytes) other leg = edge_data-none l bytes (place_at l serial)
@@ -127,7 +127,7 @@ append_sealed key n (first ∷ bodies) body =
     rw (append_sealed key (n + 1) bodies body, more)
 
 not_born-reply : (e : Event) → keys_in e ≡ None → reply_in e ≡ None
-not_born-reply (Born reply keys) other = cc
+not_born-reply (Born reply keys pad) other = cc
 not_born-reply (Forward command body) other = refl
 not_born-reply (Backward body) other = refl
 not_born-reply (Connected serial) other = refl

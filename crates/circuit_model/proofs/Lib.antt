@@ -6,3 +6,5 @@ pub mod Legs
 pub mod Behind
 pub mod Streams
 pub mod PathLayers
+pub mod Versions
+pub mod Keystreams

@@ -15,7 +15,7 @@ read-received rules log command (ForUs message) m found = cc
 read-event : (rules : Rules) (log : Log) (e : Event) (m : Message) → message_in log e ≡ Some m → open_effects rules log e ≡ message_effects rules log m
 unfolding open_effects
 read-event rules log (Forward command body) m found = read-received rules log command (received log command body) m found
-read-event rules log (Born reply keys) m found = cc
+read-event rules log (Born reply keys pad) m found = cc
 read-event rules log (Backward body) m found = cc
 read-event rules log (Connected serial) m found = cc
 read-event rules log (Data serial bytes) m found = cc

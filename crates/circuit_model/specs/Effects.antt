@@ -1,6 +1,6 @@
--- What the one-thread relay does with an event: the table of effects, the first row that fits. DESTROY
--- reasons: 1 PROTOCOL, 6 CONNECTFAILED.
+-- What the one-thread relay does with an event: the table of effects, the first row that fits.
 use Rattle.std.specs.Prelude.{ℕ, ◌==◌, if◌then◌else◌, Some}
+use Rattle.tor_spec.specs.Reasons.{destroy_protocol, destroy_connect_failed, end_not_directory}
 use Rattle.tor_spec.specs.RelayCell.{begin_command, data_command, end_command, sendme_command, truncate_command, drop_command, resolve_command, begin_dir_command, extend2_command}
 use Rattle.circuit_model.specs.Events.{Event, Born, Forward, Backward, Connected, Data, Ended, Drained, Freed, Linked, Answered, Failed, CircuitCell}
 use Rattle.circuit_model.specs.Rules.{Rules}
@@ -11,35 +11,35 @@ use Rattle.circuit_model.specs.Received.{Received, TooManyEarly, Unrecognised, T
 use Rattle.circuit_model.specs.Streams.{begin_effects, data_effects, end_effects, sendme_effects, resolve_effects, ending, connected_effects, edge_data_effects, ended_effects, drained_effects}
 use Rattle.circuit_model.specs.Extending.{extend_effects, truncate_effects, linked_effects, answered_effects}
 
--- A relay message for this relay, by its relay command. END reason 14 is NOTDIRECTORY.
+-- A relay message for this relay, by its relay command.
 unfoldable pub message_effects : Rules → Log → Message → Effects
 message_effects rules log message =
     if message.command == begin_command then begin_effects rules log message
     else (if message.command == data_command then data_effects log message
     else (if message.command == end_command then end_effects message
-    else (if message.command == sendme_command then sendme_effects log message
+    else (if message.command == sendme_command then sendme_effects rules log message
     else (if message.command == truncate_command then truncate_effects log
     else (if message.command == drop_command then no_effects
     else (if message.command == resolve_command then resolve_effects rules log message
-    else (if message.command == begin_dir_command then ending log message.stream 14
+    else (if message.command == begin_dir_command then ending log message.stream end_not_directory
     else (if message.command == extend2_command then extend_effects log message
     else no_effects))))))))
 
 -- A body for another hop goes on with the command of its cell, if there is a next hop.
 abbrev pub passed_on : NextHop → CircuitCell → Effects
 passed_on There cell = record no_effects { forth = Some cell }
-passed_on hop cell = closing 1
+passed_on hop cell = closing destroy_protocol
 
 -- A relay cell from the client's side.
 abbrev pub forward_effects : Rules → Log → ℕ → Received → Effects
-forward_effects rules log command TooManyEarly = closing 1
+forward_effects rules log command TooManyEarly = closing destroy_protocol
 forward_effects rules log command (Unrecognised plain) = passed_on (next_hop log) (record { command = command; body = plain })
-forward_effects rules log command TooLong = closing 1
+forward_effects rules log command TooLong = closing destroy_protocol
 forward_effects rules log command (ForUs message) = message_effects rules log message
 
 -- An event in a circuit that has not closed.
 unfoldable pub open_effects : Rules → Log → Event → Effects
-open_effects rules log (Born reply keys) = no_effects
+open_effects rules log (Born reply keys pad) = no_effects
 open_effects rules log (Forward command body) = forward_effects rules log command (received log command body)
 open_effects rules log (Backward body) = record no_effects { back = Some body }
 open_effects rules log (Connected serial) = connected_effects log (place_at log serial)
@@ -49,7 +49,7 @@ open_effects rules log (Drained serial) = drained_effects log (place_at log seri
 open_effects rules log (Freed serial) = no_effects
 open_effects rules log Linked = linked_effects log
 open_effects rules log (Answered payload) = answered_effects log payload
-open_effects rules log Failed = closing 6
+open_effects rules log Failed = closing destroy_connect_failed
 
 -- After it closed, a circuit gives nothing.
 abbrev pub effects_after : Rules → Log → Event → Effects

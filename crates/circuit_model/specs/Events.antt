@@ -1,6 +1,6 @@
 -- What can happen to one circuit of a relay. Places are named by their serial: the accepted BEGIN
 -- with number 0 of the circuit makes place 0, the next one place 1, and so on.
-use Rattle.std.specs.Prelude.{ℕ, List}
+use Rattle.std.specs.Prelude.{ℕ, List, Option}
 
 -- A cell on a circuit without its CircID: the cell command and the payload of 509 bytes.
 pub record CircuitCell : Type 0 where
@@ -16,8 +16,9 @@ pub record CircuitKeys : Type 0 where
   pub kb : List ℕ
 
 pub data Event : Type 0 where
-  -- the circuit is opened: the cell that answers the opening, and the keys; always the first event
-  Born : (reply : CircuitCell) (keys : CircuitKeys) → Event
+  -- the circuit is opened: the cell that answers the opening, the keys, and the key that makes the padding
+  -- of this relay's bodies, if there is one; always the first event
+  Born : (reply : CircuitCell) (keys : CircuitKeys) (pad : Option (List ℕ)) → Event
   -- a RELAY or RELAY_EARLY cell from the client's side: its command and its body as it came
   Forward : (command : ℕ) (body : List ℕ) → Event
   -- the body of a RELAY cell from the next hop

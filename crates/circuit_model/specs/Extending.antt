@@ -2,6 +2,8 @@
 -- "CREATE and CREATED cells", "Tearing down circuits").
 use Rattle.std.specs.Prelude.{ℕ, ◌-◌, [], ◌∷◌, ◌++◌, List, length, not, if◌then◌else◌, Option, Some, None, is_some, nat_le, option_and_then, replicate}
 use Rattle.std.specs.Int.{w16, to_be_bytes}
+use Rattle.tor_spec.specs.CellCommands.{create2_command}
+use Rattle.tor_spec.specs.Reasons.{destroy_protocol, destroy_requested}
 use Rattle.tor_spec.specs.RelayCell.{truncated_command, extended2_command}
 use Rattle.tor_spec.specs.Extend.{Address, Extend, extend_request, handshake_reply, handshake_reply_payload}
 use Rattle.circuit_model.specs.Events.{CircuitCell}
@@ -13,21 +15,21 @@ use Rattle.circuit_model.specs.Packaged.{packaging}
 
 abbrev pub dialling : Option Address → Effects
 dialling (Some to) = record no_effects { dial = Some to }
-dialling None = closing 1
+dialling None = closing destroy_protocol
 
 abbrev pub address_asked : Message → Option Address
 address_asked message = option_and_then (λ request. request.to) (extend_request message.payload)
 
 abbrev pub extend_effects : Log → Message → Effects
 extend_effects log message =
-    if not message.early then closing 1
-    else (if not (is_absent (next_hop log)) then closing 1
+    if not message.early then closing destroy_protocol
+    else (if not (is_absent (next_hop log)) then closing destroy_protocol
     else dialling (address_asked message))
 
--- TRUNCATE: the next hop goes, and is answered by TRUNCATED with reason 3, REQUESTED.
+-- TRUNCATE: the next hop goes, and is answered by TRUNCATED with REQUESTED.
 abbrev pub truncate_effects : Log → Effects
 truncate_effects log =
-    record (packaging log truncated_command 0 (3 ∷ [])) { cut = not (is_absent (next_hop log)) }
+    record (packaging log truncated_command 0 (destroy_requested ∷ [])) { cut = not (is_absent (next_hop log)) }
 
 -- What an entry asked of the next hop, if it was an accepted EXTEND2.
 
@@ -45,7 +47,7 @@ filled bytes = bytes ++ replicate (509 - length bytes) 0
 -- CREATE2: HTYPE, HLEN and HDATA as the EXTEND2 had them.
 unfoldable pub create2 : Extend → CircuitCell
 create2 request = record {
-  command = 10;
+  command = create2_command;
   body = filled (to_be_bytes w16 request.handshake_type ++ handshake_reply_payload request.handshake);
 }
 
@@ -62,8 +64,8 @@ abbrev pub extending : Log → Option (List ℕ) → Effects
 extending log (Some handshake) =
     if nat_le (length handshake) 496
     then packaging log extended2_command 0 (handshake_reply_payload handshake)
-    else closing 1
-extending log None = closing 1
+    else closing destroy_protocol
+extending log None = closing destroy_protocol
 
 -- CREATED2 from the next hop, by its payload.
 abbrev pub answered_effects : Log → List ℕ → Effects

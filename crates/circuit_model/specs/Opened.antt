@@ -7,7 +7,7 @@ use Rattle.circuit_model.specs.Events.{Event, Born, Forward, CircuitCell, Circui
 use Rattle.circuit_model.specs.Log.{Log, count_of, newest}
 
 abbrev pub keys_in : Event → Option CircuitKeys
-keys_in (Born reply keys) = Some keys
+keys_in (Born reply keys pad) = Some keys
 keys_in event = None
 
 -- Stands in for the keys before Born.
@@ -19,12 +19,20 @@ abbrev pub born_keys : Log → CircuitKeys
 born_keys log = unwrap_or (newest (λ entry. keys_in entry.event) log) no_keys
 
 abbrev pub reply_in : Event → Option CircuitCell
-reply_in (Born reply keys) = Some reply
+reply_in (Born reply keys pad) = Some reply
 reply_in event = None
 
 -- The cell that answered the opening.
 abbrev pub born_reply : Log → Option CircuitCell
 born_reply log = newest (λ entry. reply_in entry.event) log
+
+abbrev pub pad_in : Event → Option (List ℕ)
+pad_in (Born reply keys pad) = pad
+pad_in event = None
+
+-- The key of the padding that the circuit was opened with, if there is one.
+abbrev pub born_pad : Log → Option (List ℕ)
+born_pad log = newest (λ entry. pad_in entry.event) log
 
 abbrev pub is_forward : Event → Bool
 is_forward (Forward command body) = true

@@ -1,11 +1,12 @@
 -- The relay bodies that this relay sends towards the client: those that it packages, and those of the
 -- next hop (tor-spec, "Routing relay cells", "Relay cells").
-use Rattle.std.specs.Prelude.{ℕ, [], ◌∷◌, ◌++◌, List, Option, Some, None, take}
+use Rattle.std.specs.Prelude.{ℕ, ◌*◌, [], ◌∷◌, ◌++◌, List, length, Option, Some, None, take}
+use Rattle.crypto_spec.specs.Keystream.{keystream_part}
 use Rattle.crypto_spec.specs.RunningDigest.{running_digest}
-use Rattle.tor_spec.specs.RelayCell.{relay_body, with_digest}
+use Rattle.tor_spec.specs.RelayCell.{relay_body, with_digest, with_padding}
 use Rattle.circuit_model.specs.Events.{Event, Backward}
 use Rattle.circuit_model.specs.Log.{Log, Effects, collected, no_effects}
-use Rattle.circuit_model.specs.Opened.{born_keys}
+use Rattle.circuit_model.specs.Opened.{born_keys, born_pad}
 
 -- The body that an event has packaged: what goes back, unless it is the next hop's.
 abbrev pub packaged_by : Event → Option (List ℕ) → Option (List ℕ)
@@ -28,9 +29,20 @@ back_digest log bodies = running_digest (born_keys log).db bodies
 unfoldable pub digested : Log → List ℕ → List ℕ
 digested log body = with_digest body (take 4 (back_digest log (own log ++ body ∷ [])))
 
--- The next packaged body with this relay command, StreamID and data. Its padding is zero.
+-- Body number n that this relay packages, from 0, with its padding: by a key it is the keystream from
+-- number 509 n on, at the offsets that it has in the body; without one it is zero. That it comes from
+-- counter mode is this relay's own rule (tor-spec, "Relay cells", asks for random bytes).
+abbrev pub padded_by : Option (List ℕ) → ℕ → List ℕ → List ℕ
+padded_by (Some key) n body = with_padding body (keystream_part key (509 * n) 509)
+padded_by None n body = body
+
+-- The next body that this relay packages, with its padding and its Digest.
+abbrev pub finished : Log → List ℕ → List ℕ
+finished log body = digested log (padded_by (born_pad log) (length (own log)) body)
+
+-- The next packaged body with this relay command, StreamID and data.
 abbrev pub package_of : Log → ℕ → ℕ → List ℕ → List ℕ
-package_of log command stream payload = digested log (relay_body command stream payload)
+package_of log command stream payload = finished log (relay_body command stream payload)
 
 abbrev pub packaging : Log → ℕ → ℕ → List ℕ → Effects
 packaging log command stream payload = record no_effects { back = Some (package_of log command stream payload) }

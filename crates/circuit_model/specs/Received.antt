@@ -1,21 +1,18 @@
 -- What a relay cell from the client's side is to this relay.
 use Rattle.std.specs.Prelude.{ℕ, ◌==◌, ◌&&◌, List, Bool, false, if◌then◌else◌, Option, Some, None, nat_le}
+use Rattle.tor_spec.specs.CellCommands.{relay_early_command}
 use Rattle.tor_spec.specs.RelayCell.{relay_head, fits_length, payload_of}
 use Rattle.circuit_model.specs.Events.{Event, Forward}
 use Rattle.circuit_model.specs.Log.{Log, Message, count_of, is_closed}
 use Rattle.circuit_model.specs.Opened.{plain_body, recognises, digest_with}
 use Rattle.circuit_model.specs.Places.{live_place}
 
--- The command of RELAY_EARLY cells. A circuit takes eight of them (tor-spec, "Handling RELAY_EARLY
--- cells").
-abbrev pub relay_early : ℕ
-relay_early = 9
-
+-- A circuit takes eight RELAY_EARLY cells (tor-spec, "Handling RELAY_EARLY cells").
 abbrev pub relay_early_limit : ℕ
 relay_early_limit = 8
 
 abbrev pub is_early : Event → Bool
-is_early (Forward command body) = command == relay_early
+is_early (Forward command body) = command == relay_early_command
 is_early event = false
 
 -- How many RELAY_EARLY cells came, whatever was in them.
@@ -38,13 +35,13 @@ message_in_body log command plain = record {
   stream = (relay_head plain).stream;
   payload = payload_of plain;
   digest = digest_with log plain;
-  early = command == relay_early;
+  early = command == relay_early_command;
   place = live_place log (relay_head plain).stream;
 }
 
 abbrev pub received_plain : Log → ℕ → List ℕ → Received
 received_plain log command plain =
-    if (command == relay_early) && nat_le relay_early_limit (early_count log) then TooManyEarly
+    if (command == relay_early_command) && nat_le relay_early_limit (early_count log) then TooManyEarly
     else (if recognises log plain
     then (if fits_length plain then ForUs (message_in_body log command plain) else TooLong)
     else Unrecognised plain)

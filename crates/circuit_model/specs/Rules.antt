@@ -1,4 +1,5 @@
--- What a relay's operator allows: which names a client may be connected to, and where each leads.
+-- What a relay's operator allows: which names a client may be connected to, and where each leads; with
+-- how many DATA cells a circuit's window begins, and which SENDMEs are accepted.
 use Rattle.std.specs.Prelude.{ℕ, ◌==◌, ◌&&◌, Bool, List, Option, option_map, find}
 use Rattle.std.specs.Str.{str_eq_ignore_ascii_case}
 use Rattle.tor_spec.specs.Begin.{Target}
@@ -12,6 +13,11 @@ pub record Allow : Type 0 where
 
 pub record Rules : Type 0 where
   pub allow : List Allow
+  -- how many DATA cells a circuit may package before its first SENDME (tor-spec, "Circuit-level flow
+  -- control")
+  pub window : ℕ
+  -- the least version of a circuit's SENDME that is accepted (proposal 289)
+  pub least : ℕ
 
 -- Host names are compared without the case of ASCII letters.
 abbrev pub has_host : List ℕ → Allow → Bool

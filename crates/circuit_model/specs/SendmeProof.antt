@@ -1,10 +1,12 @@
 -- Authenticated SENDMEs (proposal 289): a circuit's SENDME carries the running digest after the DATA
 -- that it acknowledges.
-use Rattle.std.specs.Prelude.{ℕ, ◌+◌, ◌-◌, ◌*◌, ◌&&◌, [], ◌∷◌, List, Bool, false, if◌then◌else◌, Option, Some, None, nat_le, bytes_eq}
-use Rattle.tor_spec.specs.Sendme.{sendme_proof}
+use Rattle.std.specs.Prelude.{ℕ, ◌+◌, ◌-◌, ◌*◌, ◌&&◌, ◌||◌, [], ◌∷◌, List, Bool, false, if◌then◌else◌, Option, Some, None, nat_le, bytes_eq}
+use Rattle.tor_spec.specs.CircuitWindow.{circuit_step}
+use Rattle.tor_spec.specs.Sendme.{needs_no_proof, sendme_proof}
+use Rattle.circuit_model.specs.Rules.{Rules}
 use Rattle.circuit_model.specs.Log.{Log}
 use Rattle.circuit_model.specs.Packaged.{own, back_digest}
-use Rattle.circuit_model.specs.Windows.{circuit_packaged, good_sendmes, is_data_body, circuit_step}
+use Rattle.circuit_model.specs.Windows.{circuit_packaged, good_sendmes, is_data_body}
 
 -- The bodies up to and with the DATA with this number, counted from 1.
 abbrev pub up_to_data : ℕ → List (List ℕ) → List (List ℕ)
@@ -24,9 +26,9 @@ abbrev pub proves : List ℕ → Option (List ℕ) → Bool
 proves owed (Some proof) = bytes_eq proof owed
 proves owed None = false
 
--- A circuit SENDME is right where the DATA that it would acknowledge was packaged and it carries the
--- proof of it.
-unfoldable pub is_right_sendme : Log → List ℕ → Bool
-is_right_sendme log payload =
+-- A circuit SENDME is right where the DATA that it would acknowledge was packaged, and where it carries
+-- the proof of it or needs none by the rules.
+unfoldable pub is_right_sendme : Rules → Log → List ℕ → Bool
+is_right_sendme rules log payload =
     nat_le (circuit_step * (good_sendmes log + 1)) (circuit_packaged log)
-    && proves (proof_owed log (good_sendmes log + 1)) (sendme_proof payload)
+    && (needs_no_proof rules.least payload || proves (proof_owed log (good_sendmes log + 1)) (sendme_proof payload))

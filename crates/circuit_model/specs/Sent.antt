@@ -2,6 +2,8 @@
 -- body.
 use Rattle.std.specs.Prelude.{ℕ, ◌+◌, ◌*◌, ◌==◌, ◌&&◌, [], ◌∷◌, ◌++◌, List, if◌then◌else◌, option_to_list}
 use Rattle.crypto_spec.specs.HopLayer.{layered}
+use Rattle.tor_spec.specs.CellCommands.{relay_command, destroy_command}
+use Rattle.tor_spec.specs.Reasons.{destroy_requested}
 use Rattle.circuit_model.specs.Events.{CircuitCell}
 use Rattle.circuit_model.specs.Log.{Entry, Log}
 use Rattle.circuit_model.specs.Opened.{born_keys, born_reply}
@@ -12,7 +14,7 @@ use Rattle.circuit_model.specs.Extending.{filled}
 -- A RELAY cell with the backward body with number n, this relay's layer put on: it uses the 509 bytes of
 -- the keystream from number 509 n on.
 abbrev pub sealed : List ℕ → ℕ → List ℕ → CircuitCell
-sealed key n body = record { command = 3; body = layered key (509 * n) body }
+sealed key n body = record { command = relay_command; body = layered key (509 * n) body }
 
 -- The bodies as RELAY cells, numbered from n on.
 abbrev pub all_sealed : List ℕ → ℕ → List (List ℕ) → List CircuitCell
@@ -25,11 +27,11 @@ sent_to_client log = option_to_list (born_reply log) ++ all_sealed (born_keys lo
 
 -- DESTROY with this reason.
 abbrev pub destroy : ℕ → CircuitCell
-destroy reason = record { command = 4; body = filled (reason ∷ []) }
+destroy reason = record { command = destroy_command; body = filled (reason ∷ []) }
 
--- Reason 3, REQUESTED, ends the leg of a next hop that TRUNCATE gave up.
+-- REQUESTED ends the leg of a next hop that TRUNCATE gave up.
 abbrev pub destroys : Log → Entry → List CircuitCell
-destroys log entry = if entry.effects.cut && has_leg (next_hop log) then destroy 3 ∷ [] else []
+destroys log entry = if entry.effects.cut && has_leg (next_hop log) then destroy destroy_requested ∷ [] else []
 
 -- The cells that an entry behind this log gives to the newest leg.
 abbrev pub given_forth : Log → Entry → List CircuitCell

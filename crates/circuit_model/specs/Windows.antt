@@ -1,23 +1,13 @@
 -- Flow control (tor-spec, "Flow control"; proposal 289). A count is what was packaged or accepted
 -- over the whole log; a grant is how far that count may go. Only DATA counts, one without bytes too.
 use Rattle.std.specs.Prelude.{ℕ, ◌+◌, ◌*◌, ◌/◌, ◌==◌, ◌&&◌, Bool, false, List, Option, Some, None, is_none}
+use Rattle.tor_spec.specs.CircuitWindow.{granted_after}
 use Rattle.tor_spec.specs.RelayCell.{data_command, sendme_command, relay_head}
+use Rattle.tor_spec.specs.StreamWindow.{stream_start, stream_step}
 use Rattle.circuit_model.specs.Events.{Event, Data, Drained}
+use Rattle.circuit_model.specs.Rules.{Rules}
 use Rattle.circuit_model.specs.Log.{Entry, Log, Order, Carry, Message, count_of}
 use Rattle.circuit_model.specs.Packaged.{packaged_by}
-
--- A circuit's window begins at 1000 and a SENDME raises it by 100; a stream's at 500, and by 50.
-abbrev pub circuit_start : ℕ
-circuit_start = 1000
-
-abbrev pub circuit_step : ℕ
-circuit_step = 100
-
-abbrev pub stream_start : ℕ
-stream_start = 500
-
-abbrev pub stream_step : ℕ
-stream_step = 50
 
 abbrev pub has_command : ℕ → Option Message → Bool
 has_command command (Some message) = message.command == command
@@ -56,8 +46,8 @@ circuit_packaged log = count_of packs_data log
 abbrev pub good_sendmes : Log → ℕ
 good_sendmes log = count_of (λ entry. is_accepted sendme_command entry && has_stream 0 entry.message) log
 
-abbrev pub circuit_grant : Log → ℕ
-circuit_grant log = circuit_start + circuit_step * good_sendmes log
+abbrev pub circuit_grant : Rules → Log → ℕ
+circuit_grant rules log = granted_after rules.window (good_sendmes log)
 
 abbrev pub is_data_of : ℕ → Event → Bool
 is_data_of serial (Data n bytes) = n == serial

@@ -6,7 +6,7 @@
 --   events             Events     Event, CircuitCell, CircuitKeys
 --   rules              Rules      Rules, Allow, allowed_address, resolved_address
 --   log                Log        Log, Entry, Message, Effects, Order, StreamKey, is_closed
---   opened bodies      Opened     born_keys, born_reply, forward_count, plain_body, recognised_bodies
+--   opened bodies      Opened     born_keys, born_reply, born_pad, forward_count, plain_body, recognised_bodies
 --   places             Places     places, place_at, phase, is_live, live_place, taken_places
 --   next hop and legs  NextHop    next_hop, leg_count
 --   packaged bodies    Packaged   own, behind

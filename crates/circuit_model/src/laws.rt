@@ -3,9 +3,12 @@
 ghost use Rattle.std.specs.Prelude.{◌≡◌, ◌≢◌, ℕ, ◌+◌, ◌*◌, ◌<◌, ◌≤◌, List, [], ◌∷◌, ◌++◌, length, IsTrue, IsFalse, option_map, option_to_list};
 ghost use Rattle.std.specs.Str.{str_to_ascii_lowercase};
 ghost use Rattle.tor_spec.specs.Begin.{Target, begin_target};
+ghost use Rattle.tor_spec.specs.CellCommands.{relay_early_command};
+ghost use Rattle.tor_spec.specs.CircuitWindow.{circuit_step};
 ghost use Rattle.tor_spec.specs.Extend.{Address};
+ghost use Rattle.tor_spec.specs.Reasons.{destroy_protocol, destroy_requested, end_exit_policy};
 ghost use Rattle.tor_spec.specs.RelayCell.{begin_command, sendme_command, truncate_command, relay_body};
-ghost use Rattle.tor_spec.specs.Sendme.{sendme_proof};
+ghost use Rattle.tor_spec.specs.Sendme.{is_version_0, needs_no_proof, sendme_proof};
 ghost use Rattle.circuit_model.specs.Events.{Event, Forward, Backward, Data, CircuitCell};
 ghost use Rattle.circuit_model.specs.Rules.{Rules, allowed_address};
 ghost use Rattle.circuit_model.specs.Log.{Log, Message, Reach, no_effects, closing, is_closed};
@@ -16,8 +19,8 @@ ghost use Rattle.circuit_model.specs.Places.{Place, place_at, places, taken_plac
 ghost use Rattle.circuit_model.specs.Packaged.{behind};
 ghost use Rattle.circuit_model.specs.Windows.{has_command, is_data_of, circuit_packaged, circuit_grant, good_sendmes, stream_packaged, stream_grant};
 ghost use Rattle.circuit_model.specs.SendmeProof.{proof_owed, is_right_sendme};
-ghost use Rattle.circuit_model.specs.Received.{message_at, early_count};
-ghost use Rattle.circuit_model.specs.Streams.{ending};
+ghost use Rattle.circuit_model.specs.Received.{message_at, early_count, relay_early_limit};
+ghost use Rattle.circuit_model.specs.Streams.{ending, place_limit};
 ghost use Rattle.circuit_model.specs.Sent.{one, sent_to_hop, sealed, destroy};
 ghost use Rattle.circuit_model.specs.Words.{log, effects};
 
@@ -32,24 +35,38 @@ pub fn closed_circuit_gives_nothing()
 #[tactic(auto, using(crate::proofs::Closing::ninth_early_closes))]
 pub fn ninth_relay_early_closes()
     ensures { (rules : Rules) (h : List Event) (body : List ℕ) →
-        IsFalse (is_closed (log rules h)) → 8 ≤ early_count (log rules h) →
-        effects rules h (Forward 9 body) ≡ closing 1 }
+        IsFalse (is_closed (log rules h)) → relay_early_limit ≤ early_count (log rules h) →
+        effects rules h (Forward relay_early_command body) ≡ closing destroy_protocol }
 {}
 
-/// A circuit SENDME closes with PROTOCOL where none is owed, where it carries no proof, and where
-/// it carries another proof than the one that is owed.
+/// A circuit SENDME closes with PROTOCOL where none is owed, where it needs a proof and carries none,
+/// and where it carries another proof than the one that is owed.
 #[tactic(auto, using(crate::proofs::Closing::sendme_owed_none_closes, crate::proofs::Closing::sendme_without_proof_closes, crate::proofs::Closing::sendme_of_other_proof_closes))]
 pub fn wrong_sendme_closes()
     ensures none_owed { (rules : Rules) (h : List Event) (e : Event) (m : Message) →
         message_at (log rules h) e ≡ Some m → m.command ≡ sendme_command → m.stream ≡ 0 →
-        circuit_packaged (log rules h) < 100 * (good_sendmes (log rules h) + 1) → effects rules h e ≡ closing 1 }
+        circuit_packaged (log rules h) < circuit_step * (good_sendmes (log rules h) + 1) → effects rules h e ≡ closing destroy_protocol }
     ensures no_proof { (rules : Rules) (h : List Event) (e : Event) (m : Message) →
         message_at (log rules h) e ≡ Some m → m.command ≡ sendme_command → m.stream ≡ 0 →
-        sendme_proof m.payload ≡ None → effects rules h e ≡ closing 1 }
+        IsFalse (needs_no_proof rules.least m.payload) → sendme_proof m.payload ≡ None →
+        effects rules h e ≡ closing destroy_protocol }
     ensures other_proof { (rules : Rules) (h : List Event) (e : Event) (m : Message) (proof : List ℕ) →
         message_at (log rules h) e ≡ Some m → m.command ≡ sendme_command → m.stream ≡ 0 →
         sendme_proof m.payload ≡ Some proof → proof ≢ proof_owed (log rules h) (good_sendmes (log rules h) + 1) →
-        effects rules h e ≡ closing 1 }
+        effects rules h e ≡ closing destroy_protocol }
+{}
+
+/// Where the rules accept version 0, a circuit SENDME of it that is owed is right without a proof; where
+/// they don't, none is.
+#[tactic(auto, using(crate::proofs::Versions::version_0_is_right, crate::proofs::Versions::version_1_needs_proof))]
+pub fn sendme_needs_no_proof_by_the_rules()
+    ensures accepted { (rules : Rules) (h : List Event) (payload : List ℕ) →
+        rules.least ≡ 0 → IsTrue (is_version_0 payload) →
+        circuit_step * (good_sendmes (log rules h) + 1) ≤ circuit_packaged (log rules h) →
+        IsTrue (is_right_sendme rules (log rules h) payload) }
+    ensures refused { (rules : Rules) (h : List Event) (payload : List ℕ) →
+        0 < rules.least → IsTrue (is_version_0 payload) →
+        IsFalse (is_right_sendme rules (log rules h) payload) }
 {}
 
 /// The one circuit SENDME that is owed raises the grant by 100.
@@ -57,8 +74,8 @@ pub fn wrong_sendme_closes()
 pub fn right_sendme_grants_a_hundred()
     ensures { (rules : Rules) (h : List Event) (e : Event) (m : Message) →
         message_at (log rules h) e ≡ Some m → m.command ≡ sendme_command → m.stream ≡ 0 →
-        IsTrue (is_right_sendme (log rules h) m.payload) →
-        circuit_grant (log rules (e ∷ h)) ≡ circuit_grant (log rules h) + 100 }
+        IsTrue (is_right_sendme rules (log rules h) m.payload) →
+        circuit_grant rules (log rules (e ∷ h)) ≡ circuit_grant rules (log rules h) + circuit_step }
 {}
 
 /// Packaged cells count DATA alone: an event that isn't bytes of the edge leaves the circuit's count,
@@ -88,7 +105,7 @@ pub fn a_stream_counts_its_data_alone()
 pub fn only_sendmes_grant()
     ensures circuit { (rules : Rules) (h : List Event) (e : Event) →
         IsFalse (has_command sendme_command (message_at (log rules h) e)) →
-        circuit_grant (log rules (e ∷ h)) ≡ circuit_grant (log rules h) }
+        circuit_grant rules (log rules (e ∷ h)) ≡ circuit_grant rules (log rules h) }
     ensures stream { (rules : Rules) (h : List Event) (e : Event) (serial : ℕ) →
         IsFalse (has_command sendme_command (message_at (log rules h) e)) →
         stream_grant (log rules (e ∷ h)) serial ≡ stream_grant (log rules h) serial }
@@ -101,7 +118,7 @@ pub fn truncate_destroys_the_leg()
     ensures last { (rules : Rules) (h : List Event) (e : Event) (m : Message) →
         message_at (log rules h) e ≡ Some m → m.command ≡ truncate_command →
         IsTrue (has_leg (next_hop (log rules h))) → 0 < leg_count (log rules h) →
-        one (log rules (e ∷ h)) (leg_count (log rules h)) ≡ one (log rules h) (leg_count (log rules h)) ++ destroy 3 ∷ [] }
+        one (log rules (e ∷ h)) (leg_count (log rules h)) ≡ one (log rules h) (leg_count (log rules h)) ++ destroy destroy_requested ∷ [] }
     ensures then_nothing { (rules : Rules) (h : List Event) (e : Event) (leg : ℕ) →
         IsFalse (is_linked e) → IsFalse (has_leg (next_hop (log rules h))) →
         sent_to_hop (log rules (e ∷ h)) leg ≡ sent_to_hop (log rules h) leg }
@@ -129,8 +146,8 @@ pub fn bodies_go_back_in_order()
         behind (log rules (Backward body ∷ h)) ≡ behind (log rules h) ++ body ∷ [] }
     ensures refused { (rules : Rules) (h : List Event) (e : Event) (m : Message) (target : Target) →
         message_at (log rules h) e ≡ Some m → m.command ≡ begin_command → 0 < m.stream → m.place ≡ None →
-        begin_target m.payload ≡ Some target → taken_places (log rules h) < 32 → allowed_address rules target ≡ None →
-        effects rules h e ≡ ending (log rules h) m.stream 4 }
+        begin_target m.payload ≡ Some target → taken_places (log rules h) < place_limit → allowed_address rules target ≡ None →
+        effects rules h e ≡ ending (log rules h) m.stream end_exit_policy }
 {}
 
 /// A BEGIN to an allowed name, in any letter case, makes the next place and reaches for the address
@@ -139,7 +156,7 @@ pub fn bodies_go_back_in_order()
 pub fn allowed_name_in_any_case_reaches()
     ensures { (rules : Rules) (h : List Event) (e : Event) (m : Message) (asked allowed : Target) (to : Address) →
         message_at (log rules h) e ≡ Some m → m.command ≡ begin_command → 0 < m.stream → m.place ≡ None →
-        begin_target m.payload ≡ Some asked → taken_places (log rules h) < 32 →
+        begin_target m.payload ≡ Some asked → taken_places (log rules h) < place_limit →
         str_to_ascii_lowercase asked.host ≡ str_to_ascii_lowercase allowed.host → asked.port ≡ allowed.port →
         allowed_address rules allowed ≡ Some to →
         (effects rules h e).edge ≡ Some (Reach (record { stream = m.stream; serial = length (places (log rules h)) }) to) }
