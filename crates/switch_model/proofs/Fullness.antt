@@ -60,10 +60,10 @@ stream_shut rules h key octets live joined used =
 pub circuit_shut : (rules : Rules) (h : List Step) (key : StreamKey) (octets : Octets) → is_live rules h key.circ.0 ≡ true →
     phase_of (circuit_log rules h key.circ.0) key ≡ Joined →
     stream_packaged (circuit_log rules h key.circ.0) key.serial < stream_grant (circuit_log rules h key.circ.0) key.serial →
-    circuit_grant (circuit_log rules h key.circ.0) ≤ circuit_packaged (circuit_log rules h key.circ.0) →
+    circuit_grant rules (circuit_log rules h key.circ.0) ≤ circuit_packaged (circuit_log rules h key.circ.0) →
     edge_in_answer rules h key (EventStep.Data octets) ≡ Shut ShutWhy.Circuit (circuit_packaged (circuit_log rules h key.circ.0))
 circuit_shut rules h key octets live joined unused used =
     let l : Log = circuit_log rules h key.circ.0 in
     let here : nat_le (stream_grant l key.serial) (stream_packaged l key.serial) ≡ false = grind arith in
-    let shut : nat_le (circuit_grant l) (circuit_packaged l) ≡ true = grind arith in
+    let shut : nat_le (circuit_grant rules l) (circuit_packaged l) ≡ true = grind arith in
     rw (live, joined, here, shut) refl

@@ -66,12 +66,12 @@ if-steps false s t n e f = f
 channel_up-steps : (s : State) (side : Side) → (channel_up_state s side).steps ≡ s.steps + 1
 channel_up-steps s side = if-steps (nat_le channel_limit (filled_slots s.channels)) (counted s) _ (s.steps + 1) refl refl
 
-open-steps : (s : State) (chan id : ℕ) (reply : Cell) (keys : Option LayerKeys) (x : Option ChannelState) (a : OpenAnswer) → (open_state_by s chan id reply keys x a).steps ≡ s.steps + 1
-open-steps s chan id reply keys (Some channel) (Refused why) = refl
-open-steps s chan id reply (Some keys) (Some channel) (Opened n) = refl
-open-steps s chan id reply None (Some channel) (Opened n) = refl
-open-steps s chan id reply keys (Some channel) OpenAnswer.Memory = refl
-open-steps s chan id reply keys None a = refl
+open-steps : (s : State) (chan id : ℕ) (reply : Cell) (keys : Option LayerKeys) (pad : Option (List ℕ)) (x : Option ChannelState) (a : OpenAnswer) → (open_state_by s chan id reply keys pad x a).steps ≡ s.steps + 1
+open-steps s chan id reply keys pad (Some channel) (Refused why) = refl
+open-steps s chan id reply (Some keys) pad (Some channel) (Opened n) = refl
+open-steps s chan id reply None pad (Some channel) (Opened n) = refl
+open-steps s chan id reply keys pad (Some channel) OpenAnswer.Memory = refl
+open-steps s chan id reply keys pad None a = refl
 
 with-steps : (s : State) (now : ℕ) (leg : Leg) (x : Option CircuitState) (y : Option LegState) → (with_leg s now leg x y).steps ≡ s.steps
 with-steps s now leg (Some x) (Some y) = refl
@@ -96,12 +96,12 @@ channel_up_adds start old new slot side a e f = rw (e, f) (record {
   stands = λ h st. channel_up_kept start old h slot side st;
 })
 
-pub open_adds : (start : Start) (old new : State) (chan : ChanNo) (id : ℕ) (reply : Cell) (keys : Option LayerKeys) (a : OpenAnswer) → new ≡ open_state old chan.0 id reply keys → a ≡ open_result old chan.0 id keys →
-    Adds start old new (OpenCircuit chan id reply keys a)
+pub open_adds : (start : Start) (old new : State) (chan : ChanNo) (id : ℕ) (reply : Cell) (keys : Option LayerKeys) (pad : Option (List ℕ)) (a : OpenAnswer) → new ≡ open_state old chan.0 id reply keys pad → a ≡ open_result old chan.0 id keys →
+    Adds start old new (OpenCircuit chan id reply keys pad a)
 unfolding Adds
-open_adds start old new chan id reply keys a e f = rw (e, f) (record {
-  steps = open-steps old chan.0 id reply keys (slot_at old.channels chan.0) (open_result old chan.0 id keys);
-  stands = λ h st. open_kept start old h chan.0 id reply keys st;
+open_adds start old new chan id reply keys pad a e f = rw (e, f) (record {
+  steps = open-steps old chan.0 id reply keys pad (slot_at old.channels chan.0) (open_result old chan.0 id keys);
+  stands = λ h st. open_kept start old h chan.0 id reply keys pad st;
 })
 
 pub next_cell_adds : (start : Start) (old new : State) (chan : ChanNo) (given : ℕ) (a : Option Cell) → new ≡ next_cell_state old chan.0 given → a ≡ next_cell_result old chan.0 given →

@@ -21,7 +21,7 @@ channels-le (s ∷ h) = omega (arith, channels-le h)
 
 pub circuits-le : (h : List Step) → circuits h ≤ length h
 circuits-le [] = omega arith
-circuits-le (OpenCircuit chan id reply keys (Opened n) ∷ h) = omega (arith, circuits-le h)
+circuits-le (OpenCircuit chan id reply keys pad (Opened n) ∷ h) = omega (arith, circuits-le h)
 circuits-le (s ∷ h) = omega (arith, circuits-le h)
 
 pub stands-low : (start : Start) (s : State) (h : List Step) → Stands start s h → s.steps < 2 ^ 62 → Low s

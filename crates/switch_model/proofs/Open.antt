@@ -58,10 +58,10 @@ if-both : {A : Type 0} (b : Bool) (x : A) → (if b then x else x) ≡ x
 if-both true x = refl
 if-both false x = refl
 
-unknown-channel : (start : Start) (s : State) (h : List Step) (chan id : ℕ) (reply : Cell) (keys : Option LayerKeys) → Stands start s h →
+unknown-channel : (start : Start) (s : State) (h : List Step) (chan id : ℕ) (reply : Cell) (keys : Option LayerKeys) (pad : Option (List ℕ)) → Stands start s h →
     Refused OpenRefusal.NoChannel ≡ open_answer start.rules h chan id keys →
-    Stands start (counted s) (OpenCircuit (chan_no chan) id reply keys (Refused OpenRefusal.NoChannel) ∷ h)
-unknown-channel start s h chan id reply keys st said =
+    Stands start (counted s) (OpenCircuit (chan_no chan) id reply keys pad (Refused OpenRefusal.NoChannel) ∷ h)
+unknown-channel start s h chan id reply keys pad st said =
     let rules = start.rules in
     let same : (n : ℕ) → (if chan == n then lane rules h n else lane rules h n) ≡ lane rules h n = λ n. if-both (chan == n) (lane rules h n) in
     record {
@@ -108,35 +108,35 @@ judged zero taken peers keys full n =
     else if full then Refused (OpenRefusal.Full circuit_limit)
     else Opened (circ_no n)
 
-open-by : (start : Start) (s : State) (h : List Step) (chan id : ℕ) (reply : Cell) (channel : ChannelState) (zero taken peers : Bool) (keys : Option LayerKeys) (full : Bool) →
+open-by : (start : Start) (s : State) (h : List Step) (chan id : ℕ) (reply : Cell) (pad : Option (List ℕ)) (channel : ChannelState) (zero taken peers : Bool) (keys : Option LayerKeys) (full : Bool) →
     Stands start s h → slot_at s.channels chan ≡ Some channel → (id == 0) ≡ zero → is_in_use start.rules h chan id ≡ taken →
     judged zero taken peers keys full (length s.circuits) ≡ open_answer start.rules h chan id keys →
-    Stands start (open_state_by s chan id reply keys (Some channel) (judged zero taken peers keys full (length s.circuits)))
-    (OpenCircuit (chan_no chan) id reply keys (judged zero taken peers keys full (length s.circuits)) ∷ h)
+    Stands start (open_state_by s chan id reply keys pad (Some channel) (judged zero taken peers keys full (length s.circuits)))
+    (OpenCircuit (chan_no chan) id reply keys pad (judged zero taken peers keys full (length s.circuits)) ∷ h)
 unfolding judged
-open-by start s h chan id reply channel true taken peers keys full st found is_zero is_taken said =
-    refused-kept start s h chan id reply keys OpenRefusal.BadId channel st found said (λ r owed. absurd (not-none _ r (none-owed channel.side id is_zero) owed))
-open-by start s h chan id reply channel false true peers keys full st found is_zero is_taken said =
-    refused-kept start s h chan id reply keys OpenRefusal.InUse channel st found said (λ r owed. absurd (not-none _ r refl owed))
-open-by start s h chan id reply channel false false false keys full st found is_zero is_taken said =
-    refused-kept start s h chan id reply keys OpenRefusal.BadId channel st found said (λ r owed. unused (at h chan id) (or-first _ _ is_taken))
-open-by start s h chan id reply channel false false true None full st found is_zero is_taken said =
-    refused-kept start s h chan id reply None OpenRefusal.BadHandshake channel st found said (λ r owed. unused (at h chan id) (or-first _ _ is_taken))
-open-by start s h chan id reply channel false false true (Some keys) true st found is_zero is_taken said =
-    refused-kept start s h chan id reply (Some keys) (OpenRefusal.Full circuit_limit) channel st found said (λ r owed. unused (at h chan id) (or-first _ _ is_taken))
-open-by start s h chan id reply channel false false true (Some keys) false st found is_zero is_taken said =
-    opened-kept start s h chan id reply keys st said (unused (at h chan id) (or-first _ _ is_taken)) (or-second _ _ is_taken)
+open-by start s h chan id reply pad channel true taken peers keys full st found is_zero is_taken said =
+    refused-kept start s h chan id reply keys pad OpenRefusal.BadId channel st found said (λ r owed. absurd (not-none _ r (none-owed channel.side id is_zero) owed))
+open-by start s h chan id reply pad channel false true peers keys full st found is_zero is_taken said =
+    refused-kept start s h chan id reply keys pad OpenRefusal.InUse channel st found said (λ r owed. absurd (not-none _ r refl owed))
+open-by start s h chan id reply pad channel false false false keys full st found is_zero is_taken said =
+    refused-kept start s h chan id reply keys pad OpenRefusal.BadId channel st found said (λ r owed. unused (at h chan id) (or-first _ _ is_taken))
+open-by start s h chan id reply pad channel false false true None full st found is_zero is_taken said =
+    refused-kept start s h chan id reply None pad OpenRefusal.BadHandshake channel st found said (λ r owed. unused (at h chan id) (or-first _ _ is_taken))
+open-by start s h chan id reply pad channel false false true (Some keys) true st found is_zero is_taken said =
+    refused-kept start s h chan id reply (Some keys) pad (OpenRefusal.Full circuit_limit) channel st found said (λ r owed. unused (at h chan id) (or-first _ _ is_taken))
+open-by start s h chan id reply pad channel false false true (Some keys) false st found is_zero is_taken said =
+    opened-kept start s h chan id reply keys pad st said (unused (at h chan id) (or-first _ _ is_taken)) (or-second _ _ is_taken)
 
-open-on : (start : Start) (s : State) (h : List Step) (chan id : ℕ) (reply : Cell) (keys : Option LayerKeys) (x : Option ChannelState) → Stands start s h → slot_at s.channels chan ≡ x →
+open-on : (start : Start) (s : State) (h : List Step) (chan id : ℕ) (reply : Cell) (keys : Option LayerKeys) (pad : Option (List ℕ)) (x : Option ChannelState) → Stands start s h → slot_at s.channels chan ≡ x →
     open_result_on s chan id keys x ≡ open_answer start.rules h chan id keys →
-    Stands start (open_state_by s chan id reply keys x (open_result_on s chan id keys x)) (OpenCircuit (chan_no chan) id reply keys (open_result_on s chan id keys x) ∷ h)
+    Stands start (open_state_by s chan id reply keys pad x (open_result_on s chan id keys x)) (OpenCircuit (chan_no chan) id reply keys pad (open_result_on s chan id keys x) ∷ h)
 unfolding judged
-open-on start s h chan id reply keys None st found said = unknown-channel start s h chan id reply keys st said
-open-on start s h chan id reply keys (Some channel) st found said =
+open-on start s h chan id reply keys pad None st found said = unknown-channel start s h chan id reply keys pad st said
+open-on start s h chan id reply keys pad (Some channel) st found said =
     let own : ChannelStands channel (channel_past start.rules h chan) = subst (λ x. ChannelAt x (channel_past start.rules h chan)) found (st.channel chan) in
-    open-by start s h chan id reply channel (id == 0) (is_id_taken s chan channel id) (has_peers_bit channel.side id) keys (nat_le circuit_limit (filled_slots s.circuits)) st found refl
+    open-by start s h chan id reply pad channel (id == 0) (is_id_taken s chan channel id) (has_peers_bit channel.side id) keys (nat_le circuit_limit (filled_slots s.circuits)) st found refl
     (sym (taken-said start s h st chan id channel own.lane)) said
 
-pub open_kept : (start : Start) (s : State) (h : List Step) (chan id : ℕ) (reply : Cell) (keys : Option LayerKeys) → Stands start s h →
-    Stands start (open_state s chan id reply keys) (OpenCircuit (chan_no chan) id reply keys (open_result s chan id keys) ∷ h)
-open_kept start s h chan id reply keys st = open-on start s h chan id reply keys (slot_at s.channels chan) st refl (open-said start s h chan id keys st)
+pub open_kept : (start : Start) (s : State) (h : List Step) (chan id : ℕ) (reply : Cell) (keys : Option LayerKeys) (pad : Option (List ℕ)) → Stands start s h →
+    Stands start (open_state s chan id reply keys pad) (OpenCircuit (chan_no chan) id reply keys pad (open_result s chan id keys) ∷ h)
+open_kept start s h chan id reply keys pad st = open-on start s h chan id reply keys pad (slot_at s.channels chan) st refl (open-said start s h chan id keys st)

@@ -48,14 +48,14 @@ port-push s x leg chan id has = elim (eqb_tells leg.circ (length s.circuits)) [
   | inr (is, other) ↦ rw (leg_in-other s x leg other) has
 ]
 
-first-port : (chan id : ℕ) (reply : Cell) (keys : LayerKeys) (m i : ℕ) → has_port m i (leg_at (Some (new_circuit chan id reply keys)) 0) ≡ ((chan == m) && (id == i))
+first-port : (chan id : ℕ) (reply : Cell) (keys : LayerKeys) (pad : Option (List ℕ)) (m i : ℕ) → has_port m i (leg_at (Some (new_circuit chan id reply keys pad)) 0) ≡ ((chan == m) && (id == i))
 unfolding slot_at
-first-port chan id reply keys m i = refl
+first-port chan id reply keys pad m i = refl
 
-new-port : (s : State) (chan id : ℕ) (reply : Cell) (keys : LayerKeys) (m i : ℕ) → ((chan == m) && (id == i)) ≡ true →
-    has_port m i (leg_at (slot_at (s.circuits ++ Some (new_circuit chan id reply keys) ∷ []) (length s.circuits)) 0) ≡ true
-new-port s chan id reply keys m i same =
-    rw (slot_at-push s.circuits (Some (new_circuit chan id reply keys)) (length s.circuits), self_eq (length s.circuits)) (first-port chan id reply keys m i ∙ same)
+new-port : (s : State) (chan id : ℕ) (reply : Cell) (keys : LayerKeys) (pad : Option (List ℕ)) (m i : ℕ) → ((chan == m) && (id == i)) ≡ true →
+    has_port m i (leg_at (slot_at (s.circuits ++ Some (new_circuit chan id reply keys pad) ∷ []) (length s.circuits)) 0) ≡ true
+new-port s chan id reply keys pad m i same =
+    rw (slot_at-push s.circuits (Some (new_circuit chan id reply keys pad)) (length s.circuits), self_eq (length s.circuits)) (first-port chan id reply keys pad m i ∙ same)
 
 used-push : (s t : State) (x : Option CircuitState) (lane : List Destroy) (m i : ℕ) (found : Option Leg) → t.circuits ≡ s.circuits ++ x ∷ [] → IsUsed s lane m i found → IsUsed t lane m i found
 used-push s t x lane m i None grown used = tt
@@ -71,9 +71,9 @@ leg-no : (n k : ℕ) (b : Bool) (x : Option Leg) (c : ℕ) → (n == c) ≡ fals
 leg-no n k true x c other none = rw other refl
 leg-no n k false x c other none = none
 
-apart-one : (start : Start) (s : State) (h : List Step) → Stands start s h → (chan id : ℕ) (reply : Cell) (keys : LayerKeys) (m : ℕ) (d : Destroy) → ((chan == m) && (id == d.id)) ≡ false →
-    IsApart start.rules h m d → IsApart start.rules (opening chan id reply keys (length s.circuits) ∷ h) m d
-apart-one start s h st chan id reply keys m d unlike apart c k = elim (eqb_tells (length s.circuits) c) [
+apart-one : (start : Start) (s : State) (h : List Step) → Stands start s h → (chan id : ℕ) (reply : Cell) (keys : LayerKeys) (pad : Option (List ℕ)) (m : ℕ) (d : Destroy) → ((chan == m) && (id == d.id)) ≡ false →
+    IsApart start.rules h m d → IsApart start.rules (opening chan id reply keys pad (length s.circuits) ∷ h) m d
+apart-one start s h st chan id reply keys pad m d unlike apart c k = elim (eqb_tells (length s.circuits) c) [
   | inl (is, same) ↦ rw (unlike, st.no_leg c k m d.id (omega arith)) refl
   | inr (is, other) ↦ rw (unlike, is) (apart c k)
 ]
@@ -82,37 +82,37 @@ unlike-one : (a : Bool) (x y : ℕ) → (a ≡ true → (y == x) ≡ false) → 
 unlike-one false x y unlike = refl
 unlike-one true x y unlike = let other = unlike refl in grind (arith, nat_tests)
 
-apart-all : (start : Start) (s : State) (h : List Step) → Stands start s h → (chan id : ℕ) (reply : Cell) (keys : LayerKeys) (m : ℕ) (waits : List Destroy) → ((chan == m) ≡ true → list_any (λ d. d.id == id) waits ≡ false) →
-    AllByRecursion (IsApart start.rules h m) waits → AllByRecursion (IsApart start.rules (opening chan id reply keys (length s.circuits) ∷ h) m) waits
-apart-all start s h st chan id reply keys m [] unlike apart = tt
-apart-all start s h st chan id reply keys m (d ∷ waits) unlike apart = (
-  apart-one start s h st chan id reply keys m d (unlike-one (chan == m) id d.id (λ same. or-first _ _ (unlike same))) apart.0,
-  apart-all start s h st chan id reply keys m waits (λ same. or-second _ _ (unlike same)) apart.1,
+apart-all : (start : Start) (s : State) (h : List Step) → Stands start s h → (chan id : ℕ) (reply : Cell) (keys : LayerKeys) (pad : Option (List ℕ)) (m : ℕ) (waits : List Destroy) → ((chan == m) ≡ true → list_any (λ d. d.id == id) waits ≡ false) →
+    AllByRecursion (IsApart start.rules h m) waits → AllByRecursion (IsApart start.rules (opening chan id reply keys pad (length s.circuits) ∷ h) m) waits
+apart-all start s h st chan id reply keys pad m [] unlike apart = tt
+apart-all start s h st chan id reply keys pad m (d ∷ waits) unlike apart = (
+  apart-one start s h st chan id reply keys pad m d (unlike-one (chan == m) id d.id (λ same. or-first _ _ (unlike same))) apart.0,
+  apart-all start s h st chan id reply keys pad m waits (λ same. or-second _ _ (unlike same)) apart.1,
 )
 
 -- counts
-count-new : (chan id : ℕ) (reply : Cell) (keys : LayerKeys) (k n now : ℕ) → n ≡ 0 → CountAt (leg_at (Some (new_circuit chan id reply keys)) k) n now
+count-new : (chan id : ℕ) (reply : Cell) (keys : LayerKeys) (pad : Option (List ℕ)) (k n now : ℕ) → n ≡ 0 → CountAt (leg_at (Some (new_circuit chan id reply keys pad)) k) n now
 unfolding slot_at
-count-new chan id reply keys zero n now none = record { since = omega arith; count = none ∙ sym (zero-div (2 ^ (now - 0))) }
-count-new chan id reply keys (suc k) n now none = tt
+count-new chan id reply keys pad zero n now none = record { since = omega arith; count = none ∙ sym (zero-div (2 ^ (now - 0))) }
+count-new chan id reply keys pad (suc k) n now none = tt
 
-counts-push : (start : Start) (s : State) (h : List Step) → Stands start s h → (chan id : ℕ) (reply : Cell) (keys : LayerKeys) (leg : Leg) →
-    CountAt (leg_at (slot_at (s.circuits ++ Some (new_circuit chan id reply keys) ∷ []) leg.circ) leg.number) (leg_count start.rules h leg.circ leg.number) (tick h)
-counts-push start s h st chan id reply keys leg = elim (eqb_tells leg.circ (length s.circuits)) [
-  | inl (is, same) ↦ rw (slot_at-push s.circuits (Some (new_circuit chan id reply keys)) leg.circ, is)
-      (count-new chan id reply keys leg.number (leg_count start.rules h leg.circ leg.number) (tick h) (st.no_count leg.circ leg.number (omega arith)))
-  | inr (is, other) ↦ rw (leg_in-other s (Some (new_circuit chan id reply keys)) leg other) (st.counts leg)
+counts-push : (start : Start) (s : State) (h : List Step) → Stands start s h → (chan id : ℕ) (reply : Cell) (keys : LayerKeys) (pad : Option (List ℕ)) (leg : Leg) →
+    CountAt (leg_at (slot_at (s.circuits ++ Some (new_circuit chan id reply keys pad) ∷ []) leg.circ) leg.number) (leg_count start.rules h leg.circ leg.number) (tick h)
+counts-push start s h st chan id reply keys pad leg = elim (eqb_tells leg.circ (length s.circuits)) [
+  | inl (is, same) ↦ rw (slot_at-push s.circuits (Some (new_circuit chan id reply keys pad)) leg.circ, is)
+      (count-new chan id reply keys pad leg.number (leg_count start.rules h leg.circ leg.number) (tick h) (st.no_count leg.circ leg.number (omega arith)))
+  | inr (is, other) ↦ rw (leg_in-other s (Some (new_circuit chan id reply keys pad)) leg other) (st.counts leg)
 ]
 
-pub opened-kept : (start : Start) (s : State) (h : List Step) (chan id : ℕ) (reply : Cell) (keys : LayerKeys) → Stands start s h →
-    IsAnswered start h (opening chan id reply keys (length s.circuits)) → at h chan id ≡ None → list_any (λ d. d.id == id) (lane start.rules h chan) ≡ false →
-    Stands start (with_circuit s chan id reply (Some keys)) (opening chan id reply keys (length s.circuits) ∷ h)
-opened-kept start s h chan id reply keys st answered free unlike =
+pub opened-kept : (start : Start) (s : State) (h : List Step) (chan id : ℕ) (reply : Cell) (keys : LayerKeys) (pad : Option (List ℕ)) → Stands start s h →
+    IsAnswered start h (opening chan id reply keys pad (length s.circuits)) → at h chan id ≡ None → list_any (λ d. d.id == id) (lane start.rules h chan) ≡ false →
+    Stands start (with_circuit s chan id reply (Some keys) pad) (opening chan id reply keys pad (length s.circuits) ∷ h)
+opened-kept start s h chan id reply keys pad st answered free unlike =
     let rules = start.rules in
     let n = length s.circuits in
-    let new = new_circuit chan id reply keys in
-    let step = opening chan id reply keys n in
-    let t = with_circuit s chan id reply (Some keys) in
+    let new = new_circuit chan id reply keys pad in
+    let step = opening chan id reply keys pad n in
+    let t = with_circuit s chan id reply (Some keys) pad in
     record {
       legal = (answered, st.legal);
       steps = omega (arith, st.steps);
@@ -126,22 +126,22 @@ opened-kept start s h chan id reply keys st answered free unlike =
       circuit = λ c. elim (eqb_tells c n) [
         | inl (is_new, same) ↦ rw (slot_at-push s.circuits (Some new) c, is_new)
             (subst (λ m. CircuitAt rules s.last_closes (Some new) m (past rules (step ∷ h) m) (λ k. holds_id (step ∷ h) m k) (edge_past rules (step ∷ h) m)) (sym same)
-            (circuit-opened rules s.last_closes h chan id reply keys n (st.fresh n (omega arith)) (λ serial. no-left start s h st n serial refl)))
+            (circuit-opened rules s.last_closes h chan id reply keys pad n (st.fresh n (omega arith)) (λ serial. no-left start s h st n serial refl)))
         | inr (is_new, other) ↦ let unlike_n = not_equal n c other in
-            rw (slot_at-push s.circuits (Some new) c, is_new, past-other rules h chan id reply keys n c unlike_n, edge-other rules h chan id reply keys n c unlike_n)
-            (subst (λ f. CircuitAt rules s.last_closes (slot_at s.circuits c) c (past rules h c) f (edge_past rules h c)) (sym (fun_ext (λ k. holds-other h chan id reply keys n c k free unlike_n))) (st.circuit c))
+            rw (slot_at-push s.circuits (Some new) c, is_new, past-other rules h chan id reply keys pad n c unlike_n, edge-other rules h chan id reply keys pad n c unlike_n)
+            (subst (λ f. CircuitAt rules s.last_closes (slot_at s.circuits c) c (past rules h c) f (edge_past rules h c)) (sym (fun_ext (λ k. holds-other h chan id reply keys pad n c k free unlike_n))) (st.circuit c))
       ];
       fresh = λ c beyond.
           let past_end : n + 1 ≤ c = grind (arith, common_steps) in
           let unlike_n = not_equal n c (λ same. absurd (omega arith)) in
-          rw (past-other rules h chan id reply keys n c unlike_n, edge-other rules h chan id reply keys n c unlike_n) (st.fresh c (omega arith));
+          rw (past-other rules h chan id reply keys pad n c unlike_n, edge-other rules h chan id reply keys pad n c unlike_n) (st.fresh c (omega arith));
       used = λ m i. used-if t (lane rules h m) m i ((chan == m) && (id == i)) (Some (record { circ = n; number = 0 })) (at h m i)
-          (λ same. inl (new-port s chan id reply keys m i same)) (used-push s t (Some new) (lane rules h m) m i (at h m i) refl (st.used m i));
-      apart = λ m. apart-all start s h st chan id reply keys m (lane rules h m) (λ same. subst (λ a. list_any (λ d. d.id == id) (lane rules h a) ≡ false) (same-number chan m same) unlike) (st.apart m);
+          (λ same. inl (new-port s chan id reply keys pad m i same)) (used-push s t (Some new) (lane rules h m) m i (at h m i) refl (st.used m i));
+      apart = λ m. apart-all start s h st chan id reply keys pad m (lane rules h m) (λ same. subst (λ a. list_any (λ d. d.id == id) (lane rules h a) ≡ false) (same-number chan m same) unlike) (st.apart m);
       no_leg = λ c k m i beyond.
           let past_end : n + 1 ≤ c = grind (arith, common_steps) in
           leg-no n k ((chan == m) && (id == i)) (at h m i) c (not_equal n c (λ same. absurd (omega arith))) (st.no_leg c k m i (omega arith));
-      counts = counts-push start s h st chan id reply keys;
+      counts = counts-push start s h st chan id reply keys pad;
       no_count = λ c k beyond. st.no_count c k (grind (arith, common_steps));
       tick = st.tick;
       slots = st.slots;

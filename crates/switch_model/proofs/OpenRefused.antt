@@ -58,13 +58,13 @@ used-more s t xs ys chan id None same more used = tt
 used-more s t xs ys chan id (Some leg) same more (inl has) = inl (rw (same leg) has)
 used-more s t xs ys chan id (Some leg) same more (inr waits) = inr (more waits)
 
-pub refused-kept : (start : Start) (s : State) (h : List Step) (chan id : ℕ) (reply : Cell) (keys : Option LayerKeys) (why : OpenRefusal) (channel : ChannelState) →
-    Stands start s h → slot_at s.channels chan ≡ Some channel → IsAnswered start h (OpenCircuit (chan_no chan) id reply keys (Refused why)) →
+pub refused-kept : (start : Start) (s : State) (h : List Step) (chan id : ℕ) (reply : Cell) (keys : Option LayerKeys) (pad : Option (List ℕ)) (why : OpenRefusal) (channel : ChannelState) →
+    Stands start s h → slot_at s.channels chan ≡ Some channel → IsAnswered start h (OpenCircuit (chan_no chan) id reply keys pad (Refused why)) →
     ((r : ℕ) → refusal_reason (is_ours channel.side) id why ≡ Some r → at h chan id ≡ None) →
-    Stands start (open_state_by s chan id reply keys (Some channel) (Refused why)) (OpenCircuit (chan_no chan) id reply keys (Refused why) ∷ h)
-refused-kept start s h chan id reply keys why channel st found answered free =
+    Stands start (open_state_by s chan id reply keys pad (Some channel) (Refused why)) (OpenCircuit (chan_no chan) id reply keys pad (Refused why) ∷ h)
+refused-kept start s h chan id reply keys pad why channel st found answered free =
     let rules = start.rules in
-    let step = OpenCircuit (chan_no chan) id reply keys (Refused why) in
+    let step = OpenCircuit (chan_no chan) id reply keys pad (Refused why) in
     let own : ChannelStands channel (channel_past rules h chan) = subst (λ x. ChannelAt x (channel_past rules h chan)) found (st.channel chan) in
     let ours : opened_by_us (channel_at h chan) ≡ is_ours channel.side = rw own.channel refl in
     let inside = slot_at-inside s.channels chan channel found in
@@ -87,7 +87,7 @@ refused-kept start s h chan id reply keys why channel st found answered free =
       fresh = st.fresh;
       used = λ n i.
           let waits : Destroy → Bool = λ d. d.id == i in
-          used-more s (open_state_by s chan id reply keys (Some channel) (Refused why)) (lane rules h n) _ n i (at h n i) (λ leg. refl)
+          used-more s (open_state_by s chan id reply keys pad (Some channel) (Refused why)) (lane rules h n) _ n i (at h n i) (λ leg. refl)
           (λ some. any-if waits (chan == n) _ _ (any-refusal waits id (refusal_reason (opened_by_us (channel_at h n)) id why) (lane rules h n) some) some) (st.used n i);
       apart = λ n. elim (eqb_tells n chan) [
         | inl (is_here, same) ↦ subst (λ m. AllByRecursion (IsApart rules (step ∷ h) m) (lane rules (step ∷ h) m)) (sym same)

@@ -20,8 +20,8 @@ others : (rules : Rules) (h : List Step) (s : Step) (d : ℕ) → names_circuit 
     is_some (reason_of d (λ chan. lies_on h d (circuit_log rules h d) chan) (teardown s)) ≡ false → past rules (s ∷ h) d ≡ past rules h d
 others rules h (ChannelUp slot side a) d named torn = refl
 others rules h (ChannelDown chan a) d named torn = simp torn
-others rules h (OpenCircuit chan id reply keys (Opened n)) d named torn = simp named
-others rules h (OpenCircuit chan id reply keys a) d named torn = refl
+others rules h (OpenCircuit chan id reply keys pad (Opened n)) d named torn = simp named
+others rules h (OpenCircuit chan id reply keys pad a) d named torn = refl
 others rules h (Take chan cell TakeAnswer.Queued) d named torn =
     simp (is_leg-other (at h chan.0 cell.circ) d named 0, is_hop_leg-other (at h chan.0 cell.circ) d named)
 others rules h (Take chan cell (TakeAnswer.Down circ reason)) d named torn =

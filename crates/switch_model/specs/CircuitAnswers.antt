@@ -8,6 +8,8 @@ use Rattle.circuit_model.specs.NextHop.{next_hop}
 use Rattle.circuit_model.specs.Rules.{Rules}
 use Rattle.circuit_model.specs.Words.{closes}
 use Rattle.kdf_tor.specs.declared.LayerKeys.{LayerKeys}
+use Rattle.tor_spec.specs.CellCommands.{asks_for_circuit, padding_command, relay_command, destroy_command, versions_command, netinfo_command, relay_early_command, created2_command, padding_negotiate_command, vpadding_command, certs_command, auth_challenge_command, authenticate_command}
+use Rattle.tor_spec.specs.Reasons.{destroy_protocol, destroy_resource_limit, destroy_destroyed}
 use Rattle.tr_io.specs.declared.answers.BackAnswer.{BackAnswer}
 use Rattle.tr_io.specs.declared.answers.OpenAnswer.{OpenAnswer}
 use Rattle.tr_io.specs.declared.answers.OpenAnswer.TheVariants.{Opened, Refused}
@@ -18,7 +20,7 @@ use Rattle.tr_io.specs.declared.answers.Why.{Why}
 use Rattle.tr_io.specs.declared.names.Dir.{Dir}
 use Rattle.tr_io.specs.declared.names.Dir.TheVariants.{Forth, Back}
 use Rattle.tr_io.specs.declared.step.Step.{Step}
-use Rattle.switch_model.specs.Limits.{circuit_limit, given_id_base, protocol, resource_limit, destroyed}
+use Rattle.switch_model.specs.Limits.{circuit_limit, given_id_base}
 use Rattle.switch_model.specs.Names.{Leg, circ_no, circuit_cell}
 use Rattle.switch_model.specs.Channels.{Channel, channel_at, is_live_channel, opened_by_us, count_below}
 use Rattle.switch_model.specs.Legs.{circuits, at}
@@ -53,28 +55,26 @@ open_answer rules h chan id keys =
 
 -- PADDING, PADDING_NEGOTIATE, VPADDING.
 abbrev pub is_padding : ℕ → Bool
-is_padding command = (command == 0) || ((command == 12) || (command == 128))
-
--- CREATE, CREATE_FAST, CREATE2.
-abbrev pub is_opening : ℕ → Bool
-is_opening command = (command == 1) || ((command == 5) || (command == 10))
+is_padding command = (command == padding_command) || ((command == padding_negotiate_command) || (command == vpadding_command))
 
 -- VERSIONS, NETINFO, CERTS, AUTH_CHALLENGE, AUTHENTICATE.
 abbrev pub is_link : ℕ → Bool
-is_link command = (command == 7) || ((command == 8) || ((command == 129) || ((command == 130) || (command == 131))))
+is_link command =
+    (command == versions_command) || ((command == netinfo_command)
+    || ((command == certs_command) || ((command == auth_challenge_command) || (command == authenticate_command))))
 
 -- RELAY, DESTROY, RELAY_EARLY, CREATED2.
 abbrev pub is_relay : ℕ → Bool
-is_relay command = command == 3
+is_relay command = command == relay_command
 
 abbrev pub is_destroy : ℕ → Bool
-is_destroy command = command == 4
+is_destroy command = command == destroy_command
 
 abbrev pub is_relay_early : ℕ → Bool
-is_relay_early command = command == 9
+is_relay_early command = command == relay_early_command
 
 abbrev pub is_created2 : ℕ → Bool
-is_created2 command = command == 11
+is_created2 command = command == created2_command
 
 -- The commands that a circuit takes.
 abbrev pub is_for_circuit : ℕ → Bool
@@ -83,14 +83,14 @@ is_for_circuit command = is_relay command || (is_destroy command || (is_relay_ea
 -- A cell that waits in a direction, unless the direction is full.
 abbrev pub queued : Rules → List Step → ℕ → Dir → TakeAnswer
 queued rules h c dir =
-    if is_full rules h c dir then TakeAnswer.Down (circ_no c) resource_limit
+    if is_full rules h c dir then TakeAnswer.Down (circ_no c) destroy_resource_limit
     else Queued
 
 -- A cell on leg 0. RELAY_EARLY is counted when it settles, not here.
 abbrev pub from_client : Rules → List Step → ℕ → CircuitCell → TakeAnswer
 from_client rules h c cell =
-    if is_destroy cell.command then TakeAnswer.Down (circ_no c) destroyed
-    else if is_created2 cell.command then TakeAnswer.Down (circ_no c) protocol
+    if is_destroy cell.command then TakeAnswer.Down (circ_no c) destroy_destroyed
+    else if is_created2 cell.command then TakeAnswer.Down (circ_no c) destroy_protocol
     else queued rules h c Forth
 
 -- CREATED2 is awaited once; its handshake must fit an EXTENDED2, which is packaged.
@@ -101,11 +101,11 @@ answered rules h c None = queued rules h c Back
 -- A cell on the current leg, before CREATED2 was taken (`awaiting`) or behind it.
 abbrev pub from_hop : Rules → List Step → ℕ → Bool → CircuitCell → TakeAnswer
 from_hop rules h c awaiting cell =
-    if is_destroy cell.command then TakeAnswer.Down (circ_no c) destroyed
-    else if is_relay_early cell.command then TakeAnswer.Down (circ_no c) protocol
+    if is_destroy cell.command then TakeAnswer.Down (circ_no c) destroy_destroyed
+    else if is_relay_early cell.command then TakeAnswer.Down (circ_no c) destroy_protocol
     else if is_created2 cell.command && awaiting
     then answered rules h c (closes rules (events rules h c) (Answered cell.body))
-    else if is_created2 cell.command || awaiting then TakeAnswer.Down (circ_no c) protocol
+    else if is_created2 cell.command || awaiting then TakeAnswer.Down (circ_no c) destroy_protocol
     else queued rules h c Back
 
 abbrev pub is_number : ℕ → Option ℕ → Bool
@@ -127,7 +127,7 @@ abbrev pub take_answer : Rules → List Step → ℕ → Cell → TakeAnswer
 take_answer rules h chan cell =
     if not (is_live_channel h chan) then PassedOver Why.NoChannel
     else if is_padding cell.command then PassedOver Why.Padding
-    else if is_opening cell.command then PassedOver Why.Opening
+    else if asks_for_circuit cell.command then PassedOver Why.Opening
     else if is_link cell.command then PassedOver Why.Link
     else if not (is_for_circuit cell.command) then PassedOver Why.Unknown
     else taken_at rules h (circuit_cell cell) (at h chan cell.circ)

@@ -5,11 +5,12 @@ use Rattle.std.specs.List.{filter}
 use Rattle.circuit_model.specs.Events.{CircuitCell, Event, Forward}
 use Rattle.circuit_model.specs.Log.{Log, Order, collected}
 use Rattle.circuit_model.specs.NextHop.{next_hop}
-use Rattle.circuit_model.specs.Opened.{born_keys}
+use Rattle.circuit_model.specs.Opened.{born_keys, born_pad}
 use Rattle.circuit_model.specs.Packaged.{behind}
 use Rattle.circuit_model.specs.Rules.{Rules}
 use Rattle.circuit_model.specs.Sent.{one}
 use Rattle.circuit_model.specs.Words.{log, serial_of}
+use Rattle.tor_spec.specs.CellCommands.{relay_command}
 use Rattle.tr_io.specs.declared.names.ClaimNote.{ClaimNote}
 use Rattle.tr_io.specs.declared.names.Dir.{Dir}
 use Rattle.tr_io.specs.declared.names.Dir.TheVariants.{Forth, Back}
@@ -76,15 +77,16 @@ forward_cell event = None
 abbrev pub settled_forth : Log → List CircuitCell
 settled_forth log = collected (λ entry. forward_cell entry.event) log
 
--- Bodies on their way back, as RELAY cells (command 3).
+-- Bodies on their way back, as RELAY cells.
 abbrev pub relay_cells : List (List ℕ) → List CircuitCell
-relay_cells bodies = map (λ body. record { command = 3; body = body }) bodies
+relay_cells bodies = map (λ body. record { command = relay_command; body = body }) bodies
 
 -- A circuit.
 
 -- What is kept for the one-thread relay.
-abbrev pub RelayStands : RelayState → Log → Type 0
-RelayStands relay log = relay ≡ born_keys log
+pub record RelayStands (relay : RelayState) (log : Log) : Type 0 where
+  pub keys : relay.keys ≡ born_keys log
+  pub pad : relay.pad ≡ born_pad log
 
 abbrev pub is_for : ℕ → Order → Bool
 is_for serial order = serial_of order == serial

@@ -1,6 +1,7 @@
 -- The answers to a claim and to its return. The first line that fits holds.
 use Rattle.std.specs.Prelude.{ℕ, ◌==◌, nat_lt, not, List, length, Bool, false, if◌then◌else◌, Option, Some, None, option_map}
 use Rattle.circuit_model.specs.Rules.{Rules}
+use Rattle.tor_spec.specs.Reasons.{destroy_internal}
 use Rattle.tr_io.specs.declared.answers.BackAnswer.{BackAnswer}
 use Rattle.tr_io.specs.declared.answers.BackAnswer.TheVariants.{Settled, Down, Gone, Stranger}
 use Rattle.tr_io.specs.declared.answers.Difference.TheVariants.{Note, Content}
@@ -8,7 +9,6 @@ use Rattle.tr_io.specs.declared.names.ClaimNote.{ClaimNote}
 use Rattle.tr_io.specs.declared.names.Dir.{Dir}
 use Rattle.tr_io.specs.declared.names.Dir.TheVariants.{Forth, Back}
 use Rattle.tr_io.specs.declared.step.Step.{Step}
-use Rattle.switch_model.specs.Limits.{internal}
 use Rattle.switch_model.specs.Start.{Start}
 use Rattle.switch_model.specs.Names.{Way, circ_no, way_of, same_note}
 use Rattle.switch_model.specs.Legs.{circuits}
@@ -70,4 +70,4 @@ give_back_answer start h note place = return_answer start h note place (done sta
 
 -- A job that comes back undone: the circuit is torn down.
 abbrev pub abandon_answer : Start → List Step → ClaimNote → Option ℕ → BackAnswer
-abandon_answer start h note place = return_answer start h note place (Down internal)
+abandon_answer start h note place = return_answer start h note place (Down destroy_internal)

@@ -2,12 +2,13 @@
 use Rattle.std.specs.Prelude.{ℕ, ◌&&◌, nat_le, not, List, [], ◌∷◌, Bool, if◌then◌else◌, Option, Some, None}
 use Rattle.std.specs.List.{list_any}
 use Rattle.circuit_model.specs.Rules.{Rules}
+use Rattle.tor_spec.specs.Reasons.{destroy_connect_failed}
 use Rattle.tr_io.specs.declared.answers.DialAnswer.{DialAnswer}
 use Rattle.tr_io.specs.declared.answers.DialAnswer.TheVariants.{Up, Closed, Full, Gone}
 use Rattle.tr_io.specs.declared.dials.DialOutcome.{DialOutcome}
 use Rattle.tr_io.specs.declared.dials.DialStep.{DialStep}
 use Rattle.tr_io.specs.declared.step.Step.{Step}
-use Rattle.switch_model.specs.Limits.{channel_limit, given_id_limit, connect_failed}
+use Rattle.switch_model.specs.Limits.{channel_limit, given_id_limit}
 use Rattle.switch_model.specs.Names.{chan_no}
 use Rattle.switch_model.specs.Channels.{channels, channel_at, opened_by_us, live_channels, given_ids}
 use Rattle.switch_model.specs.Dials.{Dial, dials, dials_out, same_dial, dial_step}
@@ -31,9 +32,9 @@ dialled h (DialOutcome.Opened slot) =
     if nat_le channel_limit (live_channels h) then Full channel_limit
     else Up (chan_no (channels h))
 dialled h (DialOutcome.Over chan) =
-    if not (carries_on h chan.0) then Closed connect_failed
+    if not (carries_on h chan.0) then Closed destroy_connect_failed
     else Up chan
-dialled h DialOutcome.Failed = Closed connect_failed
+dialled h DialOutcome.Failed = Closed destroy_connect_failed
 
 -- Whether the order is out.
 abbrev pub is_out : Rules → List Step → DialStep → Bool

@@ -7,6 +7,7 @@ use Rattle.circuit_model.specs.Places.{Place, place_at, Phase, Reaching, Joined,
 use Rattle.circuit_model.specs.Rules.{Rules}
 use Rattle.circuit_model.specs.Windows.{circuit_packaged, circuit_grant, stream_packaged, stream_grant, drained}
 use Rattle.circuit_model.specs.Words.{packages_back}
+use Rattle.tor_spec.specs.Reasons.{destroy_resource_limit}
 use Rattle.tr_io.specs.declared.answers.EdgeAnswer.{EdgeAnswer}
 use Rattle.tr_io.specs.declared.answers.EdgeAnswer.TheVariants.{Packed, Counted, Shut, Gone, Down}
 use Rattle.tr_io.specs.declared.answers.ShutWhy.{ShutWhy}
@@ -15,7 +16,7 @@ use Rattle.tr_io.specs.declared.names.StreamKey.{StreamKey}
 use Rattle.tr_io.specs.declared.step.EventStep.{EventStep}
 use Rattle.tr_io.specs.declared.step.OrderStep.{OrderStep}
 use Rattle.tr_io.specs.declared.step.Step.{Step}
-use Rattle.switch_model.specs.Limits.{held_limit, resource_limit}
+use Rattle.switch_model.specs.Limits.{held_limit}
 use Rattle.switch_model.specs.Names.{place_key, address_of}
 use Rattle.switch_model.specs.History.{is_live, events}
 use Rattle.switch_model.specs.Queues.{circuit_log, is_full}
@@ -41,14 +42,14 @@ is_joined other = false
 -- One more body goes back, unless the direction is full.
 abbrev pub packed : Rules → List Step → ℕ → EdgeAnswer
 packed rules h c =
-    if is_full rules h c Back then Down resource_limit
+    if is_full rules h c Back then Down destroy_resource_limit
     else Packed
 
 -- Data of a place, where both windows and the direction allow it.
 abbrev pub data_answer : Rules → List Step → StreamKey → Log → EdgeAnswer
 data_answer rules h key log =
     if nat_le (stream_grant log key.serial) (stream_packaged log key.serial) then Shut ShutWhy.Stream (stream_packaged log key.serial)
-    else if nat_le (circuit_grant log) (circuit_packaged log) then Shut ShutWhy.Circuit (circuit_packaged log)
+    else if nat_le (circuit_grant rules log) (circuit_packaged log) then Shut ShutWhy.Circuit (circuit_packaged log)
     else if is_full rules h key.circ.0 Back then Shut ShutWhy.Held held_limit
     else Packed
 

@@ -5,6 +5,8 @@ use Rattle.cell_codec.specs.declared.cell.Body.TheVariants.{Fixed}
 use Rattle.cell_codec.specs.declared.cell.Cell.{Cell}
 use Rattle.circuit_model.specs.Sent.{destroy}
 use Rattle.kdf_tor.specs.declared.LayerKeys.{LayerKeys}
+use Rattle.tor_spec.specs.CellCommands.{relay_command, destroy_command, created_fast_command}
+use Rattle.tor_spec.specs.Reasons.{destroy_protocol, destroy_requested}
 use Rattle.tr_io.specs.declared.answers.BackAnswer.{BackAnswer}
 use Rattle.tr_io.specs.declared.answers.OpenAnswer.TheVariants.{Opened, Refused}
 use Rattle.tr_io.specs.declared.answers.OpenRefusal.{OpenRefusal}
@@ -17,7 +19,7 @@ use Rattle.tr_io.specs.declared.names.Dir.TheVariants.{Forth}
 use Rattle.tr_io.specs.declared.names.Side.TheVariants.{PeerOpened}
 use Rattle.tr_io.specs.declared.step.Step.{Step}
 use Rattle.tr_io.specs.declared.step.Step.TheVariants.{ChannelUp, ChannelDown, OpenCircuit, Take, Claim, GiveBack, NextCell, EdgeOut, DialOrder, TearDown, Live, Halt, Halted}
-use Rattle.switch_model.specs.Limits.{given_id_base, protocol, requested}
+use Rattle.switch_model.specs.Limits.{given_id_base}
 use Rattle.switch_model.specs.Names.{Leg, chan_no, circ_no}
 use Rattle.switch_model.specs.SendAnswers.{cell_at}
 use Rattle.switch_model.specs.Start.{Start}
@@ -34,9 +36,9 @@ id_of c = given_id_base + c
 abbrev pub cell_of : ℕ → ℕ → List ℕ → Cell
 cell_of c command body = record { circ = id_of c; command = command; body = Fixed body }
 
--- CREATE_FAST for circuit c is answered by CREATED_FAST (command 6) with this payload.
+-- CREATE_FAST for circuit c is answered by CREATED_FAST with this payload.
 abbrev pub opened : LayerKeys → ℕ → List ℕ → Step
-opened keys c reply = OpenCircuit (chan_no 0) (id_of c) (cell_of c 6 reply) (Some keys) (Opened (circ_no c))
+opened keys c reply = OpenCircuit (chan_no 0) (id_of c) (cell_of c created_fast_command reply) (Some keys) None (Opened (circ_no c))
 
 -- A cell leaves on channel 0 where this tick is given.
 abbrev pub left : ℕ → Cell → Step
@@ -48,13 +50,13 @@ nothing_left tick = NextCell (chan_no 0) tick None
 
 -- A circuit is opened, and the answer to the opening leaves.
 abbrev pub one_circuit : LayerKeys → List ℕ → List Step
-one_circuit keys reply = left 0 (cell_of 0 6 reply) ∷ opened keys 0 reply ∷ peer_came ∷ []
+one_circuit keys reply = left 0 (cell_of 0 created_fast_command reply) ∷ opened keys 0 reply ∷ peer_came ∷ []
 
--- The peer opens a circuit at CircID 1, whose highest bit is clear, and gets DESTROY 1.
+-- The peer opens a circuit at CircID 1, whose highest bit is clear, and gets DESTROY with PROTOCOL.
 abbrev pub bad_id : LayerKeys → Cell → List Step
 bad_id keys reply =
-    left 0 (cell_at 1 (destroy protocol))
-    ∷ OpenCircuit (chan_no 0) 1 reply (Some keys) (Refused OpenRefusal.BadId)
+    left 0 (cell_at 1 (destroy destroy_protocol))
+    ∷ OpenCircuit (chan_no 0) 1 reply (Some keys) None (Refused OpenRefusal.BadId)
     ∷ peer_came
     ∷ []
 
@@ -70,16 +72,16 @@ first_note start = record {
   count = 1;
 }
 
--- A circuit is torn down while a worker has its cipher: the return finds it gone, DESTROY 3 leaves in
+-- A circuit is torn down while a worker has its cipher: the return finds it gone, DESTROY leaves in
 -- place of the answer to the opening, and then nothing.
 abbrev pub torn_while_claimed : Start → LayerKeys → List ℕ → List ℕ → List Step
 torn_while_claimed start keys reply body =
     nothing_left 0
-    ∷ left 0 (cell_of 0 4 (destroy requested).body)
+    ∷ left 0 (cell_of 0 destroy_command (destroy destroy_requested).body)
     ∷ GiveBack (first_note start) None BackAnswer.Gone
-    ∷ TearDown (circ_no 0) requested (BackAnswer.Down requested)
+    ∷ TearDown (circ_no 0) destroy_requested (BackAnswer.Down destroy_requested)
     ∷ Claim 0 (Some (first_note start))
-    ∷ Take (chan_no 0) (cell_of 0 3 body) TakeAnswer.Queued
+    ∷ Take (chan_no 0) (cell_of 0 relay_command body) TakeAnswer.Queued
     ∷ opened keys 0 reply
     ∷ peer_came
     ∷ []
@@ -88,11 +90,11 @@ torn_while_claimed start keys reply body =
 -- free.
 abbrev pub crossing_destroys : LayerKeys → Cell → List ℕ → List ℕ → List Step
 crossing_destroys keys refused reply reason =
-    OpenCircuit (chan_no 0) (id_of 0) (cell_of 0 6 reply) (Some keys) (Opened (circ_no 1))
+    OpenCircuit (chan_no 0) (id_of 0) (cell_of 0 created_fast_command reply) (Some keys) None (Opened (circ_no 1))
     ∷ nothing_left 0
-    ∷ Take (chan_no 0) (cell_of 0 4 reason) (TakeAnswer.PassedOver Why.NoCircuit)
-    ∷ OpenCircuit (chan_no 0) (id_of 0) refused (Some keys) (Refused OpenRefusal.InUse)
-    ∷ TearDown (circ_no 0) requested (BackAnswer.Down requested)
+    ∷ Take (chan_no 0) (cell_of 0 destroy_command reason) (TakeAnswer.PassedOver Why.NoCircuit)
+    ∷ OpenCircuit (chan_no 0) (id_of 0) refused (Some keys) None (Refused OpenRefusal.InUse)
+    ∷ TearDown (circ_no 0) destroy_requested (BackAnswer.Down destroy_requested)
     ∷ opened keys 0 reply
     ∷ peer_came
     ∷ []
@@ -100,8 +102,8 @@ crossing_destroys keys refused reply reason =
 -- Circuit 0 sends the answer to its opening at tick 0, circuits 1 and 2 send theirs at tick 17.
 abbrev pub three_circuits : LayerKeys → List ℕ → List Step
 three_circuits keys reply =
-    left 17 (cell_of 2 6 reply)
-    ∷ left 17 (cell_of 1 6 reply)
+    left 17 (cell_of 2 created_fast_command reply)
+    ∷ left 17 (cell_of 1 created_fast_command reply)
     ∷ opened keys 2 reply
     ∷ opened keys 1 reply
     ∷ one_circuit keys reply
@@ -117,7 +119,7 @@ three_legs = leg_0 0 ∷ leg_0 1 ∷ leg_0 2 ∷ []
 -- Behind these steps each of the three legs is sent one more cell at tick 18, in this order.
 abbrev pub more_cells : LayerKeys → List ℕ → List ℕ → List ℕ → List Step
 more_cells keys reply body [] = three_circuits keys reply
-more_cells keys reply body (c ∷ before) = left 18 (cell_of c 3 body) ∷ more_cells keys reply body before
+more_cells keys reply body (c ∷ before) = left 18 (cell_of c relay_command body) ∷ more_cells keys reply body before
 
 -- A channel goes down while the answer to an opening waits on it: nothing leaves on it any more.
 abbrev pub ended_channel : LayerKeys → List ℕ → Cell → List Step
@@ -125,7 +127,7 @@ ended_channel keys reply late =
     ChannelDown (chan_no 0) BackAnswer.Gone
     ∷ nothing_left 0
     ∷ Take (chan_no 0) late (TakeAnswer.PassedOver Why.NoChannel)
-    ∷ TearDown (circ_no 0) requested BackAnswer.Gone
+    ∷ TearDown (circ_no 0) destroy_requested BackAnswer.Gone
     ∷ ChannelDown (chan_no 0) BackAnswer.Settled
     ∷ opened keys 0 reply
     ∷ peer_came

@@ -8,6 +8,7 @@ use Rattle.circuit_model.specs.Log.{Log}
 use Rattle.circuit_model.specs.NextHop.{NextHop, next_hop, Waiting, has_leg, leg_count}
 use Rattle.circuit_model.specs.Rules.{Rules}
 use Rattle.circuit_model.specs.Words.{log, closes}
+use Rattle.tor_spec.specs.CellCommands.{relay_command, created2_command}
 use Rattle.tr_io.specs.declared.answers.BackAnswer.{BackAnswer}
 use Rattle.tr_io.specs.declared.answers.DialAnswer.{DialAnswer}
 use Rattle.tr_io.specs.declared.answers.EdgeAnswer.TheVariants.{Packed, Counted}
@@ -40,7 +41,7 @@ lies_on h c log chan = leg_on h c chan (Some 0) || leg_on h c chan (current_leg 
 
 -- Whether a step opens circuit c.
 abbrev pub opens : ℕ → Step → Bool
-opens c (OpenCircuit chan id reply keys (Opened n)) = n.0 == c
+opens c (OpenCircuit chan id reply keys pad (Opened n)) = n.0 == c
 opens c s = false
 
 -- Events with one more, if the test holds.
@@ -49,24 +50,24 @@ with_event true event events = event ∷ events
 with_event false event events = events
 
 -- An opening that was accepted has keys.
-abbrev pub born : Cell → Option LayerKeys → List Event → List Event
-born reply (Some keys) events = Born (circuit_cell reply) (circuit_keys keys) ∷ events
-born reply None events = events
+abbrev pub born : Cell → Option LayerKeys → Option (List ℕ) → List Event → List Event
+born reply (Some keys) pad events = Born (circuit_cell reply) (circuit_keys keys) pad ∷ events
+born reply None pad events = events
 
 abbrev pub is_waiting : NextHop → Bool
 is_waiting Waiting = true
 is_waiting hop = false
 
--- Whether a cell is the CREATED2 (command 11) that the circuit awaits.
+-- Whether a cell is the CREATED2 that the circuit awaits.
 abbrev pub is_awaited : Log → CircuitCell → Bool
-is_awaited log cell = (cell.command == 11) && is_waiting (next_hop log)
+is_awaited log cell = (cell.command == created2_command) && is_waiting (next_hop log)
 
--- A cell from the next hop, by the answer that it was given. RELAY (command 3) is a body on its way
+-- A cell from the next hop, by the answer that it was given. RELAY is a body on its way
 -- back. The awaited CREATED2 is an event where it was accepted, and where its handshake is too long
 -- for an EXTENDED2, which closes the circuit.
 abbrev pub taken_from_hop : Rules → CircuitCell → TakeAnswer → List Event → List Event
 taken_from_hop rules cell TakeAnswer.Queued events =
-    if cell.command == 3 then Backward cell.body ∷ events else Answered cell.body ∷ events
+    if cell.command == relay_command then Backward cell.body ∷ events else Answered cell.body ∷ events
 taken_from_hop rules cell (TakeAnswer.Down circ reason) events =
     with_event (is_awaited (log rules events) cell && is_some (closes rules events (Answered cell.body)))
     (Answered cell.body) events
@@ -108,8 +109,8 @@ abbrev mutual
   -- The events of circuit c until it is torn down, newest first.
   pub events : Rules → List Step → ℕ → List Event
   events rules [] c = []
-  events rules (OpenCircuit chan id reply keys (Opened n) ∷ h) c =
-      if n.0 == c then born reply keys (events rules h c) else events rules h c
+  events rules (OpenCircuit chan id reply keys pad (Opened n) ∷ h) c =
+      if n.0 == c then born reply keys pad (events rules h c) else events rules h c
   events rules (Take chan cell answer ∷ h) c =
       if is_hop_leg c (at h chan.0 cell.circ)
       then taken_from_hop rules (circuit_cell cell) answer (events rules h c)

@@ -1,12 +1,13 @@
 -- The DESTROYs that wait on a channel, in a lane of their own (tor-spec, "Tearing down circuits").
 use Rattle.std.specs.Prelude.{ℕ, ◌+◌, ◌==◌, zero, suc, nat_le, not, List, [], ◌∷◌, ◌++◌, Bool, true, false, if◌then◌else◌, Option, Some, None, drop, filter, count_by}
 use Rattle.circuit_model.specs.Rules.{Rules}
+use Rattle.tor_spec.specs.Reasons.{destroy_protocol, destroy_requested, destroy_resource_limit}
 use Rattle.tr_io.specs.declared.answers.BackAnswer.{BackAnswer}
 use Rattle.tr_io.specs.declared.answers.OpenAnswer.TheVariants.{Refused}
 use Rattle.tr_io.specs.declared.answers.OpenRefusal.{OpenRefusal}
 use Rattle.tr_io.specs.declared.step.Step.{Step}
 use Rattle.tr_io.specs.declared.step.Step.TheVariants.{ChannelDown, OpenCircuit, Take, NextCell}
-use Rattle.switch_model.specs.Limits.{refusal_limit, protocol, requested, resource_limit}
+use Rattle.switch_model.specs.Limits.{refusal_limit}
 use Rattle.switch_model.specs.Channels.{channel_at, opened_by_us}
 use Rattle.switch_model.specs.Legs.{Port, port, circuits, hops, destroys, holds_id}
 use Rattle.switch_model.specs.Queues.{circuit_log}
@@ -22,9 +23,9 @@ pub record Destroy : Type 0 where
 -- The DESTROY of a refused opening, if one is owed: not to a CircID that is 0, in use, or this side's
 -- to give out.
 abbrev pub refusal_reason : Bool → ℕ → OpenRefusal → Option ℕ
-refusal_reason ours id OpenRefusal.BadId = if ours then None else if id == 0 then None else Some protocol
-refusal_reason ours id OpenRefusal.BadHandshake = Some protocol
-refusal_reason ours id (OpenRefusal.Full n) = Some resource_limit
+refusal_reason ours id OpenRefusal.BadId = if ours then None else if id == 0 then None else Some destroy_protocol
+refusal_reason ours id OpenRefusal.BadHandshake = Some destroy_protocol
+refusal_reason ours id (OpenRefusal.Full n) = Some destroy_resource_limit
 refusal_reason ours id refusal = None
 
 -- Where so many refusals wait already, none is put.
@@ -46,8 +47,8 @@ lane_left s chan lane = lane
 -- have it, a draining leg has its DESTROY 3.
 abbrev pub leg_reason : Option ℕ → ℕ → ℕ → ℕ
 leg_reason current reason zero = reason
-leg_reason (Some k) reason (suc n) = if k == suc n then reason else requested
-leg_reason None reason (suc n) = requested
+leg_reason (Some k) reason (suc n) = if k == suc n then reason else destroy_requested
+leg_reason None reason (suc n) = destroy_requested
 
 -- One leg, if it lies on this channel.
 abbrev pub destroy_at : ℕ → ℕ → Option Port → List Destroy
@@ -89,7 +90,7 @@ with_torn rules before after chan (OnChannel n) lane =
 -- The lane of a channel, oldest first: the DESTROYs that were put and have neither left nor gone.
 abbrev pub lane : Rules → List Step → ℕ → List Destroy
 lane rules [] chan = []
-lane rules (OpenCircuit n id reply keys (Refused why) ∷ h) chan =
+lane rules (OpenCircuit n id reply keys pad (Refused why) ∷ h) chan =
     if n.0 == chan then with_refusal id (refusal_reason (opened_by_us (channel_at h chan)) id why) (lane rules h chan)
     else lane rules h chan
 lane rules (s ∷ h) chan = with_torn rules h (s ∷ h) chan (teardown s) (lane_left s chan (lane rules h chan))

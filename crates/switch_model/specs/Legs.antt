@@ -2,6 +2,7 @@
 -- long it has that CircID.
 use Rattle.std.specs.Prelude.{ℕ, ◌+◌, ◌==◌, ◌&&◌, List, [], ◌∷◌, Bool, false, if◌then◌else◌, Option, Some, None}
 use Rattle.cell_codec.specs.declared.cell.Cell.{Cell}
+use Rattle.tor_spec.specs.CellCommands.{destroy_command}
 use Rattle.tr_io.specs.declared.answers.BackAnswer.{BackAnswer}
 use Rattle.tr_io.specs.declared.answers.DialAnswer.{DialAnswer}
 use Rattle.tr_io.specs.declared.answers.OpenAnswer.TheVariants.{Opened}
@@ -14,7 +15,7 @@ use Rattle.switch_model.specs.Channels.{next_given_id}
 -- How many circuits were opened. The next one has this number.
 abbrev pub circuits : List Step → ℕ
 circuits [] = 0
-circuits (OpenCircuit chan id reply keys (Opened n) ∷ h) = circuits h + 1
+circuits (OpenCircuit chan id reply keys pad (Opened n) ∷ h) = circuits h + 1
 circuits (s ∷ h) = circuits h
 
 -- How many next hops were linked to the circuit. The next leg has this number and one more.
@@ -33,7 +34,7 @@ pub record Port : Type 0 where
 -- other one the next that this side gives out on its channel.
 abbrev pub port : List Step → ℕ → ℕ → Option Port
 port [] c k = None
-port (OpenCircuit chan id reply keys (Opened n) ∷ h) c k =
+port (OpenCircuit chan id reply keys pad (Opened n) ∷ h) c k =
     if (n.0 == c) && (k == 0) then Some (record { chan = chan.0; id = id }) else port h c k
 port (DialDone order outcome (DialAnswer.Up n) ∷ h) c k =
     if (order.circ.0 == c) && (k == hops h c + 1)
@@ -47,13 +48,13 @@ on_channel chan None = false
 
 -- Whether a cell on channel n is a DESTROY for this CircID of channel chan (command 4).
 abbrev pub destroys : ChanNo → Cell → ℕ → ℕ → Bool
-destroys n cell chan id = (n.0 == chan) && ((cell.circ == id) && (cell.command == 4))
+destroys n cell chan id = (n.0 == chan) && ((cell.circ == id) && (cell.command == destroy_command))
 
 -- The leg that has this CircID, draining legs included: from its opening or link on, until its
 -- DESTROY has left, the peer's DESTROY was taken or the channel went down.
 abbrev pub at : List Step → ℕ → ℕ → Option Leg
 at [] chan id = None
-at (OpenCircuit n i reply keys (Opened c) ∷ h) chan id =
+at (OpenCircuit n i reply keys pad (Opened c) ∷ h) chan id =
     if (n.0 == chan) && (i == id) then Some (record { circ = c.0; number = 0 }) else at h chan id
 at (DialDone order outcome (DialAnswer.Up n) ∷ h) chan id =
     if (n.0 == chan) && (next_given_id h chan == id)

@@ -1,5 +1,4 @@
--- The limits of a switch, which are this relay's own, and the reasons of DESTROY that it gives
--- (tor-spec, "Tearing down circuits").
+-- The limits of a switch, which are this relay's own.
 use Rattle.std.specs.Prelude.{ℕ, ◌-◌, ◌^◌}
 
 -- So many channels are live at most.
@@ -35,26 +34,3 @@ cell_charge = 65536
 
 abbrev pub count_limit : ℕ
 count_limit = 2 ^ 64 - 1
-
--- Reasons.
-
-abbrev pub protocol : ℕ
-protocol = 1
-
-abbrev pub internal : ℕ
-internal = 2
-
-abbrev pub requested : ℕ
-requested = 3
-
-abbrev pub resource_limit : ℕ
-resource_limit = 5
-
-abbrev pub connect_failed : ℕ
-connect_failed = 6
-
-abbrev pub channel_closed : ℕ
-channel_closed = 8
-
-abbrev pub destroyed : ℕ
-destroyed = 11

@@ -2,6 +2,7 @@
 use Rattle.std.specs.Prelude.{ℕ, ◌-◌, ◌==◌, ◌&&◌, zero, suc, max, List, [], ◌∷◌, ◌++◌, length, Bool, false, if◌then◌else◌, Option, Some, None}
 use Rattle.cell_codec.specs.declared.cell.Cell.{Cell}
 use Rattle.circuit_model.specs.Events.{CircuitCell}
+use Rattle.tor_spec.specs.CellCommands.{destroy_command}
 use Rattle.switch_model.specs.Names.{Leg}
 use Rattle.switch_model.specs.Lanes.{Destroy}
 use Rattle.switch_model.specs.Counts.{halved, charged, some_in, least_of}
@@ -78,7 +79,7 @@ next_cell_result s chan given = next_result_on s chan given (slot_at s.channels 
 abbrev pub sent_first : ℕ → LegState → List CircuitCell → Option LegState
 sent_first now leg [] = Some leg
 sent_first now leg (cell ∷ cells) =
-    if cell.command == 4 then None
+    if cell.command == destroy_command then None
     else Some (record leg { queue = cells; count = charged (count_of now leg); counted_at = now })
 
 -- The switch with the leg as it is behind its first cell.

@@ -8,12 +8,12 @@ use Rattle.circuit_model.specs.Opened.{is_forward}
 use Rattle.circuit_model.specs.Places.{Place, place_at}
 use Rattle.circuit_model.specs.Rules.{Rules}
 use Rattle.circuit_model.specs.Words.{orders_of}
+use Rattle.tor_spec.specs.Reasons.{end_destroy}
 use Rattle.tr_io.specs.declared.names.StreamKey.{StreamKey}
 use Rattle.tr_io.specs.declared.names.Dir.TheVariants.{Forth}
 use Rattle.tr_io.specs.declared.step.OrderStep.{OrderStep}
 use Rattle.tr_io.specs.declared.step.Step.{Step}
 use Rattle.tr_io.specs.declared.step.Step.TheVariants.{EdgeOut}
-use Rattle.switch_model.specs.Limits.{resource_limit}
 use Rattle.switch_model.specs.Names.{Way, same_dir}
 use Rattle.switch_model.specs.Claims.{count_way, born_bodies}
 use Rattle.switch_model.specs.History.{is_live}
@@ -90,7 +90,7 @@ waiting_orders h c serial log =
 
 -- Teardown leaves a place that is bound to a slot one Close, and every other place nothing.
 abbrev pub last_close : Option Place → List Order
-last_close (Some place) = Close place.key resource_limit ∷ []
+last_close (Some place) = Close place.key end_destroy ∷ []
 last_close None = []
 
 -- The orders that a torn circuit leaves at a place.

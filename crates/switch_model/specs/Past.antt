@@ -56,7 +56,7 @@ order_circuit (OrderStep.Close key reason) = key.circ.0
 
 -- Whether a step names a circuit, by its number or by one of its CircIDs.
 abbrev pub names_circuit : List Step → Step → ℕ → Bool
-names_circuit h (OpenCircuit chan id reply keys (Opened n)) c = n.0 == c
+names_circuit h (OpenCircuit chan id reply keys pad (Opened n)) c = n.0 == c
 names_circuit h (Take chan cell answer) c = is_of_circuit c (at h chan.0 cell.circ)
 names_circuit h (Claim worker (Some note)) c = note.circ.0 == c
 names_circuit h (GiveBack note place answer) c = note.circ.0 == c

@@ -6,7 +6,8 @@ use Rattle.circuit_model.specs.Events.{CircuitCell, Event, Forward}
 use Rattle.circuit_model.specs.Rules.{Rules}
 use Rattle.circuit_model.specs.Packaged.{behind}
 use Rattle.circuit_model.specs.Words.{log, closes, packages_back}
-use Rattle.switch_model.specs.Limits.{held_limit, resource_limit}
+use Rattle.tor_spec.specs.Reasons.{destroy_resource_limit}
+use Rattle.switch_model.specs.Limits.{held_limit}
 
 -- The cells that the backward direction holds after these events, of which so many have left: the
 -- answer to the opening and all bodies that went back.
@@ -55,7 +56,7 @@ settled rules left events (cell ∷ cells) =
 abbrev pub reason_with : Closing → Option ℕ → Option ℕ
 reason_with Goes later = later
 reason_with (Closes reason) later = Some reason
-reason_with Full later = Some resource_limit
+reason_with Full later = Some destroy_resource_limit
 
 -- The same of all cells.
 abbrev pub settling_reason : Rules → ℕ → List Event → List CircuitCell → Option ℕ

@@ -41,9 +41,10 @@ pub record WayState : Type 0 where
   pub kept : Option KeptClaim
   pub waiting : List WaitingCell
 
--- What is kept of a circuit for the one-thread relay. The first path needs its keys alone.
-abbrev pub RelayState : Type 0
-RelayState = CircuitKeys
+-- What is kept of a circuit for the one-thread relay: what it was opened with.
+pub record RelayState : Type 0 where
+  pub keys : CircuitKeys
+  pub pad : Option (List ℕ)
 
 -- A dial order that is neither done nor given up.
 pub record DialState : Type 0 where

@@ -1,6 +1,7 @@
 -- The cells that were taken in for a circuit.
 use Rattle.std.specs.Prelude.{ℕ, ◌==◌, ◌&&◌, zero, suc, List, [], ◌∷◌, ◌++◌, Bool, true, false, if◌then◌else◌, Option, Some, None, take, drop}
 use Rattle.circuit_model.specs.Events.{CircuitCell}
+use Rattle.tor_spec.specs.CellCommands.{relay_command}
 use Rattle.tr_io.specs.declared.answers.TakeAnswer.TheVariants.{Queued}
 use Rattle.tr_io.specs.declared.names.ClaimNote.{ClaimNote}
 use Rattle.tr_io.specs.declared.step.Step.{Step}
@@ -24,12 +25,12 @@ abbrev pub is_hop_leg : ℕ → Option Leg → Bool
 is_hop_leg c (Some leg) = (leg.circ == c) && is_hop leg.number
 is_hop_leg c None = false
 
--- The bodies of the RELAY cells (command 3) queued on a leg towards a next hop, oldest first. `take`
+-- The bodies of the RELAY cells queued on a leg towards a next hop, oldest first. `take`
 -- queues cells on the current leg alone.
 abbrev pub taken_back : List Step → ℕ → List (List ℕ)
 taken_back [] c = []
 taken_back (Take chan cell Queued ∷ h) c =
-    if is_hop_leg c (at h chan.0 cell.circ) && (cell.command == 3)
+    if is_hop_leg c (at h chan.0 cell.circ) && (cell.command == relay_command)
     then taken_back h c ++ (circuit_cell cell).body ∷ [] else taken_back h c
 taken_back (s ∷ h) c = taken_back h c
 

@@ -8,6 +8,7 @@ ghost use Rattle.circuit_model.specs.Log.{is_closed};
 ghost use Rattle.circuit_model.specs.Packaged.{behind};
 ghost use Rattle.circuit_model.specs.Rules.{Rules};
 ghost use Rattle.circuit_model.specs.Words.{effects};
+ghost use Rattle.tor_spec.specs.CellCommands.{relay_command};
 ghost use Rattle.tr_io.specs.declared.answers.TakeAnswer.TheVariants.{Queued};
 ghost use Rattle.tr_io.specs.declared.names.ChanNo.{ChanNo};
 ghost use Rattle.tr_io.specs.declared.names.ClaimNote.{ClaimNote};
@@ -49,7 +50,7 @@ pub fn next_hops_body_goes_first()
     ensures { (rules : Rules) (h : List Step) (note : ClaimNote) (chan : ChanNo) (from_hop : Cell)
         (cell : CircuitCell) (answer : List ℕ) →
         is_closed (circuit_log rules h note.circ.0) ≡ false →
-        is_hop_leg note.circ.0 (at h chan.0 from_hop.circ) ≡ true → from_hop.command ≡ 3 →
+        is_hop_leg note.circ.0 (at h chan.0 from_hop.circ) ≡ true → from_hop.command ≡ relay_command →
         note.dir ≡ Forth → claimed_cells (Take chan from_hop Queued ∷ h) note ≡ cell ∷ [] →
         closing_at rules (length (sent rules h note.circ.0 0))
         (Backward (circuit_cell from_hop).body ∷ events rules h note.circ.0) cell ≡ Goes →

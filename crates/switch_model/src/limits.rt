@@ -12,6 +12,9 @@ ghost use Rattle.tr_io.specs.declared.answers.UpAnswer.{UpAnswer};
 ghost use Rattle.tr_io.specs.declared.names.ClaimNote.{ClaimNote};
 ghost use Rattle.tr_io.specs.declared.names.Dir.TheVariants.{Forth};
 ghost use Rattle.tr_io.specs.declared.step.Step.{Step};
+ghost use Rattle.tor_spec.specs.CellCommands.{relay_command};
+ghost use Rattle.tor_spec.specs.Reasons.{destroy_resource_limit};
+ghost use Rattle.switch_model.specs.Limits.{channel_limit, circuit_limit, held_limit};
 ghost use Rattle.switch_model.specs.Start.{Start};
 ghost use Rattle.switch_model.specs.Names.{circ_no};
 ghost use Rattle.switch_model.specs.Channels.{channel_at, is_live_channel, live_channels};
@@ -33,7 +36,7 @@ ghost use Rattle.switch_model.specs.ClaimAnswers.{give_back_answer};
 /// With 64 live channels no further one comes up.
 #[tactic(auto, using(crate::proofs::Fullness::channels_full))]
 pub fn sixty_five_channels_are_too_many()
-    ensures { (h : List Step) → live_channels h ≡ 64 → channel_up_answer h ≡ UpAnswer.Full 64 }
+    ensures { (h : List Step) → live_channels h ≡ channel_limit → channel_up_answer h ≡ UpAnswer.Full channel_limit }
 {}
 
 /// With 512 live circuits a good opening is refused.
@@ -41,8 +44,8 @@ pub fn sixty_five_channels_are_too_many()
 pub fn a_513th_circuit_is_refused()
     ensures { (rules : Rules) (h : List Step) (chan id : ℕ) (keys : LayerKeys) →
         is_live_channel h chan ≡ true → (id == 0) ≡ false → is_in_use rules h chan id ≡ false →
-        is_peers_id (channel_at h chan) id ≡ true → live_circuits rules h ≡ 512 →
-        open_answer rules h chan id (Some keys) ≡ Refused (OpenRefusal.Full 512) }
+        is_peers_id (channel_at h chan) id ≡ true → live_circuits rules h ≡ circuit_limit →
+        open_answer rules h chan id (Some keys) ≡ Refused (OpenRefusal.Full circuit_limit) }
 {}
 
 /// A job of another switch is a stranger's, whatever it holds.
@@ -56,9 +59,9 @@ pub fn a_foreign_job_is_a_strangers()
 #[tactic(auto, using(crate::proofs::Fullness::direction_full))]
 pub fn one_cell_too_many_closes()
     ensures { (rules : Rules) (h : List Step) (chan : ℕ) (cell : Cell) (c : ℕ) →
-        is_live_channel h chan ≡ true → cell.command ≡ 3 →
+        is_live_channel h chan ≡ true → cell.command ≡ relay_command →
         at h chan cell.circ ≡ Some (record { circ = c; number = 0 }) → is_live rules h c ≡ true →
-        held rules h c Forth ≡ 1500 → take_answer rules h chan cell ≡ TakeAnswer.Down (circ_no c) 5 }
+        held rules h c Forth ≡ held_limit → take_answer rules h chan cell ≡ TakeAnswer.Down (circ_no c) destroy_resource_limit }
 {}
 
 /// Bytes of a joined stream are shut out where the stream's window is used up, and else where the
@@ -73,7 +76,7 @@ pub fn a_used_up_window_is_shut()
     ensures circuit { (rules : Rules) (h : List Step) (key : StreamKey) (octets : Octets) → is_live rules h key.circ.0 ≡ true →
         phase_of (circuit_log rules h key.circ.0) key ≡ Joined →
         stream_packaged (circuit_log rules h key.circ.0) key.serial < stream_grant (circuit_log rules h key.circ.0) key.serial →
-        circuit_grant (circuit_log rules h key.circ.0) ≤ circuit_packaged (circuit_log rules h key.circ.0) →
+        circuit_grant rules (circuit_log rules h key.circ.0) ≤ circuit_packaged (circuit_log rules h key.circ.0) →
         edge_in_answer rules h key (EventStep.Data octets)
         ≡ Shut ShutWhy.Circuit (circuit_packaged (circuit_log rules h key.circ.0)) }
 {}

@@ -38,9 +38,9 @@ pub fn channel_up_is_one_step()
 /// An opening, accepted or refused, is one step.
 #[tactic(auto, using(crate::proofs::Laws::open_adds))]
 pub fn open_circuit_is_one_step()
-    ensures { (start : Start) (s t : State) (chan : ChanNo) (id : ℕ) (reply : Cell) (keys : Option LayerKeys) →
-        t ≡ open_state s chan.0 id reply keys →
-        Adds start s t (OpenCircuit chan id reply keys (open_result s chan.0 id keys)) }
+    ensures { (start : Start) (s t : State) (chan : ChanNo) (id : ℕ) (reply : Cell) (keys : Option LayerKeys) (pad : Option (List ℕ)) →
+        t ≡ open_state s chan.0 id reply keys pad →
+        Adds start s t (OpenCircuit chan id reply keys pad (open_result s chan.0 id keys)) }
 {}
 
 /// A cell that leaves, or none, is one step.
