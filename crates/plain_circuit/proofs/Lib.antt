@@ -1,4 +1,5 @@
 pub mod Logs
+pub mod Readers
 pub mod PlaceLists
 pub mod Handshakes
 pub mod Payloads

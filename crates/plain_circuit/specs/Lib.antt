@@ -1,3 +1,4 @@
 pub mod Values
 pub mod Received
 pub mod Created
+pub mod Reading

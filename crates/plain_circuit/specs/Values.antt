@@ -33,7 +33,7 @@ abbrev pub keys_of : LayerKeys → CircuitKeys
 keys_of k = record { df = k.df; db = k.db; kf = k.kf; kb = k.kb }
 
 abbrev pub event_of : Event → ModelEvent
-event_of (Born reply keys) = born (cell_of reply) (keys_of keys)
+event_of (Born reply keys pad) = born (cell_of reply) (keys_of keys) pad
 event_of (Forward command body) = forward command body
 event_of (Backward body) = backward body
 event_of (Connected serial) = connected serial
@@ -56,7 +56,7 @@ abbrev pub allow_of : Allow → ModelAllow
 allow_of line = record { host = line.host.items; port = line.port; to = address_of line.to }
 
 abbrev pub rules_of : Rules → ModelRules
-rules_of rules = record { allow = map allow_of rules.allow.items }
+rules_of rules = record { allow = map allow_of rules.allow.items; window = rules.window; least = rules.least }
 
 abbrev pub key_of : StreamKey → ModelKey
 key_of k = record { stream = k.stream; serial = k.serial }

@@ -22,8 +22,9 @@ pub struct Piece {
 /// BEGINs are numbered from 0.
 #[derive(Drop)]
 pub enum Event {
-    /// The circuit is opened: the cell that answers the opening, and the keys.
-    Born(CircuitCell, LayerKeys),
+    /// The circuit is opened: the cell that answers the opening, the keys, and the key of the padding,
+    /// if there is one.
+    Born(CircuitCell, LayerKeys, Option<[u8; 16]>),
     /// A RELAY or RELAY_EARLY cell from the client's side: command and body as it came.
     Forward(u8, [u8; 509]),
     /// The body of a RELAY cell from the next hop.

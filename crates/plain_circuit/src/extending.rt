@@ -13,6 +13,7 @@ use crate::event::CircuitCell;
 use crate::log::{Entry, Message};
 use crate::next_hop::{NextHop, next_hop};
 use crate::packaged::packaging;
+use cell_codec::{command, destroy_reason};
 use relay_cell::{Extend2, extended2_body, read_extend2, read_handshake_reply, truncated_body};
 use std::alloc::{AllocError, Global};
 
@@ -31,27 +32,31 @@ fn address_asked(message: &Message) -> Option<Address>
     Some(Address { ip, port })
 }
 
+/// EXTENDED2 has room for so many bytes of HDATA behind HLEN.
+const MOST_HDATA: usize = 496;
+
 /// EXTEND2: in RELAY_EARLY, with no next hop before it, and with an IPv4 address.
 pub fn extend_effects(log: &[Entry<'_>], message: &Message) -> Effects
     ensures { effects_of result ≡ extend_effects (log_of log.now) (message_of message.now) }
 {
     if !message.early || !is_absent(log) {
-        return Effects::closing(1);
+        return Effects::closing(destroy_reason::PROTOCOL);
     }
     match address_asked(message) {
         Some(to) => Effects {
             dial: Some(to),
             ..Effects::none()
         },
-        None => Effects::closing(1),
+        None => Effects::closing(destroy_reason::PROTOCOL),
     }
 }
 
 /// TRUNCATE.
+#[tactic(auto, using(tor_spec::proofs::Bodies::relay_body_fits))]
 pub fn truncate_effects(alloc: Global, log: &[Entry<'_>]) -> Result<Effects, AllocError>
     ensures { IfOk result (λ effects. effects_of effects ≡ truncate_effects (log_of log.now)) }
 {
-    let answered = packaging(alloc, log, &truncated_body(3))?;
+    let answered = packaging(alloc, log, &truncated_body(destroy_reason::REQUESTED))?;
     Ok(Effects {
         cut: !is_absent(log),
         ..answered
@@ -109,7 +114,7 @@ fn create2(request: &Extend2<'_>) -> CircuitCell
     ensures { cell_of result ≡ create2 (extend_of request.now) }
 {
     CircuitCell {
-        command: 10,
+        command: command::CREATE2,
         body: create2_body(request.htype, request.hdata),
     }
 }
@@ -134,6 +139,7 @@ pub fn linked_effects(log: &[Entry<'_>]) -> Effects
 }
 
 /// CREATED2 from the next hop.
+#[tactic(auto, using(tor_spec::proofs::Fitting::body_fits, tor_spec::proofs::Fitting::reply_fits))]
 pub fn answered_effects(
     alloc: Global,
     log: &[Entry<'_>],
@@ -142,11 +148,11 @@ pub fn answered_effects(
     ensures { IfOk result (λ effects. effects_of effects ≡ answered_effects (log_of log.now) payload.now) }
 {
     let Some(handshake) = read_handshake_reply(payload) else {
-        return Ok(Effects::closing(1));
+        return Ok(Effects::closing(destroy_reason::PROTOCOL));
     };
-    if handshake.len() <= 496 {
+    if handshake.len() <= MOST_HDATA {
         packaging(alloc, log, &extended2_body(handshake))
     } else {
-        Ok(Effects::closing(1))
+        Ok(Effects::closing(destroy_reason::PROTOCOL))
     }
 }

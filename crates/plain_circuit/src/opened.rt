@@ -1,10 +1,13 @@
 //! Relay cells from the client's side with this relay's layer taken off, and which are recognised.
 
-ghost use Rattle.std.specs.Prelude.{◌≡◌, ◌*◌, ◌&&◌, ◌++◌, ◌∷◌, [], IfOk, option_map, bytes_eq, take, drop};
+ghost use Rattle.std.specs.Prelude.{◌≡◌, ℕ, ◌+◌, ◌*◌, ◌^◌, ◌<◌, ◌&&◌, ◌++◌, ◌∷◌, [], List, IfOk, option_map, bytes_eq, length, take, drop};
 ghost use Rattle.crypto_spec.specs.HopLayer.{layered};
+ghost use Rattle.crypto_spec.specs.Keystream.{keystream_part};
 ghost use Rattle.crypto_spec.specs.RunningDigest.{running_digest};
-ghost use Rattle.circuit_model.specs.Log.{pushed};
-ghost use Rattle.circuit_model.specs.Opened.{keys_in, born_keys, is_forward, forward_count, plain_body, recognised_with, recognised_bodies};
+ghost use Rattle.run_digest.specs.HashState.{StandsFor};
+ghost use Rattle.circuit_model.specs.Log.{Entry as ModelEntry, pushed};
+ghost use Rattle.circuit_model.specs.Opened.{keys_in, no_keys, born_keys, pad_in, born_pad, is_forward, forward_count, plain_body, with_recognised, recognised_with, recognised_bodies};
+ghost use Rattle.plain_circuit.specs.Reading.{IsReader};
 ghost use Rattle.plain_circuit.specs.Values.{log_of, event_of, keys_of};
 
 use crate::event::Event;
@@ -18,8 +21,20 @@ fn keys_in(event: &Event) -> Option<LayerKeys>
     ensures { option_map keys_of result ≡ keys_in (event_of event.now) }
 {
     match event {
-        Event::Born(_, keys) => Some(*keys),
+        Event::Born(_, keys, _) => Some(*keys),
         _ => None,
+    }
+}
+
+/// Stands in for the keys before the circuit is opened.
+fn no_keys() -> LayerKeys
+    ensures { keys_of result ≡ no_keys }
+{
+    LayerKeys {
+        df: [0; 20],
+        db: [0; 20],
+        kf: [0; 16],
+        kb: [0; 16],
     }
 }
 
@@ -27,18 +42,35 @@ fn keys_in(event: &Event) -> Option<LayerKeys>
 pub fn born_keys(log: &[Entry<'_>]) -> LayerKeys
     ensures { keys_of result ≡ born_keys (log_of log.now) }
 {
-    let mut keys = LayerKeys {
-        df: [0; 20],
-        db: [0; 20],
-        kf: [0; 16],
-        kb: [0; 16],
-    };
+    let mut keys = no_keys();
     for entry in log {
         if let Some(given) = keys_in(entry.event) {
             keys = given;
         }
     }
     keys
+}
+
+fn pad_in(event: &Event) -> Option<[u8; 16]>
+    ensures { result ≡ pad_in (event_of event.now) }
+{
+    match event {
+        Event::Born(_, _, pad) => *pad,
+        _ => None,
+    }
+}
+
+/// The key of the padding that the circuit was opened with, if there is one.
+pub fn born_pad(log: &[Entry<'_>]) -> Option<[u8; 16]>
+    ensures { result ≡ born_pad (log_of log.now) }
+{
+    let mut pad = None;
+    for entry in log {
+        if let Some(given) = pad_in(entry.event) {
+            pad = Some(given);
+        }
+    }
+    pad
 }
 
 fn is_forward(event: &Event) -> bool
@@ -60,19 +92,35 @@ pub fn forward_count(log: &[Entry<'_>]) -> usize
     count
 }
 
-/// Body number `n` of its direction with the layer of a cipher key put on or taken off.
-#[tactic(auto, unfolding(crypto_spec::specs::HopLayer::layered))]
-pub fn layered(key: &[u8; 16], n: usize, body: &[u8; 509]) -> [u8; 509]
-    ensures { result ≡ layered key.now (509 * n) body.now }
+/// The keystream of a cipher key, behind `n` bodies.
+fn keystream_behind(key: &[u8; 16], n: usize) -> Stream
+    ensures key { result.key ≡ key.now }
+    ensures position { result.position ≡ 509 * n }
 {
     let mut stream = Stream::of(key);
     let mut passed = [0; 509];
     for before in 0..n {
         stream.apply(&mut passed);
     }
+    stream
+}
+
+/// Body number `n` of its direction with the layer of a cipher key put on or taken off.
+#[tactic(auto, unfolding(crypto_spec::specs::HopLayer::layered))]
+pub fn layered(key: &[u8; 16], n: usize, body: &[u8; 509]) -> [u8; 509]
+    ensures { result ≡ layered key.now (509 * n) body.now }
+{
     let mut layered = *body;
-    stream.apply(&mut layered);
+    keystream_behind(key, n).apply(&mut layered);
     layered
+}
+
+/// The 509 bytes of a key's keystream for body number `n`.
+#[tactic(auto, using(circuit_model::proofs::Keystreams::xor_of_zeros), unfolding(crypto_spec::specs::HopLayer::layered))]
+pub fn keystream_for(key: &[u8; 16], n: usize) -> [u8; 509]
+    ensures { result ≡ keystream_part key.now (509 * n) 509 }
+{
+    layered(key, n, &[0; 509])
 }
 
 /// The next forward body with this relay's layer taken off.
@@ -82,15 +130,21 @@ pub fn plain_body(log: &[Entry<'_>], body: &[u8; 509]) -> [u8; 509]
     layered(&born_keys(log).kf, forward_count(log), body)
 }
 
-/// The running digest of these bodies.
-pub fn digest_of(seed: &[u8; 20], bodies: &[[u8; 509]]) -> [u8; 20]
-    ensures { result ≡ running_digest seed.now bodies.now }
+fn running_of(seed: &[u8; 20], bodies: &[[u8; 509]]) -> Running
+    ensures { StandsFor result seed.now bodies.now }
 {
     let mut running = Running::seeded(seed);
     for body in bodies {
         running.absorb(body);
     }
-    running.digest()
+    running
+}
+
+/// The running digest of these bodies.
+pub fn digest_of(seed: &[u8; 20], bodies: &[[u8; 509]]) -> [u8; 20]
+    ensures { result ≡ running_digest seed.now bodies.now }
+{
+    running_of(seed, bodies).digest()
 }
 
 /// Whether a plain body is recognised whose running digest with it is this one: its field Recognized
@@ -117,25 +171,66 @@ pub fn digest_with(
     Ok(digest_of(seed, &bodies))
 }
 
-/// The plain body that an event adds to the recognised ones.
-#[tactic(auto, unfolding(crypto_spec::specs::HopLayer::is_recognised))]
-fn recognised_in(
-    alloc: Global,
-    log: &[Entry<'_>],
-    before: &[[u8; 509]],
-    event: &Event,
-) -> Result<Option<[u8; 509]>, AllocError>
-    ensures { IfOk result (λ more. pushed before.now more ≡ recognised_with (log_of log.now) before.now (event_of event.now)) }
-{
-    let Event::Forward(_, body) = event else {
-        return Ok(None);
-    };
-    let plain = plain_body(log, body);
-    let digest = digest_with(alloc, &born_keys(log).df, before, &plain)?;
-    if is_recognised_by(&plain, &digest) {
-        Ok(Some(plain))
-    } else {
-        Ok(None)
+/// The cipher and the running digest that are due to the next forward body of a log.
+#[derive(Drop)]
+struct Reader {
+    stream: Stream,
+    running: Running,
+}
+
+impl Reader {
+    /// Behind `count` forward bodies, these of them recognised.
+    fn of(keys: &LayerKeys, count: usize, recognised: &[[u8; 509]]) -> Reader
+        ensures key { result.stream.key ≡ keys.now.kf }
+        ensures position { result.stream.position ≡ 509 * count }
+        ensures digest { StandsFor result.running keys.now.df recognised.now }
+    {
+        Reader {
+            stream: keystream_behind(&keys.kf, count),
+            running: running_of(&keys.df, recognised),
+        }
+    }
+
+    /// The next forward body, plain, if it is recognised.
+    #[tactic(auto, unfolding(crypto_spec::specs::HopLayer::layered, crypto_spec::specs::HopLayer::is_recognised))]
+    fn open(&mut self, body: &[u8; 509]) -> Option<[u8; 509]>
+        requires { self.old.stream.position < 2 ^ 100 }
+        ensures more { (seed : List ℕ) (before : List (List ℕ)) → StandsFor self.old.running seed before → pushed before result ≡ with_recognised seed before (layered self.old.stream.key self.old.stream.position body.now) }
+        ensures digest { (seed : List ℕ) (before : List (List ℕ)) → StandsFor self.old.running seed before → StandsFor self.new.running seed (pushed before result) }
+        ensures key { self.new.stream.key ≡ self.old.stream.key }
+        ensures position { self.new.stream.position ≡ self.old.stream.position + 509 }
+    {
+        let mut plain = *body;
+        self.stream.apply(&mut plain);
+        if is_recognised_by(&plain, &self.running.look_with(&plain)) {
+            self.running.absorb(&plain);
+            Some(plain)
+        } else {
+            None
+        }
+    }
+
+    /// The plain body that an event behind a log adds to the recognised ones.
+    fn read(
+        &mut self,
+        log: &[Entry<'_>],
+        recognised: &[[u8; 509]],
+        event: &Event,
+    ) -> Option<[u8; 509]>
+        requires short { length log.now < 2 ^ 64 }
+        requires reader { IsReader self.old.stream self.old.running (log_of log.now) }
+        requires recognised { recognised.now ≡ recognised_bodies (log_of log.now) }
+        ensures more { pushed recognised.now result ≡ recognised_with (log_of log.now) recognised.now (event_of event.now) }
+        ensures next { (entry : ModelEntry) → entry.event ≡ event_of event.now → IsReader self.new.stream self.new.running (entry ∷ log_of log.now) }
+    {
+        match event {
+            Event::Born(_, keys, _) => {
+                *self = Reader::of(keys, forward_count(log), recognised);
+                None
+            }
+            Event::Forward(_, body) => self.open(body),
+            _ => None,
+        }
     }
 }
 
@@ -144,8 +239,9 @@ pub fn recognised_bodies(alloc: Global, log: &[Entry<'_>]) -> Result<Vec<[u8; 50
     ensures { IfOk result (λ bodies. bodies.items ≡ recognised_bodies (log_of log.now)) }
 {
     let mut bodies = Vec::new(alloc);
+    let mut reader = Reader::of(&no_keys(), 0, &[]);
     for (i, entry) in log.iter().enumerate() {
-        if let Some(body) = recognised_in(alloc, &log[..i], &bodies, entry.event)? {
+        if let Some(body) = reader.read(&log[..i], &bodies, entry.event) {
             bodies.push(body)?;
         }
     }

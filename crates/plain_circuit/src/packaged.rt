@@ -1,15 +1,16 @@
 //! Relay bodies that this relay packages towards the client.
 
-ghost use Rattle.std.specs.Prelude.{◌≡◌, IfOk, Some};
+ghost use Rattle.std.specs.Prelude.{◌≡◌, IfOk, IsTrue, Some};
+ghost use Rattle.tor_spec.specs.RelayCell.{fits_length};
 ghost use Rattle.circuit_model.specs.Log.{no_effects};
-ghost use Rattle.circuit_model.specs.Packaged.{packaged_by, own, digested};
+ghost use Rattle.circuit_model.specs.Packaged.{packaged_by, own, digested, padded_by, finished};
 ghost use Rattle.plain_circuit.specs.Values.{log_of, event_of, effects_of};
 
 use crate::effects::Effects;
 use crate::event::Event;
 use crate::log::Entry;
-use crate::opened::{born_keys, digest_of};
-use relay_cell::put_digest;
+use crate::opened::{born_keys, born_pad, digest_of, keystream_for};
+use relay_cell::{put_digest, put_padding};
 use std::alloc::{AllocError, Global};
 
 /// The body that an event has packaged: what goes back, unless it is the next hop's.
@@ -38,7 +39,7 @@ pub fn own(alloc: Global, log: &[Entry<'_>]) -> Result<Vec<[u8; 509]>, AllocErro
 /// The body with its Digest: the first four bytes of the running digest of all packaged bodies and
 /// this one.
 #[tactic(auto, unfolding(circuit_model::specs::Packaged::digested))]
-pub fn digested(alloc: Global, log: &[Entry<'_>], body: &[u8; 509]) -> Result<[u8; 509], AllocError>
+fn digested(alloc: Global, log: &[Entry<'_>], body: &[u8; 509]) -> Result<[u8; 509], AllocError>
     ensures { IfOk result (λ digested_body. digested_body ≡ digested (log_of log.now) body.now) }
 {
     let mut bodies = own(alloc, log)?;
@@ -49,11 +50,33 @@ pub fn digested(alloc: Global, log: &[Entry<'_>], body: &[u8; 509]) -> Result<[u
     Ok(digested)
 }
 
+/// Body number `n` with its padding: by a key its keystream, else zero.
+fn padded_by(pad: &Option<[u8; 16]>, n: usize, body: &[u8; 509]) -> [u8; 509]
+    requires { IsTrue (fits_length body.now) }
+    ensures { result ≡ padded_by pad.now n body.now }
+{
+    let mut padded = *body;
+    if let Some(key) = pad {
+        put_padding(&mut padded, &keystream_for(key, n));
+    }
+    padded
+}
+
+/// The next body that this relay packages, with its padding and its Digest.
+fn finished(alloc: Global, log: &[Entry<'_>], body: &[u8; 509]) -> Result<[u8; 509], AllocError>
+    requires { IsTrue (fits_length body.now) }
+    ensures { IfOk result (λ sent. sent ≡ finished (log_of log.now) body.now) }
+{
+    let number = own(alloc, log)?.len();
+    digested(alloc, log, &padded_by(&born_pad(log), number, body))
+}
+
 /// Packages this body.
 pub fn packaging(alloc: Global, log: &[Entry<'_>], body: &[u8; 509]) -> Result<Effects, AllocError>
-    ensures { IfOk result (λ effects. effects_of effects ≡ record no_effects { back = Some (digested (log_of log.now) body.now) }) }
+    requires { IsTrue (fits_length body.now) }
+    ensures { IfOk result (λ effects. effects_of effects ≡ record no_effects { back = Some (finished (log_of log.now) body.now) }) }
 {
-    let body = digested(alloc, log, body)?;
+    let body = finished(alloc, log, body)?;
     Ok(Effects {
         back: Some(body),
         ..Effects::none()

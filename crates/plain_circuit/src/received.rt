@@ -13,11 +13,12 @@ use crate::event::Event;
 use crate::log::{Entry, Message};
 use crate::opened::{born_keys, digest_with, is_recognised_by, plain_body, recognised_bodies};
 use crate::places::live_place;
+use cell_codec::command;
 use relay_cell::{RelayHead, payload_of, read_head};
 use std::alloc::{AllocError, Global};
 
-/// The command of RELAY_EARLY cells.
-const RELAY_EARLY: u8 = 9;
+/// How many RELAY_EARLY cells a circuit takes.
+const MOST_EARLY: usize = 8;
 
 #[derive(Drop)]
 pub enum Received {
@@ -33,7 +34,7 @@ pub enum Received {
 fn is_early(event: &Event) -> bool
     ensures { result ≡ is_early (event_of event.now) }
 {
-    matches!(event, Event::Forward(command, _) if *command == RELAY_EARLY)
+    matches!(event, Event::Forward(number, _) if *number == command::RELAY_EARLY)
 }
 
 /// How many RELAY_EARLY cells came.
@@ -84,7 +85,7 @@ fn message_in_body(
         stream: head.stream,
         payload,
         digest,
-        early: command == RELAY_EARLY,
+        early: command == command::RELAY_EARLY,
         place,
     })
 }
@@ -100,7 +101,7 @@ pub fn read_cell(
     ensures { IfOk result (λ cell. received_of cell ≡ received (log_of log.now) command body.now) }
 {
     let plain = plain_body(log, body);
-    if command == RELAY_EARLY && early_count(log) >= 8 {
+    if command == command::RELAY_EARLY && early_count(log) >= MOST_EARLY {
         return Ok(Received::TooManyEarly);
     }
     let before = recognised_bodies(alloc, log)?;

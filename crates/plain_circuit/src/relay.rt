@@ -18,7 +18,8 @@ use crate::streams::{
     begin_effects, connected_effects, data_effects, drained_effects, edge_data_effects,
     end_effects, ended_effects, ending, resolve_effects, sendme_effects,
 };
-use relay_cell::command;
+use cell_codec::destroy_reason;
+use relay_cell::{command, stream_end};
 use std::alloc::{AllocError, Global};
 
 /// A relay message for this relay, by its relay command.
@@ -35,10 +36,10 @@ fn message_effects(
         command::BEGIN => begin_effects(alloc, rules, log, message),
         command::DATA => data_effects(alloc, log, message),
         command::END => Ok(end_effects(message)),
-        command::SENDME => sendme_effects(alloc, log, message),
+        command::SENDME => sendme_effects(alloc, rules, log, message),
         command::TRUNCATE => truncate_effects(alloc, log),
         command::RESOLVE => resolve_effects(alloc, rules, log, message),
-        command::BEGIN_DIR => ending(alloc, log, message.stream, 14),
+        command::BEGIN_DIR => ending(alloc, log, message.stream, stream_end::NOT_DIRECTORY),
         command::EXTEND2 => Ok(extend_effects(log, message)),
         _ => Ok(Effects::none()),
     }
@@ -53,7 +54,7 @@ fn passed_on(hop: NextHop, cell: CircuitCell) -> Effects
             forth: Some(cell),
             ..Effects::none()
         },
-        _ => Effects::closing(1),
+        _ => Effects::closing(destroy_reason::PROTOCOL),
     }
 }
 
@@ -68,7 +69,7 @@ fn forward_effects(
     ensures { IfOk result (λ effects. effects_of effects ≡ forward_effects (rules_of rules.now) (log_of log.now) command (received_of cell.now)) }
 {
     match cell {
-        Received::TooManyEarly => Ok(Effects::closing(1)),
+        Received::TooManyEarly => Ok(Effects::closing(destroy_reason::PROTOCOL)),
         Received::Unrecognised(plain) => Ok(passed_on(
             next_hop(log),
             CircuitCell {
@@ -76,7 +77,7 @@ fn forward_effects(
                 body: *plain,
             },
         )),
-        Received::TooLong => Ok(Effects::closing(1)),
+        Received::TooLong => Ok(Effects::closing(destroy_reason::PROTOCOL)),
         Received::ForUs(message) => message_effects(alloc, rules, log, message),
     }
 }
@@ -92,7 +93,7 @@ fn open_effects(
     ensures { IfOk result (λ effects. effects_of effects ≡ open_effects (rules_of rules.now) (log_of log.now) (event_of event.now)) }
 {
     match event {
-        Event::Born(_, _) => Ok(Effects::none()),
+        Event::Born(_, _, _) => Ok(Effects::none()),
         Event::Forward(command, body) => {
             let cell = read_cell(alloc, log, *command, body)?;
             forward_effects(alloc, rules, log, *command, &cell)
@@ -120,7 +121,7 @@ fn open_effects(
         Event::Freed(_) => Ok(Effects::none()),
         Event::Linked => Ok(linked_effects(log)),
         Event::Answered(payload) => answered_effects(alloc, log, payload),
-        Event::Failed => Ok(Effects::closing(6)),
+        Event::Failed => Ok(Effects::closing(destroy_reason::CONNECT_FAILED)),
     }
 }
 

@@ -1,4 +1,4 @@
-//! Which names a client may be connected to, and where each leads.
+//! What the relay's operator allows: which names a client may be connected to, and where each leads.
 
 ghost use Rattle.std.specs.Prelude.{◌≡◌, find, map, option_map};
 ghost use Rattle.circuit_model.specs.Rules.{allows, has_host, allowed_address, resolved_address};
@@ -17,6 +17,10 @@ pub struct Allow {
 #[derive(Drop)]
 pub struct Rules {
     pub allow: Vec<Allow>,
+    /// How many DATA a circuit may package before its first SENDME.
+    pub window: u32,
+    /// The least version of a circuit's SENDME that is accepted.
+    pub least: u8,
 }
 
 /// Whether a line has this host, ASCII letters compared without case.

@@ -1,16 +1,17 @@
 //! Authenticated SENDMEs (proposal 289).
 
 ghost use Rattle.std.specs.Prelude.{◌≡◌, ◌≤◌, IfOk, length, take};
-ghost use Rattle.tor_spec.specs.Sendme.{sendme_proof};
+ghost use Rattle.tor_spec.specs.Sendme.{needs_no_proof, sendme_proof};
 ghost use Rattle.circuit_model.specs.Packaged.{own, back_digest};
 ghost use Rattle.circuit_model.specs.SendmeProof.{up_to_data, proves, is_right_sendme};
-ghost use Rattle.plain_circuit.specs.Values.{log_of};
+ghost use Rattle.plain_circuit.specs.Values.{log_of, rules_of};
 
 use crate::log::Entry;
 use crate::opened::{born_keys, digest_of};
 use crate::packaged::own;
-use crate::windows::{good_sendmes, packed};
-use relay_cell::{command, read_proof};
+use crate::rules::Rules;
+use crate::windows::{CIRCUIT_STEP, good_sendmes, packed};
+use relay_cell::{command, is_version_0, read_proof};
 use std::alloc::{AllocError, Global};
 
 /// How many of these bodies stand up to and with the DATA with this number, counted from 1.
@@ -51,15 +52,27 @@ fn proves(owed: &[u8; 20], payload: &[u8]) -> bool
     }
 }
 
-/// Whether a circuit SENDME is right: the DATA that it would acknowledge was packaged, and it
-/// carries the proof of it.
+/// Whether a circuit SENDME is right: the DATA that it would acknowledge was packaged, and it carries
+/// the proof of it or needs none by the rules.
 #[tactic(auto, unfolding(circuit_model::specs::SendmeProof::is_right_sendme, circuit_model::specs::SendmeProof::proof_owed))]
-pub fn is_right_sendme(alloc: Global, log: &[Entry<'_>], payload: &[u8]) -> Result<bool, AllocError>
-    ensures { IfOk result (λ right. right ≡ is_right_sendme (log_of log.now) payload.now) }
+pub fn is_right_sendme(
+    alloc: Global,
+    rules: &Rules,
+    log: &[Entry<'_>],
+    payload: &[u8],
+) -> Result<bool, AllocError>
+    ensures { IfOk result (λ right. right ≡ is_right_sendme (rules_of rules.now) (log_of log.now) payload.now) }
 {
-    let next = 100 * (good_sendmes(log) as u128 + 1);
+    let next = CIRCUIT_STEP * (good_sendmes(log) as u128 + 1);
     let owed = digest_up_to(alloc, log, next)?;
     let is_packaged = next <= packed(log) as u128;
-    let is_proved = proves(&owed, payload);
+    let is_proved = needs_no_proof(rules, payload) || proves(&owed, payload);
     Ok(is_packaged && is_proved)
+}
+
+/// Whether a payload needs no proof by the rules.
+fn needs_no_proof(rules: &Rules, payload: &[u8]) -> bool
+    ensures { result ≡ needs_no_proof (rules_of rules.now).least payload.now }
+{
+    rules.least == 0 && is_version_0(payload)
 }

@@ -1,7 +1,7 @@
 //! Messages that concern streams, and what the edge reports of a place.
 
-ghost use Rattle.std.specs.Prelude.{◌≡◌, IfOk, option_map, option_and_then};
-ghost use Rattle.tor_spec.specs.RelayCell.{relay_body, resolved_command};
+ghost use Rattle.std.specs.Prelude.{◌≡◌, IfOk, IsTrue, option_map, option_and_then};
+ghost use Rattle.tor_spec.specs.RelayCell.{fits_length, relay_body, resolved_command};
 ghost use Rattle.tor_spec.specs.Resolve.{resolve_host};
 ghost use Rattle.circuit_model.specs.Rules.{resolved_address};
 ghost use Rattle.circuit_model.specs.Streams.{ending, begin_effects, acknowledging, data_effects, end_effects, stream_sendme_at, sendme_effects, resolved_value, resolve_effects, connected_effects, edge_data_effects, ended_effects, drained_effects};
@@ -14,10 +14,14 @@ use crate::packaged::packaging;
 use crate::places::{Place, place_count, taken_places};
 use crate::rules::{Rules, allowed_address, resolved_address};
 use crate::sendme::is_right_sendme;
-use crate::windows::{accept_grant, accepted_data, carried, drained, grant_for, packed_for};
+use crate::windows::{
+    CIRCUIT_STEP, STREAM_START, STREAM_STEP, accept_grant, accepted_data, carried, drained,
+    grant_for, packed_for,
+};
+use cell_codec::destroy_reason;
 use relay_cell::{
     circuit_sendme_body, connected_body, data_body, end_body, end_reason, read_begin, read_resolve,
-    resolved_body, stream_sendme_body,
+    resolved_body, resolved_type, stream_end, stream_sendme_body,
 };
 use std::alloc::{AllocError, Global};
 
@@ -28,6 +32,7 @@ const PLACE_LIMIT: usize = 32;
 const TIME_TO_LIVE: u32 = 60;
 
 /// An END with this reason.
+#[tactic(auto, using(tor_spec::proofs::Bodies::relay_body_fits))]
 pub fn ending(
     alloc: Global,
     log: &[Entry<'_>],
@@ -49,16 +54,16 @@ pub fn begin_effects(
     ensures { IfOk result (λ effects. effects_of effects ≡ begin_effects (rules_of rules.now) (log_of log.now) (message_of message.now)) }
 {
     if message.stream == 0 || message.place.is_some() {
-        return Ok(Effects::closing(1));
+        return Ok(Effects::closing(destroy_reason::PROTOCOL));
     }
     let Some(target) = read_begin(&message.payload) else {
-        return ending(alloc, log, message.stream, 13);
+        return ending(alloc, log, message.stream, stream_end::TOR_PROTOCOL);
     };
     if taken_places(alloc, log)? >= PLACE_LIMIT {
-        return ending(alloc, log, message.stream, 11);
+        return ending(alloc, log, message.stream, stream_end::RESOURCE_LIMIT);
     }
     let Some(to) = allowed_address(rules, target.host, target.port) else {
-        return ending(alloc, log, message.stream, 4);
+        return ending(alloc, log, message.stream, stream_end::EXIT_POLICY);
     };
     let serial = place_count(alloc, log)?;
     let key = StreamKey {
@@ -69,10 +74,11 @@ pub fn begin_effects(
 }
 
 /// Each 100th DATA that the circuit accepts is acknowledged with the digest of its body.
+#[tactic(auto, using(tor_spec::proofs::Fitting::body_fits, tor_spec::proofs::Fitting::proof_fits))]
 fn acknowledging(alloc: Global, log: &[Entry<'_>], message: &Message) -> Result<Effects, AllocError>
     ensures { IfOk result (λ effects. effects_of effects ≡ acknowledging (log_of log.now) (message_of message.now)) }
 {
-    if (accepted_data(log) as u128 + 1) % 100 == 0 {
+    if (accepted_data(log) as u128 + 1) % CIRCUIT_STEP == 0 {
         packaging(alloc, log, &circuit_sendme_body(&message.digest))
     } else {
         Ok(Effects::none())
@@ -91,7 +97,7 @@ pub fn data_effects(
         return acknowledging(alloc, log, message);
     };
     if accept_grant(log, serial) <= carried(log, serial) as u128 {
-        return Ok(Effects::closing(1));
+        return Ok(Effects::closing(destroy_reason::PROTOCOL));
     }
     let bytes = Vec::from_slice(alloc, &message.payload)?;
     let key = StreamKey {
@@ -126,8 +132,11 @@ fn stream_sendme_effects(log: &[Entry<'_>], place: Option<usize>) -> Effects
     ensures { effects_of result ≡ stream_sendme_at (log_of log.now) place }
 {
     match place {
-        Some(serial) if 500 + (packed_for(log, serial) as u128) < grant_for(log, serial) + 50 =>
-            Effects::closing(1),
+        Some(serial)
+            if STREAM_START + (packed_for(log, serial) as u128)
+                < grant_for(log, serial) + STREAM_STEP => Effects::closing(
+            destroy_reason::PROTOCOL,
+        ),
         _ => Effects::none(),
     }
 }
@@ -135,18 +144,19 @@ fn stream_sendme_effects(log: &[Entry<'_>], place: Option<usize>) -> Effects
 /// SENDME.
 pub fn sendme_effects(
     alloc: Global,
+    rules: &Rules,
     log: &[Entry<'_>],
     message: &Message,
 ) -> Result<Effects, AllocError>
-    ensures { IfOk result (λ effects. effects_of effects ≡ sendme_effects (log_of log.now) (message_of message.now)) }
+    ensures { IfOk result (λ effects. effects_of effects ≡ sendme_effects (rules_of rules.now) (log_of log.now) (message_of message.now)) }
 {
     if message.stream != 0 {
         return Ok(stream_sendme_effects(log, message.place));
     }
-    if is_right_sendme(alloc, log, &message.payload)? {
+    if is_right_sendme(alloc, rules, log, &message.payload)? {
         Ok(Effects::none())
     } else {
-        Ok(Effects::closing(1))
+        Ok(Effects::closing(destroy_reason::PROTOCOL))
     }
 }
 
@@ -161,12 +171,14 @@ fn looked_up(rules: &Rules, payload: &[u8]) -> Option<Address>
 }
 
 /// The RESOLVED with this address, or with a lasting error.
+#[tactic(auto, using(tor_spec::proofs::Fitting::body_fits, tor_spec::proofs::Fitting::answer_fits))]
 fn answer_body(stream: u16, to: Option<Address>) -> [u8; 509]
-    ensures { result ≡ relay_body resolved_command stream (resolved_value (option_map address_of to)) }
+    ensures body { result ≡ relay_body resolved_command stream (resolved_value (option_map address_of to)) }
+    ensures fits { IsTrue (fits_length result) }
 {
     match to {
-        Some(to) => resolved_body(stream, 4, &to.ip, TIME_TO_LIVE),
-        None => resolved_body(stream, 241, &[], TIME_TO_LIVE),
+        Some(to) => resolved_body(stream, resolved_type::IPV4, &to.ip, TIME_TO_LIVE),
+        None => resolved_body(stream, resolved_type::LASTING_ERROR, &[], TIME_TO_LIVE),
     }
 }
 
@@ -184,6 +196,7 @@ pub fn resolve_effects(
 }
 
 /// The place's connection is made.
+#[tactic(auto, using(tor_spec::proofs::Fitting::body_fits, tor_spec::proofs::Fitting::address_fits))]
 pub fn connected_effects(
     alloc: Global,
     log: &[Entry<'_>],
@@ -202,6 +215,7 @@ pub fn connected_effects(
 }
 
 /// The place's connection gave bytes.
+#[tactic(auto, using(tor_spec::proofs::Bodies::relay_body_fits))]
 pub fn edge_data_effects(
     alloc: Global,
     log: &[Entry<'_>],
@@ -236,6 +250,7 @@ pub fn ended_effects(
 }
 
 /// The place's connection has taken one more DATA.
+#[tactic(auto, using(tor_spec::proofs::Bodies::relay_body_fits))]
 pub fn drained_effects(
     alloc: Global,
     log: &[Entry<'_>],
@@ -246,7 +261,7 @@ pub fn drained_effects(
     let Some(place) = place else {
         return Ok(Effects::none());
     };
-    if (drained(log, place.key.serial) as u128 + 1) % 50 == 0 {
+    if (drained(log, place.key.serial) as u128 + 1) % STREAM_STEP == 0 {
         packaging(alloc, log, &stream_sendme_body(place.key.stream))
     } else {
         Ok(Effects::none())

@@ -2,12 +2,21 @@
 
 ghost use Rattle.std.specs.Prelude.{◌≡◌, ◌<◌, ◌^◌, nat_le, option_map};
 ghost use Rattle.circuit_model.specs.Windows.{has_command, has_stream, has_place, is_accepted, packs_data, is_data_of, carries, drains, circuit_packaged, good_sendmes, circuit_grant, stream_packaged, stream_sendmes, stream_grant, accepted_data, carried, drained, accept_grant};
-ghost use Rattle.plain_circuit.specs.Values.{log_of, entry_of, event_of, message_of, order_of};
+ghost use Rattle.plain_circuit.specs.Values.{rules_of, log_of, entry_of, event_of, message_of, order_of};
 
 use crate::effects::Order;
 use crate::event::Event;
 use crate::log::{Entry, Message};
+use crate::rules::Rules;
 use relay_cell::command;
+
+/// The DATA by which a SENDME raises a circuit's window, and a stream's.
+pub const CIRCUIT_STEP: u128 = 100;
+
+pub const STREAM_STEP: u128 = 50;
+
+/// The DATA that a stream's window begins with.
+pub const STREAM_START: u128 = 500;
 
 fn has_command(command: u8, message: &Option<Message>) -> bool
     ensures { result ≡ has_command command (option_map message_of message.now) }
@@ -97,18 +106,18 @@ pub fn good_sendmes(log: &[Entry<'_>]) -> usize
 }
 
 /// How many DATA the circuit may package.
-pub fn circuit_grant(log: &[Entry<'_>]) -> u128
-    ensures grant { result ≡ circuit_grant (log_of log.now) }
+pub fn circuit_grant(rules: &Rules, log: &[Entry<'_>]) -> u128
+    ensures grant { result ≡ circuit_grant (rules_of rules.now) (log_of log.now) }
     ensures bound { result < 2 ^ 100 }
 {
-    1000 + 100 * good_sendmes(log) as u128
+    u128::from(rules.window) + CIRCUIT_STEP * good_sendmes(log) as u128
 }
 
 /// Whether the circuit's window is used up, so that none of its streams may package DATA.
-pub fn is_circuit_shut(log: &[Entry<'_>]) -> bool
-    ensures { result ≡ nat_le (circuit_grant (log_of log.now)) (circuit_packaged (log_of log.now)) }
+pub fn is_circuit_shut(rules: &Rules, log: &[Entry<'_>]) -> bool
+    ensures { result ≡ nat_le (circuit_grant (rules_of rules.now) (log_of log.now)) (circuit_packaged (log_of log.now)) }
 {
-    circuit_grant(log) <= packed(log) as u128
+    circuit_grant(rules, log) <= packed(log) as u128
 }
 
 /// How many DATA a place packaged.
@@ -142,7 +151,7 @@ pub fn grant_for(log: &[Entry<'_>], serial: usize) -> u128
     ensures grant { result ≡ stream_grant (log_of log.now) serial }
     ensures bound { result < 2 ^ 100 }
 {
-    500 + 50 * stream_sendmes(log, serial) as u128
+    STREAM_START + STREAM_STEP * stream_sendmes(log, serial) as u128
 }
 
 /// Whether a place's window is used up.
@@ -195,5 +204,5 @@ pub fn drained(log: &[Entry<'_>], serial: usize) -> usize
 pub fn accept_grant(log: &[Entry<'_>], serial: usize) -> u128
     ensures { result ≡ accept_grant (log_of log.now) serial }
 {
-    500 + 50 * (drained(log, serial) / 50) as u128
+    STREAM_START + STREAM_STEP * (drained(log, serial) as u128 / STREAM_STEP)
 }

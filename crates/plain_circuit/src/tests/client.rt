@@ -40,6 +40,7 @@ impl Client {
                 body: [0; 509],
             },
             keys(),
+            None,
         ))?;
         Ok(Client {
             running: Running::seeded(&keys().df),
@@ -124,7 +125,11 @@ pub fn echo_rules(alloc: Global) -> Result<Rules, AllocError> {
         port: 7,
     };
     allow.push(Allow { host, port: 7, to })?;
-    Ok(Rules { allow })
+    Ok(Rules {
+        allow,
+        window: 1000,
+        least: 1,
+    })
 }
 
 /// The backward running digest of all that went back.

@@ -58,7 +58,7 @@ fn a_stream_is_shut_at_500_until_its_sendme(rt: HostRuntime) -> Result<(), Fail>
     assert!(rt; !is_stream_shut(&log, 0));
     let _sendme = log.pop().ok_or("no entry")?;
     assert_eq!(rt; (packed_for(&log, 0), grant_for(&log, 0)), (500, 500));
-    assert!(rt; is_stream_shut(&log, 0) && !is_circuit_shut(&log));
+    assert!(rt; is_stream_shut(&log, 0) && !is_circuit_shut(&rules, &log));
     let _500th = log.pop().ok_or("no entry")?;
     assert_eq!(rt; packed_for(&log, 0), 499);
     assert!(rt; !is_stream_shut(&log, 0));
@@ -79,15 +79,15 @@ fn three_streams_are_shut_at_1000_until_a_right_sendme(rt: HostRuntime) -> Resul
             packed_for(&log, 2),
         );
         assert_eq!(rt; streams, (334, 333, 333));
-        assert!(rt; is_circuit_shut(&log) && !is_stream_shut(&log, 0));
+        assert!(rt; is_circuit_shut(&rules, &log) && !is_stream_shut(&log, 0));
         let _1000th = log.pop().ok_or("no entry")?;
-        assert!(rt; !is_circuit_shut(&log));
+        assert!(rt; !is_circuit_shut(&rules, &log));
         log.truncate(1 + 3 + 100);
         back_digest(&log)
     };
     client.send(RELAY, &circuit_sendme_body(&proof))?;
     let log = log_of(rt.alloc(), &rules, &client.history)?;
-    assert_eq!(rt; (packed(&log), circuit_grant(&log)), (1000, 1100));
-    assert!(rt; !is_circuit_shut(&log));
+    assert_eq!(rt; (packed(&log), circuit_grant(&rules, &log)), (1000, 1100));
+    assert!(rt; !is_circuit_shut(&rules, &log));
     Ok(())
 }
