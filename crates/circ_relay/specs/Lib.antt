@@ -1,0 +1,11 @@
+pub mod Values
+pub mod PaddingState
+pub mod Packaging
+pub mod WindowOfLog
+pub mod PlacesOfLog
+pub mod CircuitOfLog
+pub mod EdgeEvents
+pub mod ShutWindows
+pub mod OpenedBodies
+pub mod BroughtMessages
+pub mod Created

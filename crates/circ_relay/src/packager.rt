@@ -1,0 +1,71 @@
+// Relay bodies that the relay packages towards the client.
+
+ghost use Rattle.std.specs.Prelude.{◌≡◌, ◌+◌, ◌^◌, ◌<◌, ◌++◌, [], ◌∷◌, Some, IsTrue};
+ghost use Rattle.tor_spec.specs.RelayCell.{fits_length};
+ghost use Rattle.circuit_model.specs.Log.{Log};
+ghost use Rattle.circuit_model.specs.Opened.{born_keys, born_pad};
+ghost use Rattle.circuit_model.specs.Packaged.{back_digest, finished, own};
+ghost use Rattle.circ_relay.specs.Packaging.{IsPackager, IsPackagedNext};
+
+use crate::padding::Padding;
+use relay_cell::put_digest;
+use run_digest::Running;
+use std::marker::Model;
+
+/// Gives the relay bodies that a relay packages their padding and their Digests (tor-spec, "Relay
+/// cells"): it keeps the backward running digest.
+///
+/// Contracts see the state of that digest, and of the padding. `IsPackager` ties them to a circuit's
+/// log.
+#[derive(Drop)]
+pub struct Packager {
+    digest: Running,
+    padding: Padding,
+}
+
+impl Model for Packager {
+    ghost use Rattle.circ_relay.specs.Packaging.{PackagerState};
+
+    ghost Value = { PackagerState };
+
+    ghost view = { λ p. record { digest = p.digest; padding = p.padding } };
+}
+
+/// A packaged body, and the 20 bytes of the running digest after it.
+#[derive(Clone, Copy)]
+pub struct Packaged {
+    pub body: [u8; 509],
+    pub digest: [u8; 20],
+}
+
+impl Packager {
+    /// Before the first body, by the seed of the backward digest and the key of the padding.
+    pub fn of(seed: &[u8; 20], pad: Option<[u8; 16]>) -> Packager
+        ensures packager { (log : Log) → own log ≡ [] → (born_keys log).db ≡ seed.now → born_pad log ≡ pad → IsPackager result log }
+        ensures count { result.padding.count ≡ 0 }
+    {
+        Packager {
+            digest: Running::seeded(seed),
+            padding: Padding::of(pad),
+        }
+    }
+
+    /// The next body, with its padding and its Digest.
+    #[tactic(auto, unfolding(circuit_model::specs::Packaged::digested))]
+    pub fn package(&mut self, body: &[u8; 509]) -> Packaged
+        requires count { self.old.padding.count < 2 ^ 63 }
+        requires fits { IsTrue (fits_length body.now) }
+        ensures body { (log : Log) → IsPackager self.old log → result.body ≡ finished log body.now }
+        ensures digest { (log : Log) → IsPackager self.old log → result.digest ≡ back_digest log (own log ++ result.body ∷ []) }
+        ensures next { (log : Log) → IsPackager self.old log → IsPackagedNext self.new log (Some result.body) }
+        ensures count { self.new.padding.count ≡ self.old.padding.count + 1 }
+    {
+        let mut body = *body;
+        self.padding.put(&mut body);
+        self.digest.absorb(&body);
+        let digest = self.digest.digest();
+        let [a, b, c, d, ..] = digest;
+        put_digest(&mut body, [a, b, c, d]);
+        Packaged { body, digest }
+    }
+}
