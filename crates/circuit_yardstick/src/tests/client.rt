@@ -1,0 +1,80 @@
+//! The client's end of a circuit.
+
+use crate::tests::cells::first_four;
+use aes_ctr::Stream;
+use kdf_tor::LayerKeys;
+use relay_cell::{command, put_digest};
+use run_digest::Running;
+use std::alloc::{AllocError, Global};
+use std::collections::VecDeque;
+use std::process::Abort;
+
+/// A client with cipher and running digests of its own.
+#[derive(Drop)]
+pub struct Client {
+    cipher: Stream,
+    forth: Running,
+    back: Running,
+    /// The DATA that came back.
+    data: u64,
+    /// The proofs that it owes the relay: the backward running digest after each 100th DATA that isn't
+    /// acknowledged, oldest first.
+    owed: VecDeque<[u8; 20]>,
+}
+
+impl Client {
+    pub fn new(alloc: Global, keys: &LayerKeys) -> Client {
+        Client {
+            cipher: Stream::of(&keys.kf),
+            forth: Running::seeded(&keys.df),
+            back: Running::seeded(&keys.db),
+            data: 0,
+            owed: VecDeque::new(alloc),
+        }
+    }
+
+    /// A body whose plain text at the relay is this one.
+    pub fn encrypted(&mut self, rt: &impl Abort, plain: &[u8; 509]) -> [u8; 509] {
+        let mut body = *plain;
+        assert!(rt; self.cipher.position() < 1 << 90);
+        self.cipher.apply(&mut body);
+        body
+    }
+
+    /// A body that the relay recognises.
+    pub fn sealed(&mut self, rt: &impl Abort, body: &[u8; 509]) -> [u8; 509] {
+        let plain = self.digested(body);
+        self.forth.absorb(&plain);
+        self.encrypted(rt, &plain)
+    }
+
+    /// The body with the Digest that is due to it. The running digest stays.
+    pub fn digested(&self, body: &[u8; 509]) -> [u8; 509] {
+        let mut plain = *body;
+        put_digest(&mut plain, first_four(&self.forth.look_with(body)));
+        plain
+    }
+
+    /// A body that the relay packaged came back.
+    pub fn came(&mut self, body: &[u8; 509]) -> Result<(), AllocError> {
+        self.back.absorb(body);
+        if body[0] != command::DATA {
+            return Ok(());
+        }
+        self.data = self.data.saturating_add(1);
+        if self.data % 100 == 0 {
+            self.owed.push_back(self.back.digest())?;
+        }
+        Ok(())
+    }
+
+    /// The next proof that is owed.
+    pub fn next_proof(&self) -> Option<[u8; 20]> {
+        self.owed.front().copied()
+    }
+
+    /// The next proof was sent.
+    pub fn proof_sent(&mut self) {
+        let _sent = self.owed.pop_front();
+    }
+}

@@ -1,0 +1,15 @@
+//! Histories of one circuit, made of seeds.
+
+mod cells;
+mod client;
+mod comparing;
+mod driver;
+mod faults;
+mod histories;
+mod history;
+mod kinds;
+mod making;
+mod outcomes;
+mod random;
+mod rules;
+mod running;

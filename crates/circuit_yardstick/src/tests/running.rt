@@ -1,0 +1,191 @@
+//! A history is run over both programs.
+
+use crate::tests::cells::RELAY;
+use crate::tests::comparing::are_same;
+use crate::tests::driver::Driver;
+use crate::tests::faults::Fault;
+use crate::tests::history::{Begun, History};
+use crate::tests::outcomes::Seen;
+use crate::tests::rules::{fast_rules, plain_rules};
+use circ_relay::{NextHop, Rules};
+use plain_circuit::event::{Event, Piece};
+use plain_circuit::log::Entry;
+use plain_circuit::next_hop::{NextHop as PlainHop, next_hop};
+use plain_circuit::places::{Phase as PlainPhase, phase_at};
+use plain_circuit::relay::log_of;
+use plain_circuit::rules::Rules as PlainRules;
+use plain_circuit::windows::{is_circuit_shut, is_stream_shut, packed, packed_for};
+use std::alloc::{AllocError, Global};
+use std::process::Abort;
+use stream_edge::Phase;
+use tr_io::answers::ShutWhy;
+
+/// A fault, and from which event on it is tried.
+#[derive(Clone, Copy)]
+pub struct PlannedFault {
+    pub fault: Fault,
+    pub from: usize,
+}
+
+/// Lets events happen until there are so many, with the opening.
+pub fn play(
+    rt: &impl Abort,
+    alloc: Global,
+    history: &mut History,
+    until: usize,
+    planned: Option<PlannedFault>,
+    seen: &mut Seen,
+) -> Result<(), AllocError> {
+    let rules = fast_rules(alloc, history.settings)?;
+    for _try in 0..100_000u32 {
+        if history.events.len() >= until {
+            break;
+        }
+        go_on(rt, alloc, &rules, history, planned, seen)?;
+    }
+    assert_eq!(rt; history.events.len(), until);
+    Ok(())
+}
+
+/// One try of one more event.
+fn go_on(
+    rt: &impl Abort,
+    alloc: Global,
+    rules: &Rules,
+    history: &mut History,
+    planned: Option<PlannedFault>,
+    seen: &mut Seen,
+) -> Result<(), AllocError> {
+    if history.circuit.is_none() {
+        let event = event_of_closed(alloc, history)?;
+        let _happens = history.happens(rt, alloc, rules, event)?;
+        return Ok(());
+    }
+    if let Some(PlannedFault { fault, from }) = planned {
+        if fault_happens(rt, alloc, rules, history, fault, from)? {
+            seen.fault(fault);
+            return Ok(());
+        }
+    }
+    let kinds = history.theme.kinds;
+    assert!(rt; !kinds.is_empty());
+    let kind = history.random.one_of(kinds);
+    if let Some(event) = history.make(rt, alloc, kind)? {
+        if history.happens(rt, alloc, rules, event)? {
+            seen.kind(kind);
+        }
+    }
+    Ok(())
+}
+
+/// Lets the fault happen, if it is time and it can. It closes the circuit.
+fn fault_happens(
+    rt: &impl Abort,
+    alloc: Global,
+    rules: &Rules,
+    history: &mut History,
+    fault: Fault,
+    from: usize,
+) -> Result<bool, AllocError> {
+    if history.events.len() < from {
+        return Ok(false);
+    }
+    let Some(event) = history.make_fault(rt, fault) else {
+        return Ok(false);
+    };
+    let happens = history.happens(rt, alloc, rules, event)?;
+    assert!(rt;
+        happens && history.circuit.is_none(),
+        "{fault:?} doesn't close"
+    );
+    Ok(true)
+}
+
+/// What still comes after a circuit has closed.
+fn event_of_closed(alloc: Global, history: &mut History) -> Result<Event, AllocError> {
+    Ok(match history.random.below(10) {
+        0 => Event::Forward(RELAY, history.random.body()),
+        1 => Event::Backward(history.random.body()),
+        2 => Event::Connected(0),
+        3 => Event::Data(
+            0,
+            Piece {
+                bytes: history.random.bytes(alloc, 498)?,
+            },
+        ),
+        4 => Event::Ended(0, 6),
+        5 => Event::Drained(0),
+        6 => Event::Freed(0),
+        7 => Event::Linked,
+        8 => Event::Answered(history.random.body()),
+        _ => Event::Failed,
+    })
+}
+
+/// The plain program does the same with each event, and ends in the same state.
+pub fn compare(
+    rt: &impl Abort,
+    alloc: Global,
+    history: &History,
+    seen: &mut Seen,
+) -> Result<(), AllocError> {
+    let rules = plain_rules(alloc, history.settings)?;
+    let seed = history.seed;
+    let log = log_of(alloc, &rules, &history.events)?;
+    assert_eq!(rt; log.len(), history.effects.len());
+    for (n, (entry, effects)) in log.iter().zip(history.effects.iter()).enumerate() {
+        assert!(rt; are_same(effects, &entry.effects), "seed {seed}, event {n}");
+        seen.effects(entry.event, effects);
+    }
+    let Some(driver) = &history.circuit else {
+        return Ok(());
+    };
+    assert!(rt;
+        is_same_hop(driver.next_hop(), next_hop(&log)),
+        "seed {seed}"
+    );
+    for stream in history.streams.iter() {
+        let serial = stream.key.serial;
+        assert!(rt;
+            is_same_stream(driver, stream, &rules, &log),
+            "seed {seed}, stream {serial}"
+        );
+    }
+    Ok(())
+}
+
+fn is_same_hop(hop: NextHop, plain: PlainHop) -> bool {
+    matches!(
+        (hop, plain),
+        (NextHop::Absent, PlainHop::Absent)
+            | (NextHop::Dialling, PlainHop::Dialling)
+            | (NextHop::Waiting, PlainHop::Waiting)
+            | (NextHop::There, PlainHop::There)
+    )
+}
+
+/// Both programs have the stream in one phase, and its bytes may be packaged in both or in none.
+fn is_same_stream(driver: &Driver, stream: &Begun, rules: &PlainRules, log: &[Entry<'_>]) -> bool {
+    let serial = stream.key.serial as usize;
+    let is_same_phase = matches!(
+        (driver.phase(stream.key), phase_at(log, serial)),
+        (Some(Phase::Reaching), PlainPhase::Reaching)
+            | (Some(Phase::Joined), PlainPhase::Joined)
+            | (Some(Phase::Ending), PlainPhase::Ending)
+            | (None, PlainPhase::Free)
+    );
+    is_same_phase
+        && (driver.phase(stream.key) != Some(Phase::Joined)
+            || driver.shut(stream.key) == shut_window(rules, log, serial))
+}
+
+/// Which window keeps a stream's bytes from being packaged, and at which count, by the plain program.
+fn shut_window(rules: &PlainRules, log: &[Entry<'_>], serial: usize) -> Option<(ShutWhy, u64)> {
+    if is_stream_shut(log, serial) {
+        Some((ShutWhy::Stream, packed_for(log, serial) as u64))
+    } else if is_circuit_shut(rules, log) {
+        Some((ShutWhy::Circuit, packed(log) as u64))
+    } else {
+        None
+    }
+}
