@@ -1,0 +1,4 @@
+pub mod Lines
+pub mod Waiting
+pub mod Destroys
+pub mod Forms
