@@ -1,5 +1,5 @@
 -- Each call of the machine as a step of the histories that a switch stands for.
-use Rattle.std.proofs.Common.{◌≡◌, ◌≤◌, ◌+◌, ℕ, [], Option, sym, ap, subst, arith}
+use Rattle.std.proofs.Common.{List, ◌≡◌, ◌≤◌, ◌+◌, ℕ, [], Option, sym, ap, subst, arith}
 use Rattle.std.specs.Prelude.{⊤}
 use Rattle.cell_codec.specs.declared.cell.Cell.{Cell}
 use Rattle.kdf_tor.specs.declared.LayerKeys.{LayerKeys}
@@ -25,23 +25,23 @@ up_adds start old new slot side UpAnswer.Memory state answer = state
 up_adds start old new slot side (UpAnswer.Up n) state answer = channel_up_adds start old new slot side (UpAnswer.Up n) state answer
 up_adds start old new slot side (UpAnswer.Full n) state answer = channel_up_adds start old new slot side (UpAnswer.Full n) state answer
 
-pub opening_adds : (start : Start) (old new : State) (chan : ChanNo) (id : ℕ) (reply : Cell) (keys : Option LayerKeys) (a : OpenAnswer) →
-    OpenCase a (new ≡ old) (new ≡ open_state old chan.0 id reply keys) → OpenCase a ⊤ (a ≡ open_result old chan.0 id keys) →
-    OpenCase a (new ≡ old) (Adds start old new (OpenCircuit chan id reply keys a))
-opening_adds start old new chan id reply keys OpenAnswer.Memory state answer = state
-opening_adds start old new chan id reply keys (OpenAnswer.Opened n) state answer = open_adds start old new chan id reply keys (OpenAnswer.Opened n) state answer
-opening_adds start old new chan id reply keys (OpenAnswer.Refused why) state answer = open_adds start old new chan id reply keys (OpenAnswer.Refused why) state answer
+pub opening_adds : (start : Start) (old new : State) (chan : ChanNo) (id : ℕ) (reply : Cell) (keys : Option LayerKeys) (pad : Option (List ℕ)) (a : OpenAnswer) →
+    OpenCase a (new ≡ old) (new ≡ open_state old chan.0 id reply keys pad) → OpenCase a ⊤ (a ≡ open_result old chan.0 id keys) →
+    OpenCase a (new ≡ old) (Adds start old new (OpenCircuit chan id reply keys pad a))
+opening_adds start old new chan id reply keys pad OpenAnswer.Memory state answer = state
+opening_adds start old new chan id reply keys pad (OpenAnswer.Opened n) state answer = open_adds start old new chan id reply keys pad (OpenAnswer.Opened n) state answer
+opening_adds start old new chan id reply keys pad (OpenAnswer.Refused why) state answer = open_adds start old new chan id reply keys pad (OpenAnswer.Refused why) state answer
 
 pub up_stays : (start : Start) (old new : State) (slot : ℕ) (side : Side) (a : UpAnswer) → UpCase a (new ≡ old) (Adds start old new (ChannelUp slot side a)) → StandsForSome start old → StandsForSome start new
 up_stays start old new slot side UpAnswer.Memory is some = subst (StandsForSome start) (sym is) some
 up_stays start old new slot side (UpAnswer.Up n) adds some = stays start old new (ChannelUp slot side (UpAnswer.Up n)) adds some
 up_stays start old new slot side (UpAnswer.Full n) adds some = stays start old new (ChannelUp slot side (UpAnswer.Full n)) adds some
 
-pub opening_stays : (start : Start) (old new : State) (chan : ChanNo) (id : ℕ) (reply : Cell) (keys : Option LayerKeys) (a : OpenAnswer) →
-    OpenCase a (new ≡ old) (Adds start old new (OpenCircuit chan id reply keys a)) → StandsForSome start old → StandsForSome start new
-opening_stays start old new chan id reply keys OpenAnswer.Memory is some = subst (StandsForSome start) (sym is) some
-opening_stays start old new chan id reply keys (OpenAnswer.Opened n) adds some = stays start old new (OpenCircuit chan id reply keys (OpenAnswer.Opened n)) adds some
-opening_stays start old new chan id reply keys (OpenAnswer.Refused why) adds some = stays start old new (OpenCircuit chan id reply keys (OpenAnswer.Refused why)) adds some
+pub opening_stays : (start : Start) (old new : State) (chan : ChanNo) (id : ℕ) (reply : Cell) (keys : Option LayerKeys) (pad : Option (List ℕ)) (a : OpenAnswer) →
+    OpenCase a (new ≡ old) (Adds start old new (OpenCircuit chan id reply keys pad a)) → StandsForSome start old → StandsForSome start new
+opening_stays start old new chan id reply keys pad OpenAnswer.Memory is some = subst (StandsForSome start) (sym is) some
+opening_stays start old new chan id reply keys pad (OpenAnswer.Opened n) adds some = stays start old new (OpenCircuit chan id reply keys pad (OpenAnswer.Opened n)) adds some
+opening_stays start old new chan id reply keys pad (OpenAnswer.Refused why) adds some = stays start old new (OpenCircuit chan id reply keys pad (OpenAnswer.Refused why)) adds some
 
 pub up_steps : (start : Start) (old new : State) (slot : ℕ) (side : Side) (a : UpAnswer) → UpCase a (new ≡ old) (Adds start old new (ChannelUp slot side a)) → new.steps ≤ old.steps + 1
 unfolding Adds
@@ -49,12 +49,12 @@ up_steps start old new slot side UpAnswer.Memory is = let same : new.steps ≡ o
 up_steps start old new slot side (UpAnswer.Up n) adds = omega (arith, adds.steps)
 up_steps start old new slot side (UpAnswer.Full n) adds = omega (arith, adds.steps)
 
-pub opening_steps : (start : Start) (old new : State) (chan : ChanNo) (id : ℕ) (reply : Cell) (keys : Option LayerKeys) (a : OpenAnswer) →
-    OpenCase a (new ≡ old) (Adds start old new (OpenCircuit chan id reply keys a)) → new.steps ≤ old.steps + 1
+pub opening_steps : (start : Start) (old new : State) (chan : ChanNo) (id : ℕ) (reply : Cell) (keys : Option LayerKeys) (pad : Option (List ℕ)) (a : OpenAnswer) →
+    OpenCase a (new ≡ old) (Adds start old new (OpenCircuit chan id reply keys pad a)) → new.steps ≤ old.steps + 1
 unfolding Adds
-opening_steps start old new chan id reply keys OpenAnswer.Memory is = let same : new.steps ≡ old.steps = ap (λ s. s.steps) is in omega (arith, same)
-opening_steps start old new chan id reply keys (OpenAnswer.Opened n) adds = omega (arith, adds.steps)
-opening_steps start old new chan id reply keys (OpenAnswer.Refused why) adds = omega (arith, adds.steps)
+opening_steps start old new chan id reply keys pad OpenAnswer.Memory is = let same : new.steps ≡ old.steps = ap (λ s. s.steps) is in omega (arith, same)
+opening_steps start old new chan id reply keys pad (OpenAnswer.Opened n) adds = omega (arith, adds.steps)
+opening_steps start old new chan id reply keys pad (OpenAnswer.Refused why) adds = omega (arith, adds.steps)
 
 pub next_steps : (start : Start) (old new : State) (chan : ChanNo) (tick : ℕ) (a : Option Cell) → Adds start old new (NextCell chan tick a) → new.steps ≡ old.steps + 1
 unfolding Adds

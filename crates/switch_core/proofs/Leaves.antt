@@ -46,9 +46,9 @@ inside (y ∷ slots) (suc n) x there = let rest : n < length slots = inside slot
 
 -- a leg's first cell
 
-pub first_sent : (keys : LayerKeys) (old new : LegState) (now : ℕ) → Some new ≡ sent_first now old old.queue → FirstSent now (circuit_of keys old) (circuit_of keys new)
+pub first_sent : (keys : LayerKeys) (pad : Option (List ℕ)) (old new : LegState) (now : ℕ) → Some new ≡ sent_first now old old.queue → FirstSent now (circuit_of keys pad old) (circuit_of keys pad new)
 unfolding slot_at with_slot
-first_sent keys old new now e = record { found = old; first = refl; sent = ap (λ o. record (circuit_of keys old) { legs = o ∷ [] }) e }
+first_sent keys pad old new now e = record { found = old; first = refl; sent = ap (λ o. record (circuit_of keys pad old) { legs = o ∷ [] }) e }
 
 pub picked_sent : (s t : State) (now n : ℕ) (picked : Option Leg) (old new : CircuitState) → picked ≡ Some (first_leg_of n) → slot_at s.circuits n ≡ Some old → FirstSent now old new →
     t ≡ record s { circuits = with_slot s.circuits n (Some new) } → t ≡ sent_from s now picked

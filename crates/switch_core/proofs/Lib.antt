@@ -1,4 +1,3 @@
-pub mod Padding
 pub mod FirstOut
 pub mod Plain
 pub mod Picks

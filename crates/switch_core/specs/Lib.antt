@@ -1,4 +1,3 @@
-pub mod Opening
 pub mod Meaning
 pub mod Picking
 pub mod Started

@@ -1,12 +1,11 @@
 -- What the switch's plain lists mean as the state of the machine.
-use Rattle.std.specs.Prelude.{ℕ, ◌≡◌, ◌==◌, ◌||◌, [], ◌∷◌, List, map, Bool, Option, Some, None}
+use Rattle.std.specs.Prelude.{ℕ, ◌≡◌, [], ◌∷◌, List, Option, Some, None}
 use Rattle.cell_codec.specs.declared.cell.Cell.{Cell}
 use Rattle.kdf_tor.specs.declared.LayerKeys.{LayerKeys}
 use Rattle.tr_io.specs.declared.names.Side.{Side}
-use Rattle.circuit_model.specs.Rules.{Allow, Rules}
 use Rattle.circuit_model.specs.Sent.{destroy}
 use Rattle.switch_model.specs.SendAnswers.{cell_at}
-use Rattle.switch_model.specs.Names.{circuit_keys, address_of}
+use Rattle.switch_model.specs.Names.{circuit_keys}
 use Rattle.switch_model.specs.Lanes.{Destroy}
 use Rattle.switch_model.specs.Start.{Start}
 use Rattle.switch_model.specs.State.{ChannelState, LegState, CircuitState, State, with_slot}
@@ -14,16 +13,8 @@ use Rattle.switch_model.specs.Machine.{new_state}
 use Rattle.switch_model.specs.OpenCircuitCall.{no_bodies, refusing}
 use Rattle.tr_io.specs.declared.answers.OpenRefusal.{OpenRefusal}
 use Rattle.switch_model.proofs.PlainLists.{all_there}
-use Rattle.switch_core.specs.declared.rules.Allow.{Allow as AllowLine}
-use Rattle.switch_core.specs.declared.rules.Rules.{Rules as RuleList}
-
--- The operator's rules.
-
-abbrev pub allow_of : AllowLine → Allow
-allow_of line = record { host = line.host.items; port = line.port; to = address_of line.to }
-
-abbrev pub rules_of : RuleList → Rules
-rules_of rules = record { allow = map allow_of rules.allow.items }
+use Rattle.circ_relay.specs.declared.rules.Rules.{Rules as RuleList}
+use Rattle.circ_relay.specs.Values.{rules_of}
 
 -- What a switch was made with.
 abbrev pub start_of : ℕ → RuleList → Start
@@ -35,19 +26,15 @@ abbrev pub channel_of : Side → List Destroy → ChannelState
 channel_of side lane = record { side = side; to = None; given = 0; lane = lane }
 
 -- A circuit with its first leg alone.
-abbrev pub circuit_of : LayerKeys → LegState → CircuitState
-circuit_of keys leg = record {
-  relay = circuit_keys keys;
+abbrev pub circuit_of : LayerKeys → Option (List ℕ) → LegState → CircuitState
+circuit_of keys pad leg = record {
+  relay = record { keys = circuit_keys keys; pad = pad };
   legs = Some leg ∷ [];
   forth = no_bodies;
   back = no_bodies;
   orders = [];
   dial = None;
 }
-
--- CREATED_FAST and CREATED2.
-abbrev pub is_reply : ℕ → Bool
-is_reply command = (command == 6) || (command == 11)
 
 abbrev pub state_of : ℕ → ℕ → List ChannelState → List CircuitState → State
 state_of steps tick channels circuits = record new_state {

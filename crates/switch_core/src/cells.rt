@@ -4,7 +4,7 @@ ghost use Rattle.cell_codec.specs.Cells.{IsWellFormed};
 ghost use Rattle.circuit_model.specs.Sent.{destroy};
 ghost use Rattle.switch_model.specs.SendAnswers.{cell_at};
 
-use cell_codec::{Body, Cell};
+use cell_codec::{Body, Cell, command};
 
 /// These bytes, then zeros up to the 509 bytes of a fixed payload.
 pub fn padded(fields: &[u8]) -> [u8; 509]
@@ -23,7 +23,7 @@ pub fn destroy_cell(id: u32, reason: u8) -> Cell
 {
     Cell {
         circ: id,
-        command: 4,
+        command: command::DESTROY,
         body: Body::Fixed(padded(&[reason])),
     }
 }

@@ -8,7 +8,7 @@ ghost use Rattle.switch_model.specs.Lanes.{refusal_reason, with_refusal};
 ghost use Rattle.switch_core.specs.Meaning.{channel_of, FirstLeaves};
 
 use crate::cells::destroy_cell;
-use cell_codec::Cell;
+use cell_codec::{Cell, destroy_reason};
 use std::alloc::{AllocError, Global};
 use std::marker::Model;
 use tr_io::answers::OpenRefusal;
@@ -16,11 +16,6 @@ use tr_io::names::Side;
 
 /// How many refusals of openings may wait on a channel.
 const MOST_REFUSALS: usize = 512;
-
-/// DESTROY reasons (tor-spec, "Tearing down circuits").
-const PROTOCOL: u8 = 1;
-
-const RESOURCELIMIT: u8 = 5;
 
 /// The highest bit of a CircID, which the side that opened the connection sets.
 const HIGHEST_BIT: u32 = 0x8000_0000;
@@ -116,8 +111,8 @@ impl Channel {
     {
         match why {
             OpenRefusal::BadId if self.is_ours() || id == 0 => None,
-            OpenRefusal::BadId | OpenRefusal::BadHandshake => Some(PROTOCOL),
-            OpenRefusal::Full(_) => Some(RESOURCELIMIT),
+            OpenRefusal::BadId | OpenRefusal::BadHandshake => Some(destroy_reason::PROTOCOL),
+            OpenRefusal::Full(_) => Some(destroy_reason::RESOURCE_LIMIT),
             OpenRefusal::NoChannel | OpenRefusal::InUse => None,
         }
     }

@@ -1,4 +1,4 @@
-//! One circuit: its keys, and its leg towards the previous hop.
+//! One circuit: what it was opened with, and its leg towards the previous hop.
 ghost use Rattle.std.specs.Prelude.{◌≡◌, IfSome, Some, length};
 ghost use Rattle.cell_codec.specs.Cells.{IsWellFormed};
 ghost use Rattle.switch_model.specs.Machine.{leg_at};
@@ -19,6 +19,8 @@ use tr_io::names::ChanNo;
 pub struct Circuit {
     /// The circuit's keys.
     pub keys: LayerKeys,
+    /// The key of the padding of what it packages, if there is one.
+    pub pad: Option<[u8; 16]>,
     /// The leg towards the previous hop.
     pub leg: Leg,
 }
@@ -29,7 +31,7 @@ impl Model for Circuit {
 
     ghost Value = { CircuitState };
 
-    ghost view = { λ c. circuit_of c.keys c.leg };
+    ghost view = { λ c. circuit_of c.keys c.pad c.leg };
 }
 
 #[tactic(auto, using(crate::proofs::Plain::or_false), unfolding(switch_model::specs::State::slot_at))]

@@ -1,12 +1,12 @@
 //! The leg of a circuit towards the previous hop: its CircID on a channel, the reply that waits on
 //! it, and its decaying count of cells.
-ghost use Rattle.std.specs.Prelude.{◌≡◌, IfSome, Some, true, false};
+ghost use Rattle.std.specs.Prelude.{◌≡◌, IfSome, Some, IsTrue, false};
 ghost use Rattle.cell_codec.specs.Cells.{is_var, IsWellFormed};
 ghost use Rattle.switch_model.specs.Machine.{has_port};
 ghost use Rattle.switch_model.specs.NextCellCall.{waits_on, count_of, first_cell, sent_first};
 ghost use Rattle.switch_model.specs.OpenCircuitCall.{first_leg};
 ghost use Rattle.switch_model.specs.Counts.{halved};
-ghost use Rattle.switch_core.specs.Meaning.{is_reply};
+ghost use Rattle.tor_spec.specs.CellCommands.{opens_circuit};
 
 use cell_codec::{Body, Cell};
 use std::marker::Model;
@@ -23,15 +23,15 @@ struct Reply {
 }
 
 impl Model for Reply {
-    ghost use Rattle.std.specs.Prelude.{◌≡◌, true};
+    ghost use Rattle.std.specs.Prelude.{IsTrue};
     ghost use Rattle.circuit_model.specs.Events.{CircuitCell};
-    ghost use Rattle.switch_core.specs.Meaning.{is_reply};
+    ghost use Rattle.tor_spec.specs.CellCommands.{opens_circuit};
 
     ghost Value = { CircuitCell };
 
     ghost view = { λ r. record { command = r.command; body = r.payload } };
 
-    ghost invariant = { λ r. is_reply r.command ≡ true };
+    ghost invariant = { λ r. IsTrue (opens_circuit r.command) };
 }
 
 /// The first leg of a circuit.
@@ -60,7 +60,7 @@ impl Leg {
     /// A leg on which the reply to an opening waits.
     pub fn new(chan: ChanNo, id: u32, reply: &Cell) -> Leg
         requires fixed { is_var reply.now.body ≡ false }
-        requires command { is_reply reply.now.command ≡ true }
+        requires command { IsTrue (opens_circuit reply.now.command) }
         ensures { result ≡ first_leg chan.0 id reply.now }
     {
         let Body::Fixed(payload) = &reply.body else {

@@ -8,10 +8,8 @@ mod cells;
 mod channel;
 mod circuit;
 mod leg;
-pub mod opening;
 mod parts;
 mod pick;
-pub mod rules;
 mod switch;
 #[cfg(test)]
 mod tests;

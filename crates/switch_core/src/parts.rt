@@ -1,22 +1,23 @@
 //! The switch over plain lists: each call is the machine's.
-ghost use Rattle.std.specs.Prelude.{◌≡◌, ◌<◌, ◌^◌, ⊤, [], IfOk, OnOk, OnErr, IfSome, IfNone, MatchOption, Some, None, false, true, length, max};
+ghost use Rattle.std.specs.Prelude.{◌≡◌, ◌<◌, ◌^◌, ⊤, [], IfOk, OnOk, OnErr, IfSome, IfNone, IsTrue, MatchOption, Some, None, false, length, max};
 ghost use Rattle.std.specs.List.{list_any};
 ghost use Rattle.cell_codec.specs.Cells.{is_var, IsWellFormed};
+ghost use Rattle.tor_spec.specs.CellCommands.{opens_circuit};
 ghost use Rattle.switch_model.specs.Adds.{UpCase, OpenCase};
 ghost use Rattle.switch_model.specs.Machine.{new_state, counted};
 ghost use Rattle.switch_model.specs.State.{slot_at};
 ghost use Rattle.switch_model.specs.ChannelUpCall.{channel_up_result, channel_up_state};
 ghost use Rattle.switch_model.specs.OpenCircuitCall.{open_result, open_result_on, open_state, circuit_has_id, is_id_taken, with_circuit};
 ghost use Rattle.switch_model.specs.NextCellCall.{ticked, picked_leg, cell_of_leg, sent_from, lane_of, next_cell_result, next_cell_state};
-ghost use Rattle.switch_core.specs.Meaning.{is_reply, refused_on};
+ghost use Rattle.switch_core.specs.Meaning.{refused_on};
 ghost use Rattle.switch_core.specs.Picking.{DestroyLeaves, Picks};
 
 use crate::channel::Channel;
 use crate::circuit::Circuit;
 use crate::leg::Leg;
-use crate::opening::Opening;
 use crate::pick::{Waiting, lesser};
 use cell_codec::Cell;
+use hop_handshake::Opening;
 use kdf_tor::LayerKeys;
 use std::alloc::{AllocError, Global};
 use std::marker::Model;
@@ -92,8 +93,8 @@ impl Parts {
     pub fn open_circuit(&mut self, chan: ChanNo, id: u32, opening: &Opening) -> OpenAnswer
         requires steps { self.old.steps < 2 ^ 62 }
         requires fixed { is_var opening.now.reply.body ≡ false }
-        requires command { IfSome opening.now.keys (λ keys. is_reply opening.now.reply.command ≡ true) }
-        ensures state { OpenCase result (self.new ≡ self.old) (self.new ≡ open_state self.old chan.0 id opening.now.reply opening.now.keys) }
+        requires command { IfSome opening.now.keys (λ _. IsTrue (opens_circuit opening.now.reply.command)) }
+        ensures state { OpenCase result (self.new ≡ self.old) (self.new ≡ open_state self.old chan.0 id opening.now.reply opening.now.keys opening.now.pad) }
         ensures answer { OpenCase result ⊤ (result ≡ open_result self.old chan.0 id opening.now.keys) }
     {
         let answer = self.open_answer(chan, id, &opening.keys);
@@ -187,8 +188,8 @@ impl Parts {
     /// Adds the circuit of an opening, if its handshake was good.
     fn add_circuit(&mut self, chan: ChanNo, id: u32, opening: &Opening) -> Result<(), AllocError>
         requires fixed { is_var opening.now.reply.body ≡ false }
-        requires command { IfSome opening.now.keys (λ keys. is_reply opening.now.reply.command ≡ true) }
-        ensures ok { OnOk result (counted self.new ≡ with_circuit self.old chan.0 id opening.now.reply opening.now.keys) }
+        requires command { IfSome opening.now.keys (λ _. IsTrue (opens_circuit opening.now.reply.command)) }
+        ensures ok { OnOk result (counted self.new ≡ with_circuit self.old chan.0 id opening.now.reply opening.now.keys opening.now.pad) }
         ensures err { OnErr result (self.new ≡ self.old) }
     {
         let Some(keys) = opening.keys else {
@@ -196,6 +197,7 @@ impl Parts {
         };
         self.circuits.push(Circuit {
             keys,
+            pad: opening.pad,
             leg: Leg::new(chan, id, &opening.reply),
         })?;
         Ok(())

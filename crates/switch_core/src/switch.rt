@@ -1,18 +1,19 @@
 //! The switch: each call adds one step to every history that it stands for.
-ghost use Rattle.std.specs.Prelude.{◌≡◌, ◌+◌, ◌<◌, ◌≤◌, ◌^◌, ⊤, IfOk, IfSome, false, true};
+ghost use Rattle.std.specs.Prelude.{◌≡◌, ◌+◌, ◌<◌, ◌≤◌, ◌^◌, ⊤, IfOk, IfSome, IsTrue, false};
 ghost use Rattle.cell_codec.specs.Cells.{is_var, IsWellFormed};
+ghost use Rattle.tor_spec.specs.CellCommands.{opens_circuit};
 ghost use Rattle.tr_io.specs.declared.step.Step.TheVariants.{ChannelUp, OpenCircuit, NextCell};
 ghost use Rattle.switch_model.specs.Adds.{Adds, UpCase, OpenCase};
 ghost use Rattle.switch_model.specs.Machine.{new_state};
 ghost use Rattle.switch_model.specs.ChannelUpCall.{channel_up_result};
 ghost use Rattle.switch_model.specs.OpenCircuitCall.{open_result};
 ghost use Rattle.switch_model.specs.NextCellCall.{next_cell_result};
-ghost use Rattle.switch_core.specs.Meaning.{is_reply, start_of};
+ghost use Rattle.switch_core.specs.Meaning.{start_of};
 
-use crate::opening::Opening;
 use crate::parts::Parts;
-use crate::rules::Rules;
 use cell_codec::Cell;
+use circ_relay::Rules;
+use hop_handshake::Opening;
 use std::alloc::{AllocError, Global};
 use std::marker::Model;
 use tr_io::answers::{OpenAnswer, UpAnswer};
@@ -85,9 +86,9 @@ impl Switch {
     pub fn open_circuit(&mut self, chan: ChanNo, id: u32, opening: &Opening) -> OpenAnswer
         requires steps { self.old.state.steps < 2 ^ 62 }
         requires fixed { is_var opening.now.reply.body ≡ false }
-        requires command { IfSome opening.now.keys (λ keys. is_reply opening.now.reply.command ≡ true) }
+        requires command { IfSome opening.now.keys (λ _. IsTrue (opens_circuit opening.now.reply.command)) }
         ensures start { self.new.start ≡ self.old.start }
-        ensures history { OpenCase result (self.new.state ≡ self.old.state) (Adds self.old.start self.old.state self.new.state (OpenCircuit chan id opening.now.reply opening.now.keys result)) }
+        ensures history { OpenCase result (self.new.state ≡ self.old.state) (Adds self.old.start self.old.state self.new.state (OpenCircuit chan id opening.now.reply opening.now.keys opening.now.pad result)) }
         ensures steps { self.new.state.steps ≤ self.old.state.steps + 1 }
         ensures answer { OpenCase result ⊤ (result ≡ open_result self.old.state chan.0 id opening.now.keys) }
     {

@@ -1,11 +1,12 @@
 //! Calls whose answers were worked out by hand.
-ghost use Rattle.std.specs.Prelude.{◌≡◌, IfOk, false};
+ghost use Rattle.std.specs.Prelude.{◌≡◌, IfOk, IfSome, IsTrue, false};
 ghost use Rattle.cell_codec.specs.Cells.{is_var};
+ghost use Rattle.tor_spec.specs.CellCommands.{asks_for_circuit, opens_circuit};
 
 use super::*;
-use crate::opening::{Opening, opening_of};
-use crate::rules::Rules;
 use cell_codec::{Body, Cell, List};
+use circ_relay::Rules;
+use hop_handshake::{FastHandshake, Opening, opening_of};
 use std::alloc::{AllocError, Global};
 use std::test::Fail;
 use tr_io::answers::{OpenAnswer, OpenRefusal, UpAnswer};
@@ -19,27 +20,30 @@ fn new_switch(alloc: Global) -> Result<Switch, AllocError>
         0,
         Rules {
             allow: List::new(alloc),
+            window: 1000,
+            least: 1,
         },
     )
 }
 
-/// The opening of CREATE_FAST at this CircID, with X and Y zero.
-fn fast_opening(id: u32) -> Result<Opening, AllocError>
+/// The opening that this command asks for at this CircID, with a payload of zeros, where Y is zero.
+fn opening(alloc: Global, id: u32, command: u8) -> Result<Opening, AllocError>
+    requires { IsTrue (asks_for_circuit command) }
     ensures fixed { IfOk result (λ o. is_var o.reply.body ≡ false) }
-    ensures command { IfOk result (λ o. o.reply.command ≡ 6) }
+    ensures command { IfOk result (λ o. IfSome o.keys (λ _. IsTrue (opens_circuit o.reply.command))) }
 {
     let cell = Cell {
         circ: id,
-        command: 5,
+        command,
         body: Body::Fixed([0; 509]),
     };
-    opening_of(&cell, &[0; 20])
+    opening_of(alloc, &cell, &FastHandshake, &[0; 20], None)
 }
 
 #[test]
 fn a_circuit_answers_once(rt: HostRuntime) -> Result<(), Fail> {
     let mut switch = new_switch(rt.alloc())?;
-    let opening = fast_opening(0x8000_0001)?;
+    let opening = opening(rt.alloc(), 0x8000_0001, 5)?;
     assert_eq!(rt;
         switch.channel_up(3, Side::PeerOpened),
         UpAnswer::Up(ChanNo(0))
@@ -59,7 +63,7 @@ fn a_circuit_answers_once(rt: HostRuntime) -> Result<(), Fail> {
 #[test]
 fn a_refused_id_is_destroyed(rt: HostRuntime) -> Result<(), Fail> {
     let mut switch = new_switch(rt.alloc())?;
-    let opening = fast_opening(1)?;
+    let opening = opening(rt.alloc(), 1, 5)?;
     assert_eq!(rt;
         switch.channel_up(0, Side::PeerOpened),
         UpAnswer::Up(ChanNo(0))
@@ -68,6 +72,23 @@ fn a_refused_id_is_destroyed(rt: HostRuntime) -> Result<(), Fail> {
     assert_eq!(rt; answer, OpenAnswer::Refused(OpenRefusal::BadId));
     let cell = switch.next_cell(ChanNo(0), 0).ok_or("a DESTROY")?;
     assert_eq!(rt; cell.circ, 1);
+    assert_eq!(rt; cell.command, 4);
+    assert!(rt; switch.next_cell(ChanNo(0), 0).is_none());
+    Ok(())
+}
+
+#[test]
+fn a_bad_handshake_is_destroyed(rt: HostRuntime) -> Result<(), Fail> {
+    let mut switch = new_switch(rt.alloc())?;
+    let opening = opening(rt.alloc(), 0x8000_0001, 10)?;
+    assert_eq!(rt;
+        switch.channel_up(0, Side::PeerOpened),
+        UpAnswer::Up(ChanNo(0))
+    );
+    let answer = switch.open_circuit(ChanNo(0), 0x8000_0001, &opening);
+    assert_eq!(rt; answer, OpenAnswer::Refused(OpenRefusal::BadHandshake));
+    let cell = switch.next_cell(ChanNo(0), 0).ok_or("a DESTROY")?;
+    assert_eq!(rt; cell.circ, 0x8000_0001);
     assert_eq!(rt; cell.command, 4);
     assert!(rt; switch.next_cell(ChanNo(0), 0).is_none());
     Ok(())
