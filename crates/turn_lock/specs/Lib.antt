@@ -1,0 +1,5 @@
+pub mod Shares
+pub mod Views
+pub mod Plays
+pub mod Rule
+pub mod Passes
