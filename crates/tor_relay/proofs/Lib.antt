@@ -8,3 +8,4 @@ pub mod Plays
 pub mod Turns
 pub mod Spellings
 pub mod Spelled
+pub mod RuleSpellings

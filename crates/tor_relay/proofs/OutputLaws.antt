@@ -39,7 +39,7 @@ write_more (Some held) now after piece left count n rest written writes =
     ∙ ap (λ xs. held ++ (take count piece ++ take n xs)) rest
     ∙ ap (λ xs. held ++ xs) (sym (take-add count n piece)))
 
-take_all : (xs : List ℕ) (k : ℕ) → length xs ≡ k → take k xs ≡ xs
+pub take_all : (xs : List ℕ) (k : ℕ) → length xs ≡ k → take k xs ≡ xs
 take_all xs k is = ap (λ m. take m xs) (sym is) ∙ take-length xs
 
 -- what is left goes on

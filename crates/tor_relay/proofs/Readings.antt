@@ -1,18 +1,19 @@
 -- A tape has one reading, so a good tape is played whole.
-use Rattle.std.proofs.Common.{◌≡◌, ◌⊎◌, inl, inr, ℕ, ◌+◌, ◌-◌, ◌≤◌, List, [], ◌∷◌, ◌++◌, length, Option, Some, None, refl, sym, ap, ◌∙◌, subst, arith, length-append}
+use Rattle.std.proofs.Common.{◌≡◌, inl, inr, ℕ, ◌-◌, ◌≤◌, List, [], ◌∷◌, ◌++◌, length, Option, Some, None, refl, sym, ap, ◌∙◌, subst, arith, length-append}
 use Rattle.std.proofs.lemmas.List.{append-nil}
-use Rattle.tr_io.specs.Faults.{Rose}
+use Rattle.circuit_model.specs.Rules.{Rules}
 use Rattle.tr_io.specs.declared.status.Status.{Status}
 use Rattle.tr_io.specs.declared.status.Status.TheVariants.{Done, Memory}
 use Rattle.tor_relay.specs.declared.tape.input.Ending.{Ending}
 use Rattle.tor_relay.specs.declared.tape.input.Ending.TheVariants.{End, Fault, Limit}
 use Rattle.tor_relay.specs.declared.tape.record.Record.{Record}
-use Rattle.tor_relay.specs.Records.{FrontOf, record_and, less, front_of}
+use Rattle.tor_relay.specs.Records.{record_and, front_of}
+use Rattle.tor_relay.specs.TapeRules.{rules_and, rules_ahead}
 use Rattle.tor_relay.specs.Steps.{IsRecords, output}
-use Rattle.tor_relay.specs.Input.{tape_limit, EndCause, IsRead, NothingLeft, IsTape}
+use Rattle.tor_relay.specs.Input.{EndCause, IsRead, NothingLeft, IsTape}
 use Rattle.tor_relay.specs.Output.{IsWritten}
 use Rattle.tor_relay.proofs.Tapes.{tape_legal, front_of_output}
-use Rattle.tor_relay.specs.Runs.{status_by, status_at, cut_status, Reads, Writes, BeginsNone, SameReading, IsOnlyReading, IsFrontOfOutput, FirstRecords, Played, CutOff, OutOfMemory, EndsPlay, Finished, Unread, IsRun, IsDone, IsGood}
+use Rattle.tor_relay.specs.Runs.{status_by, status_at, Reads, Writes, BeginsNone, SameReading, IsOnlyReading, IsFrontOfOutput, FirstRecords, Played, NotBegun, EndsPlay, IsRun, IsDone, IsGood, rules_status}
 
 pub one_reading : (bytes : List ℕ) (a b : List Record) (x y : List ℕ) → IsRecords bytes a x → IsRecords bytes b y → BeginsNone x → BeginsNone y → SameReading a b x y
 unfolding IsRecords
@@ -56,11 +57,11 @@ too_long told tape bytes (Some rest) is read =
     let whole : tape ≡ bytes ++ rest = subst (λ o. IsRead o bytes (Some rest)) is read in
     omega (arith, ap length whole, length-append bytes rest)
 
-pub read_whole : (ending : Ending) (tape bytes : List ℕ) (records : List Record) (r : Reads) (w : Writes) → IsGood tape records r w → EndCause ending r.faults r.faults_after → IsTape ending r.left bytes r.left_after → ReadWhole ending tape bytes
-read_whole End tape bytes records r w good cause read =
+pub read_whole : (ending : Ending) (tape bytes : List ℕ) (rules : Rules) (records : List Record) (r : Reads) (w : Writes) → IsGood tape rules records r w → EndCause ending r.faults r.faults_after → IsTape ending r.left bytes r.left_after → ReadWhole ending tape bytes
+read_whole End tape bytes rules records r w good cause read =
     record { at_end = refl; all = told_read r.left tape bytes r.left_after good.told read.0 read.1 }
-read_whole Fault tape bytes records r w good cause read = absurd (good.reading cause)
-read_whole Limit tape bytes records r w good cause read =
+read_whole Fault tape bytes rules records r w good cause read = absurd (good.reading cause)
+read_whole Limit tape bytes rules records r w good cause read =
     let long : length read.0 ≤ length tape = too_long r.left tape read.0 r.left_after good.told read.1.0 in
     absurd (omega (arith, long, read.1.1, good.short))
 
@@ -70,23 +71,48 @@ unfolding status_at front_of
 end_done place rest status nothing is =
     let found : Some Done ≡ Some status = sym (ap (λ xs. status_at End place xs) nothing) ∙ is in cc
 
-played_done : (status : Status) (ending : Ending) (tape bytes : List ℕ) (records : List Record) (r : Reads) (w : Writes) → IsGood tape records r w → ReadWhole ending tape bytes → Played status ending bytes w → IsDone status records w
-unfolding IsDone
-played_done status ending tape bytes records r w good whole played =
-    let read : IsRecords tape played.records played.rest = subst (λ xs. IsRecords xs played.records played.rest) whole.all played.first.read in
-    let same : SameReading played.records records played.rest [] = one_reading tape played.records records played.rest [] read good.whole (status_stops _ _ _ _ played.ends) nothing_stops in
-    let at_end : status_at End (length bytes - length played.rest) played.rest ≡ Some status = subst (λ e. status_at e (length bytes - length played.rest) played.rest ≡ Some status) whole.at_end played.ends in
-    inl (end_done _ _ _ same.rest at_end, subst (λ rs. IsWritten w.held (output rs) w.held_after) same.records played.written)
+-- Where a tape's records begin, and its rules, by two ways to say it.
+pub record SameStart (a b : Rules) (x y : List ℕ) : Type 0 where
+  pub rules : a ≡ b
+  pub first : x ≡ y
 
-pub run_done : (status : Status) (r : Reads) (w : Writes) → IsRun status r w → (tape : List ℕ) (records : List Record) → IsGood tape records r w → IsDone status records w
+same_start : (tape : List ℕ) (a b : Rules) (x y : List ℕ) → rules_ahead tape ≡ rules_and a x → rules_ahead tape ≡ rules_and b y → SameStart a b x y
+same_start tape a b x y one other =
+    let same : rules_and a x ≡ rules_and b y = sym one ∙ other in
+    record { rules = cc; first = cc }
+
+played_done : (status : Status) (ending : Ending) (tape bytes : List ℕ) (rules : Rules) (records : List Record) (r : Reads) (w : Writes) → IsGood tape rules records r w → ReadWhole ending tape bytes → Played status ending bytes w → IsDone status rules records w
+unfolding IsDone
+played_done status ending tape bytes rules records r w good whole played =
+    let start : SameStart played.rules rules played.first good.first =
+    same_start tape played.rules rules played.first good.first (subst (λ xs. rules_ahead xs ≡ rules_and played.rules played.first) whole.all played.read.ahead) good.ahead in
+    let read : IsRecords good.first played.records played.rest = subst (λ xs. IsRecords xs played.records played.rest) start.first played.read.read in
+    let same : SameReading played.records records played.rest [] = one_reading good.first played.records records played.rest [] read good.whole (status_stops _ _ _ _ played.ends) nothing_stops in
+    let at_end : status_at End (length bytes - length played.rest) played.rest ≡ Some status = subst (λ e. status_at e (length bytes - length played.rest) played.rest ≡ Some status) whole.at_end played.ends in
+    let written : IsWritten w.held (output rules played.records) w.held_after = subst (λ x. IsWritten w.held (output x played.records) w.held_after) start.rules played.written in
+    inl (end_done _ _ _ same.rest at_end, subst (λ rs. IsWritten w.held (output rules rs) w.held_after) same.records written)
+
+-- A good tape's rules are whole.
+begun : (status : Status) (ending : Ending) (tape bytes : List ℕ) (rules : Rules) (records : List Record) (r : Reads) (w : Writes) → IsGood tape rules records r w → ReadWhole ending tape bytes → NotBegun status ending bytes w → ⊥
+begun status ending tape bytes rules records r w good whole not_begun =
+    let ahead : rules_ahead bytes ≡ rules_and rules good.first = ap rules_ahead whole.all ∙ good.ahead in
+    let none : None ≡ Some status = sym (ap (rules_status ending bytes) ahead) ∙ not_begun.ends in cc
+
+pub run_done : (status : Status) (r : Reads) (w : Writes) → IsRun status r w → (tape : List ℕ) (rules : Rules) (records : List Record) → IsGood tape rules records r w → IsDone status rules records w
 unfolding IsRun IsDone
-run_done status r w (inl run) tape records good =
-    let whole : ReadWhole run.ending tape run.tape = read_whole run.ending tape run.tape records r w good run.cause run.bytes in
+run_done status r w (inl run) tape rules records good =
+    let whole : ReadWhole run.ending tape run.tape = read_whole run.ending tape run.tape rules records r w good run.cause run.bytes in
     elim run.play [
-      | inl played ↦ played_done status run.ending tape run.tape records r w good whole played
-      | inr other ↦ elim other [ inl cut ↦ absurd (good.writing cut.cause) | inr short ↦ inr short.is ]
+      | inl played ↦ played_done status run.ending tape run.tape rules records r w good whole played
+      | inr other ↦ elim other [
+        | inl cut ↦ absurd (good.writing cut.cause)
+        | inr more ↦ elim more [
+          | inl short ↦ inr short.is
+          | inr not_begun ↦ absurd (begun status run.ending tape run.tape rules records r w good whole not_begun)
+        ]
+      ]
     ]
-run_done status r w (inr unread) tape records good = inr unread.is
+run_done status r w (inr unread) tape rules records good = inr unread.is
 
 pub finished : (status : Status) (ending : Ending) (tape : List ℕ) (r : Reads) (w : Writes) → EndCause ending r.faults r.faults_after → IsTape ending r.left tape r.left_after → EndsPlay status ending tape w → IsRun status r w
 unfolding IsRun
@@ -111,11 +137,12 @@ first_of_all bytes (r ∷ more) (q ∷ others) rest end read whole ends =
     let left : (more_left : List Record) × (others ≡ more ++ more_left) = first_of_all whole.0 more others rest end (subst (λ z. IsRecords z more rest) behind read.1.1) whole.1.1 ends in
     (left.0, ap (λ xs. q ∷ xs) left.1 ∙ ap (λ x. x ∷ (more ++ left.0)) (sym same))
 
-pub front_answers : (tape : List ℕ) (records : List Record) (rest : List ℕ) → IsRecords tape records rest → IsFrontOfOutput tape (output records)
-front_answers tape records rest read all end whole ends =
-    let left : (more : List Record) × (all ≡ records ++ more) = first_of_all tape records all rest end read whole ends in
-    let front : (behind : List ℕ) × (output (records ++ left.0) ≡ output records ++ behind) = front_of_output records left.0 in
-    (front.0, ap output left.1 ∙ front.1)
+pub front_answers : (rules : Rules) (first : List ℕ) (records : List Record) (rest : List ℕ) → IsRecords first records rest → IsFrontOfOutput rules first (output rules records)
+front_answers rules first records rest read all end whole ends =
+    let left : (more : List Record) × (all ≡ records ++ more) = first_of_all first records all rest end read whole ends in
+    let front : (behind : List ℕ) × (output rules (records ++ left.0) ≡ output rules records ++ behind) = front_of_output rules records left.0 in
+    (front.0, ap (output rules) left.1 ∙ front.1)
 
-pub first_records : (tape rest : List ℕ) (records : List Record) → IsRecords tape records rest → FirstRecords tape rest records
-first_records tape rest records read = record { read = read; legal = tape_legal records; front = front_answers tape records rest read }
+pub first_records : (rules : Rules) (tape first rest : List ℕ) (records : List Record) → rules_ahead tape ≡ rules_and rules first → IsRecords first records rest → FirstRecords rules tape first rest records
+first_records rules tape first rest records ahead read =
+    record { ahead = ahead; read = read; legal = tape_legal rules records; front = front_answers rules first records rest read }

@@ -1,19 +1,22 @@
 -- What is read as a record spells it.
-use Rattle.std.proofs.Common.{◌≡◌, ℕ, suc, ◌+◌, ◌<◌, ◌≤◌, ◌^◌, ◌==◌, ◌||◌, ◌&&◌, not, if◌then◌else◌, nat_lt, nat_le, List, [], ◌∷◌, ◌++◌, length, take, drop, get_or, slice_index, Bool, true, false, refl, sym, ap, ◌∙◌, subst, arith, append_assoc, length-append, length-drop, length-take, lit<, inl, inr}
+use Rattle.std.proofs.Common.{◌≡◌, ℕ, suc, ◌+◌, ◌≤◌, ◌==◌, if◌then◌else◌, nat_lt, List, [], ◌∷◌, ◌++◌, length, take, drop, slice_index, Bool, true, false, Option, Some, None, refl, sym, ap, ◌∙◌, arith, append_assoc, length-drop, length-take, lit<, inl, inr}
 use Rattle.std.proofs.lemmas.Bool.{ltb-false, eqb-true, cases_lt}
 use Rattle.std.proofs.lemmas.List.{take-append-drop, length-take-le, drop-drop, get_or-take, get_or-drop, get_or_past}
 use Rattle.std.proofs.Math.Seq.{drop-cons}
 use Rattle.std.proofs.lemmas.Nat.{be_bytes_4, be_bytes_8}
 use Rattle.std.specs.Int.{w32, w64, from_be_bytes, to_be_bytes}
 use Rattle.tr_io.specs.declared.names.Side.TheVariants.{PeerOpened, WeOpened}
+use Rattle.tor_relay.specs.declared.tape.record.CreateCommand.{CreateCommand}
+use Rattle.tor_relay.specs.declared.tape.record.CreateCommand.TheVariants.{Create, CreateFast, Create2}
 use Rattle.tor_relay.specs.declared.tape.record.Record.{Record}
-use Rattle.tor_relay.specs.declared.tape.record.Record.TheVariants.{ChannelUp, OpenCircuit, NextCell}
-use Rattle.tor_relay.specs.Records.{FrontOf, FrontIs, record_and, less, no_record, unbuilt, front_of, field, channel_up_front, open_circuit_front, next_cell_front, opens_circuit, create_fast_record, is_unbuilt}
+use Rattle.tor_relay.specs.declared.tape.record.Record.TheVariants.{ChannelUp, NextCell}
+use Rattle.tor_relay.specs.Records.{FrontIs, record_and, less, no_record, unbuilt, front_of, field, channel_up_front, open_circuit_front, padded_circuit_front, opening_front, next_cell_front, open_circuit_record, front_with_command, command_of}
 use Rattle.tor_spec.specs.CellStream.{IsBytes}
 use Rattle.tor_relay.specs.declared.tape.record.Front.{Front}
-use Rattle.tor_relay.specs.Spelling.{side_byte, spelling}
+use Rattle.tor_relay.proofs.OutputLaws.{take_all}
+use Rattle.tor_relay.specs.Spelling.{command_byte, opening_kind, pad_bytes, spelling}
 
-field_bytes : (at n : ℕ) (fields : List ℕ) → IsBytes fields → IsBytes (field at n fields)
+pub field_bytes : (at n : ℕ) (fields : List ℕ) → IsBytes fields → IsBytes (field at n fields)
 field_bytes at n fields bytes i = elim (cases_lt i n) [
   | inl below ↦ rw (get_or-take n (drop at fields) i 0 below, get_or-drop at fields i 0) (bytes (at + i))
   | inr above ↦ rw (get_or_past (take n (drop at fields)) i 0 (simp length-take (omega arith))) (lit< tt)
@@ -31,7 +34,7 @@ field_8 at fields bytes long =
     be_bytes_8 (field at 8 fields) _ size (field_bytes at 8 fields bytes) refl
 
 -- A field and what is behind it.
-part : (at n : ℕ) (fields : List ℕ) → drop at fields ≡ field at n fields ++ drop (at + n) fields
+pub part : (at n : ℕ) (fields : List ℕ) → drop at fields ≡ field at n fields ++ drop (at + n) fields
 part at n fields = sym (take-append-drop n (drop at fields)) ∙ ap (λ xs. field at n fields ++ xs) (drop-drop n at fields)
 
 up_whole : (fields : List ℕ) → IsBytes fields → 5 ≤ length fields → (side : ℕ) → slice_index fields 4 ≡ side →
@@ -80,56 +83,111 @@ next_by false fields r rest bytes is_short is =
     next_whole fields bytes (ltb-false (length fields) 16 is_short)
     ∙ ap (λ q. spelling q ++ drop 16 fields) (sym which) ∙ ap (λ xs. spelling r ++ xs) (sym behind)
 
-open_whole : (fields : List ℕ) → IsBytes fields → 542 ≤ length fields → slice_index fields 32 ≡ 5 → 3 ∷ fields ≡ spelling (create_fast_record fields) ++ drop 542 fields
-open_whole fields bytes long command =
-    let c : List ℕ = to_be_bytes w64 (from_be_bytes w64 (field 0 8 fields)) in
-    let y : List ℕ = field 8 20 fields in
-    let i : List ℕ = to_be_bytes w32 (from_be_bytes w32 (field 28 4 fields)) in
-    let payload : List ℕ = field 33 509 fields in
-    let rest : List ℕ = drop 542 fields in
-    ap (λ xs. 3 ∷ xs)
-    (part 0 8 fields
-    ∙ ap (λ xs. xs ++ drop 8 fields) (sym (field_8 0 fields bytes (omega arith)))
-    ∙ ap (λ xs. c ++ xs) (part 8 20 fields)
-    ∙ ap (λ xs. c ++ (y ++ xs)) (part 28 4 fields)
-    ∙ ap (λ xs. c ++ (y ++ (xs ++ drop 32 fields))) (sym (field_4 28 fields bytes (omega arith)))
-    ∙ ap (λ xs. c ++ (y ++ (i ++ xs))) (drop-cons fields 32 0 (omega arith))
-    ∙ ap (λ n. c ++ (y ++ (i ++ n ∷ drop 33 fields))) command
-    ∙ ap (λ xs. c ++ (y ++ (i ++ 5 ∷ xs))) (part 33 509 fields)
-    ∙ ap (λ xs. c ++ (y ++ xs)) (sym (append_assoc i (5 ∷ payload) rest))
-    ∙ ap (λ xs. c ++ xs) (sym (append_assoc y (i ++ 5 ∷ payload) rest))
-    ∙ sym (append_assoc c (y ++ (i ++ 5 ∷ payload)) rest))
+-- The head of an opening's fields, and what is behind it.
+head_whole : (fields : List ℕ) → IsBytes fields → 28 ≤ length fields →
+    fields ≡ to_be_bytes w64 (from_be_bytes w64 (field 0 8 (take 28 fields))) ++ (field 8 20 (take 28 fields) ++ drop 28 fields)
+head_whole fields bytes long =
+    let head : List ℕ = take 28 fields in
+    let size : length head ≡ 28 = length-take-le 28 fields long in
+    let c : List ℕ = to_be_bytes w64 (from_be_bytes w64 (field 0 8 head)) in
+    let cut : head ≡ c ++ field 8 20 head =
+    part 0 8 head
+    ∙ ap (λ xs. xs ++ drop 8 head) (sym (field_8 0 head (field_bytes 0 28 fields bytes) (omega (arith, size))))
+    ∙ ap (λ xs. c ++ xs) (sym (take_all (drop 8 head) 20 (omega (arith, length-drop 8 head, size)))) in
+    sym (take-append-drop 28 fields)
+    ∙ ap (λ xs. xs ++ drop 28 fields) cut
+    ∙ append_assoc c (field 8 20 head) (drop 28 fields)
 
-open_by : (short opens cut fast : Bool) (fields : List ℕ) (r : Record) (rest : List ℕ) → IsBytes fields → nat_lt (length fields) 542 ≡ cut → (slice_index fields 32 == 5) ≡ fast →
-    (if short then less else (if not opens then no_record else (if cut then less else (if fast then record_and (create_fast_record fields) (drop 542 fields) else unbuilt 3)))) ≡ record_and r rest →
-    3 ∷ fields ≡ spelling r ++ rest
-open_by true opens cut fast fields r rest bytes is_cut is_fast is = cc
-open_by false false cut fast fields r rest bytes is_cut is_fast is = cc
-open_by false true true fast fields r rest bytes is_cut is_fast is = cc
-open_by false true false false fields r rest bytes is_cut is_fast is = cc
-open_by false true false true fields r rest bytes is_cut is_fast is =
-    let which : r ≡ create_fast_record fields = cc in
-    let behind : rest ≡ drop 542 fields = cc in
-    open_whole fields bytes (ltb-false (length fields) 542 is_cut) (eqb-true _ _ is_fast)
-    ∙ ap (λ q. spelling q ++ drop 542 fields) (sym which) ∙ ap (λ xs. spelling r ++ xs) (sym behind)
+cell_whole : (cell : List ℕ) (command : CreateCommand) → IsBytes cell → 514 ≤ length cell → slice_index cell 4 ≡ command_byte command →
+    cell ≡ (to_be_bytes w32 (from_be_bytes w32 (field 0 4 cell)) ++ command_byte command ∷ field 5 509 cell) ++ drop 514 cell
+cell_whole cell command bytes long is =
+    let i : List ℕ = to_be_bytes w32 (from_be_bytes w32 (field 0 4 cell)) in
+    let byte : ℕ = command_byte command in
+    part 0 4 cell
+    ∙ ap (λ xs. xs ++ drop 4 cell) (sym (field_4 0 cell bytes (omega arith)))
+    ∙ ap (λ xs. i ++ xs) (drop-cons cell 4 0 (omega arith))
+    ∙ ap (λ n. i ++ n ∷ drop 5 cell) is
+    ∙ ap (λ xs. i ++ byte ∷ xs) (part 5 509 cell)
+    ∙ sym (append_assoc i (byte ∷ field 5 509 cell) (drop 514 cell))
 
-front_by : (up opening next unbuilt_kind : Bool) (kind : ℕ) (fields : List ℕ) (r : Record) (rest : List ℕ) → IsBytes fields → (kind == 1) ≡ up → (kind == 3) ≡ opening → (kind == 8) ≡ next →
-    (if up then channel_up_front fields else (if opening then open_circuit_front fields else (if next then next_cell_front fields else (if unbuilt_kind then unbuilt kind else no_record)))) ≡ record_and r rest →
+-- An opening's fields by its key of the padding, its cell and what is behind it.
+open_whole : (fields : List ℕ) (pad : Option (List ℕ)) (cell : List ℕ) (command : CreateCommand) → IsBytes fields → IsBytes cell → 28 ≤ length fields → drop 28 fields ≡ pad_bytes pad ++ cell → 514 ≤ length cell → slice_index cell 4 ≡ command_byte command →
+    opening_kind pad ∷ fields ≡ spelling (open_circuit_record (take 28 fields) pad command cell) ++ drop 514 cell
+open_whole fields pad cell command bytes cell_bytes head_long behind long is =
+    let head : List ℕ = take 28 fields in
+    let c : List ℕ = to_be_bytes w64 (from_be_bytes w64 (field 0 8 head)) in
+    let y : List ℕ = field 8 20 head in
+    let p : List ℕ = pad_bytes pad in
+    let x : List ℕ = to_be_bytes w32 (from_be_bytes w32 (field 0 4 cell)) ++ command_byte command ∷ field 5 509 cell in
+    let rest : List ℕ = drop 514 cell in
+    ap (λ xs. opening_kind pad ∷ xs)
+    (head_whole fields bytes head_long
+    ∙ ap (λ xs. c ++ (y ++ xs)) (behind ∙ ap (λ xs. p ++ xs) (cell_whole cell command cell_bytes long is) ∙ sym (append_assoc p x rest))
+    ∙ ap (λ xs. c ++ xs) (sym (append_assoc y (p ++ x) rest))
+    ∙ sym (append_assoc c (y ++ (p ++ x)) rest))
+
+-- The byte of a command that was read.
+byte_by : (create fast create2 : Bool) (byte : ℕ) (command : CreateCommand) → (byte == 1) ≡ create → (byte == 5) ≡ fast → (byte == 10) ≡ create2 →
+    (if create then Some Create else (if fast then Some CreateFast else (if create2 then Some Create2 else None))) ≡ Some command → byte ≡ command_byte command
+byte_by true fast create2 byte command is_create is_fast is_create2 is =
+    let which : Create ≡ command = cc in eqb-true _ _ is_create ∙ ap command_byte which
+byte_by false true create2 byte command is_create is_fast is_create2 is =
+    let which : CreateFast ≡ command = cc in eqb-true _ _ is_fast ∙ ap command_byte which
+byte_by false false true byte command is_create is_fast is_create2 is =
+    let which : Create2 ≡ command = cc in eqb-true _ _ is_create2 ∙ ap command_byte which
+byte_by false false false byte command is_create is_fast is_create2 is = cc
+
+byte_of_command : (byte : ℕ) (command : CreateCommand) → command_of byte ≡ Some command → byte ≡ command_byte command
+byte_of_command byte command is = byte_by _ _ _ byte command refl refl refl is
+
+open_with : (cut : Bool) (fields : List ℕ) (pad : Option (List ℕ)) (cell : List ℕ) (command : CreateCommand) (r : Record) (rest : List ℕ) → IsBytes fields → IsBytes cell → 28 ≤ length fields → drop 28 fields ≡ pad_bytes pad ++ cell → nat_lt (length cell) 514 ≡ cut → slice_index cell 4 ≡ command_byte command →
+    (if cut then less else record_and (open_circuit_record (take 28 fields) pad command cell) (drop 514 cell)) ≡ record_and r rest →
+    opening_kind pad ∷ fields ≡ spelling r ++ rest
+open_with true fields pad cell command r rest bytes cell_bytes long split is_cut is_byte is = cc
+open_with false fields pad cell command r rest bytes cell_bytes long split is_cut is_byte is =
+    let which : r ≡ open_circuit_record (take 28 fields) pad command cell = cc in
+    let behind : rest ≡ drop 514 cell = cc in
+    open_whole fields pad cell command bytes cell_bytes long split (ltb-false (length cell) 514 is_cut) is_byte
+    ∙ ap (λ q. spelling q ++ drop 514 cell) (sym which) ∙ ap (λ xs. spelling r ++ xs) (sym behind)
+
+open_by : (short : Bool) (found : Option CreateCommand) (fields : List ℕ) (pad : Option (List ℕ)) (cell : List ℕ) (r : Record) (rest : List ℕ) → IsBytes fields → IsBytes cell → (5 ≤ length cell → 28 ≤ length fields) → drop 28 fields ≡ pad_bytes pad ++ cell → nat_lt (length cell) 5 ≡ short → command_of (slice_index cell 4) ≡ found →
+    (if short then less else front_with_command (take 28 fields) pad found cell) ≡ record_and r rest →
+    opening_kind pad ∷ fields ≡ spelling r ++ rest
+open_by true found fields pad cell r rest bytes cell_bytes long split is_short is_found is = cc
+open_by false None fields pad cell r rest bytes cell_bytes long split is_short is_found is = cc
+open_by false (Some command) fields pad cell r rest bytes cell_bytes long split is_short is_found is =
+    open_with _ fields pad cell command r rest bytes cell_bytes (long (ltb-false (length cell) 5 is_short)) split refl (byte_of_command _ _ is_found) is
+
+drop_bytes : (n : ℕ) (fields : List ℕ) → IsBytes fields → IsBytes (drop n fields)
+drop_bytes n fields bytes i = rw (get_or-drop n fields i 0) (bytes (n + i))
+
+opening_spelled : (fields : List ℕ) (pad : Option (List ℕ)) (n : ℕ) (r : Record) (rest : List ℕ) → IsBytes fields → 28 ≤ n → drop 28 fields ≡ pad_bytes pad ++ drop n fields →
+    opening_front (take 28 fields) pad (drop n fields) ≡ record_and r rest →
+    opening_kind pad ∷ fields ≡ spelling r ++ rest
+unfolding opening_front
+opening_spelled fields pad n r rest bytes behind split is =
+    open_by _ _ fields pad (drop n fields) r rest bytes (drop_bytes n fields bytes)
+    (λ (long : 5 ≤ length (drop n fields)). omega (arith, long, length-drop n fields, behind)) split refl refl is
+
+front_by : (up opening next padded unbuilt_kind : Bool) (kind : ℕ) (fields : List ℕ) (r : Record) (rest : List ℕ) → IsBytes fields → (kind == 1) ≡ up → (kind == 3) ≡ opening → (kind == 8) ≡ next → (kind == 15) ≡ padded →
+    (if up then channel_up_front fields else (if opening then open_circuit_front fields else (if next then next_cell_front fields else (if padded then padded_circuit_front fields else (if unbuilt_kind then unbuilt kind else no_record))))) ≡ record_and r rest →
     kind ∷ fields ≡ spelling r ++ rest
-unfolding channel_up_front open_circuit_front next_cell_front
-front_by true opening next unbuilt_kind kind fields r rest bytes is_up is_opening is_next is =
+unfolding channel_up_front next_cell_front
+front_by true opening next padded unbuilt_kind kind fields r rest bytes is_up is_opening is_next is_padded is =
     ap (λ k. k ∷ fields) (eqb-true kind 1 is_up) ∙ up_by _ _ _ fields r rest bytes refl refl refl is
-front_by false true next unbuilt_kind kind fields r rest bytes is_up is_opening is_next is =
-    ap (λ k. k ∷ fields) (eqb-true kind 3 is_opening) ∙ open_by _ _ _ _ fields r rest bytes refl refl is
-front_by false false true unbuilt_kind kind fields r rest bytes is_up is_opening is_next is =
+front_by false true next padded unbuilt_kind kind fields r rest bytes is_up is_opening is_next is_padded is =
+    ap (λ k. k ∷ fields) (eqb-true kind 3 is_opening) ∙ opening_spelled fields None 28 r rest bytes (omega arith) refl is
+front_by false false true padded unbuilt_kind kind fields r rest bytes is_up is_opening is_next is_padded is =
     ap (λ k. k ∷ fields) (eqb-true kind 8 is_next) ∙ next_by _ fields r rest bytes refl is
-front_by false false false true kind fields r rest bytes is_up is_opening is_next is = cc
-front_by false false false false kind fields r rest bytes is_up is_opening is_next is = cc
+front_by false false false true unbuilt_kind kind fields r rest bytes is_up is_opening is_next is_padded is =
+    ap (λ k. k ∷ fields) (eqb-true kind 15 is_padded) ∙ opening_spelled fields (Some (field 28 16 fields)) 44 r rest bytes (omega arith) (part 28 16 fields) is
+front_by false false false false true kind fields r rest bytes is_up is_opening is_next is_padded is = cc
+front_by false false false false false kind fields r rest bytes is_up is_opening is_next is_padded is = cc
 
 pub read_is_spelled : (bytes : List ℕ) (r : Record) (rest : List ℕ) → IsBytes bytes → front_of bytes ≡ record_and r rest → bytes ≡ spelling r ++ rest
 unfolding front_of
 read_is_spelled [] r rest bytes is = cc
-read_is_spelled (kind ∷ fields) r rest bytes is = front_by _ _ _ _ kind fields r rest (λ i. bytes (suc i)) refl refl refl is
+read_is_spelled (kind ∷ fields) r rest bytes is = front_by _ _ _ _ _ kind fields r rest (λ i. bytes (suc i)) refl refl refl refl is
 
 pub front_is_spelled : (front : Front) (bytes : List ℕ) (r : Record) (rest : List ℕ) → IsBytes bytes → FrontIs front (front_of bytes) → FrontIs front (record_and r rest) → bytes ≡ spelling r ++ rest
 front_is_spelled front bytes r rest fits is read = read_is_spelled bytes r rest fits (sym is ∙ read)

@@ -1,6 +1,6 @@
 -- The turns of a tape's playing.
-use Rattle.std.proofs.Common.{◌≡◌, ◌⊎◌, inl, inr, ℕ, ◌+◌, ◌-◌, ◌<◌, ◌≤◌, List, [], ◌∷◌, ◌++◌, length, Option, Some, None, refl, sym, ap, ◌∙◌, subst, append_assoc, arith}
-use Rattle.std.proofs.lemmas.List.{append-nil}
+use Rattle.std.proofs.Common.{◌≡◌, inl, inr, ℕ, ◌+◌, ◌-◌, ◌<◌, ◌≤◌, List, [], ◌∷◌, ◌++◌, length, Option, Some, refl, sym, ap, ◌∙◌, subst, append_assoc, arith}
+use Rattle.circuit_model.specs.Rules.{Rules}
 use Rattle.tr_io.specs.Faults.{Rose}
 use Rattle.tr_io.specs.declared.status.Status.{Status}
 use Rattle.tr_io.specs.declared.status.Status.TheVariants.{WriteFault, BadTape, NotBuilt, Memory}
@@ -14,9 +14,10 @@ use Rattle.switch_model.proofs.Laws.{stands_new}
 use Rattle.tor_relay.specs.declared.tape.input.Ending.{Ending}
 use Rattle.tor_relay.specs.declared.tape.record.Record.{Record}
 use Rattle.tor_relay.specs.Records.{record_and, less, no_record, unbuilt, front_of}
-use Rattle.tor_relay.specs.Steps.{tape_start, step_of, answer_of, steps_behind, answers_behind, steps_of, output, IsRecords}
+use Rattle.tor_relay.specs.TapeRules.{rules_and, less_than_rules, no_rules, rules_ahead}
+use Rattle.tor_relay.specs.Steps.{tape_start, answer_of, steps_behind, answers_behind, steps_of, output, IsRecords}
 use Rattle.tor_relay.specs.Output.{IsWritten, IsPartWritten}
-use Rattle.tor_relay.specs.Runs.{cut_status, status_by, status_at, Writes, FirstRecords, Played, CutOff, OutOfMemory, EndsPlay}
+use Rattle.tor_relay.specs.Runs.{cut_status, status_by, status_at, rules_status, Writes, FirstRecords, EndsPlay}
 use Rattle.tor_relay.specs.Playing.{PlaysOn, HandedOn, Gathered, Stopped, Broken}
 use Rattle.tor_relay.proofs.OutputLaws.{starts_empty, whole_behind, part_behind}
 use Rattle.tor_relay.proofs.Readings.{status_stops, only_reading, first_records}
@@ -24,52 +25,53 @@ use Rattle.tor_relay.proofs.Tapes.{records_more, steps_more, answers_more}
 
 -- What holds at each turn: the switch stands for the steps of the records that were played, of which
 -- there is at most one for each byte.
-pub record Turn (tape rest : List ℕ) (made : Start) (state : State) (answers : List ℕ) (held now : Option (List ℕ)) (faults faults_now : ℕ) : Type 0 where
+pub record Turn (rules : Rules) (tape first rest : List ℕ) (made : Start) (state : State) (answers : List ℕ) (held now : Option (List ℕ)) (faults faults_now : ℕ) : Type 0 where
   pub counted : faults ≤ faults_now
   pub paid : state.steps + length rest ≤ length tape
-  pub start : made ≡ tape_start
+  pub start : made ≡ tape_start rules
   pub records : List Record
-  pub stands : Stands tape_start state (steps_of records)
-  pub gathered : Gathered tape rest records answers held now
+  pub stands : Stands (tape_start rules) state (steps_of rules records)
+  pub gathered : Gathered rules first rest records answers held now
 
 pub nothing_handed : (answers : List ℕ) (held : Option (List ℕ)) → HandedOn answers answers held held
 nothing_handed answers held = record { piece = []; written = starts_empty held; whole = refl }
 
-pub first_turn : (tape rest : List ℕ) (start : Start) (state : State) (answers : List ℕ) (held : Option (List ℕ)) (faults : ℕ) → rest ≡ tape → start ≡ tape_start → state ≡ new_state → answers ≡ [] → Turn tape rest start state answers held held faults faults
+pub first_turn : (rules : Rules) (tape first : List ℕ) (start : Start) (state : State) (answers : List ℕ) (held : Option (List ℕ)) (faults : ℕ) → length first ≤ length tape → start ≡ tape_start rules → state ≡ new_state → answers ≡ [] →
+    Turn rules tape first first start state answers held held faults faults
 unfolding IsRecords answers_behind steps_behind
-first_turn tape rest start state answers held faults all started new none = record {
+first_turn rules tape first start state answers held faults within started new none = record {
   counted = omega arith;
-  paid = (let zero : state.steps ≡ 0 = ap (λ s. s.steps) new in omega (arith, zero, ap length all));
+  paid = (let zero : state.steps ≡ 0 = ap (λ s. s.steps) new in omega (arith, zero, within));
   start = started;
   records = [];
-  stands = stands_new tape_start state new;
-  gathered = record { read = sym all; handed = record { piece = []; written = starts_empty held; whole = none } };
+  stands = stands_new (tape_start rules) state new;
+  gathered = record { read = refl; handed = record { piece = []; written = starts_empty held; whole = none } };
 }
 
 -- A record was played.
-pub played_more : (tape rest behind : List ℕ) (records : List Record) (r : Record) (answers more : List ℕ) (h : List Step) (old new : State) (held now : Option (List ℕ)) → h ≡ steps_of records → Stands tape_start old h → PlaysOn r old new answers more →
-    front_of rest ≡ record_and r behind → Gathered tape rest records answers held now → Gathered tape behind (records ++ r ∷ []) more held now
-played_more tape rest behind records r answers more h old new held now is stands plays front gathered = record {
-  read = records_more tape records rest behind r gathered.read front;
+pub played_more : (rules : Rules) (first rest behind : List ℕ) (records : List Record) (r : Record) (answers more : List ℕ) (h : List Step) (old new : State) (held now : Option (List ℕ)) → h ≡ steps_of rules records → Stands (tape_start rules) old h → PlaysOn rules r old new answers more →
+    front_of rest ≡ record_and r behind → Gathered rules first rest records answers held now → Gathered rules first behind (records ++ r ∷ []) more held now
+played_more rules first rest behind records r answers more h old new held now is stands plays front gathered = record {
+  read = records_more first records rest behind r gathered.read front;
   handed = record {
     piece = gathered.handed.piece;
     written = gathered.handed.written;
     whole =
         ap (λ xs. gathered.handed.piece ++ xs) (plays.answer h stands)
-        ∙ sym (append_assoc gathered.handed.piece answers (answer_of h r))
-        ∙ ap (λ xs. xs ++ answer_of h r) gathered.handed.whole
-        ∙ ap (λ x. output records ++ answer_of x r) is
-        ∙ sym (answers_more [] records r);
+        ∙ sym (append_assoc gathered.handed.piece answers (answer_of rules h r))
+        ∙ ap (λ xs. xs ++ answer_of rules h r) gathered.handed.whole
+        ∙ ap (λ x. output rules records ++ answer_of rules x r) is
+        ∙ sym (answers_more rules [] records r);
   };
 }
 
-pub stands_more : (records : List Record) (r : Record) (answers more : List ℕ) (old new : State) → Stands tape_start old (steps_of records) → PlaysOn r old new answers more → Stands tape_start new (steps_of (records ++ r ∷ []))
-stands_more records r answers more old new stands plays =
-    subst (λ h. Stands tape_start new h) (sym (steps_more [] records r)) (plays.stands (steps_of records) stands)
+pub stands_more : (rules : Rules) (records : List Record) (r : Record) (answers more : List ℕ) (old new : State) → Stands (tape_start rules) old (steps_of rules records) → PlaysOn rules r old new answers more → Stands (tape_start rules) new (steps_of rules (records ++ r ∷ []))
+stands_more rules records r answers more old new stands plays =
+    subst (λ h. Stands (tape_start rules) new h) (sym (steps_more rules [] records r)) (plays.stands (steps_of rules records) stands)
 
 -- Answers were handed on.
-pub handed_more : (tape rest : List ℕ) (records : List Record) (answers left : List ℕ) (held now after : Option (List ℕ)) → Gathered tape rest records answers held now → HandedOn answers left now after → Gathered tape rest records left held after
-handed_more tape rest records answers left held now after gathered handed = record {
+pub handed_more : (rules : Rules) (first rest : List ℕ) (records : List Record) (answers left : List ℕ) (held now after : Option (List ℕ)) → Gathered rules first rest records answers held now → HandedOn answers left now after → Gathered rules first rest records left held after
+handed_more rules first rest records answers left held now after gathered handed = record {
   read = gathered.read;
   handed = record {
     piece = gathered.handed.piece ++ handed.piece;
@@ -82,41 +84,48 @@ handed_more tape rest records answers left held now after gathered handed = reco
 }
 
 -- The sink failed in the midst.
-pub breaks : (tape rest : List ℕ) (records : List Record) (answers : List ℕ) (held now after : Option (List ℕ)) (faults faults_now : ℕ) → Gathered tape rest records answers held now → IsPartWritten now answers after → Rose faults faults_now → Broken tape held after faults faults_now
-breaks tape rest records answers held now after faults faults_now gathered part rose = record {
+pub breaks : (rules : Rules) (first rest : List ℕ) (records : List Record) (answers : List ℕ) (held now after : Option (List ℕ)) (faults faults_now : ℕ) → Gathered rules first rest records answers held now → IsPartWritten now answers after → Rose faults faults_now → Broken rules first held after faults faults_now
+breaks rules first rest records answers held now after faults faults_now gathered part rose = record {
   cause = rose;
   records = records;
   rest = rest;
   read = gathered.read;
-  written = part_behind held now after gathered.handed.piece answers (output records) gathered.handed.written part gathered.handed.whole;
+  written = part_behind held now after gathered.handed.piece answers (output rules records) gathered.handed.written part gathered.handed.whole;
 }
 
+-- A switch that was made for a tape's rules has them.
+pub made_so : (rules : Rules) (made : Start) → made ≡ tape_start rules → made ≡ tape_start made.rules
+made_so rules made is = is ∙ ap (λ (s : Start). tape_start s.rules) (sym is)
+
+played_under : (rules : Rules) (made : Start) (r : Record) (old new : State) (answers more : List ℕ) → made ≡ tape_start rules → PlaysOn made.rules r old new answers more → PlaysOn rules r old new answers more
+played_under rules made r old new answers more is plays = subst (λ (s : Start). PlaysOn s.rules r old new answers more) is plays
+
 -- The next turn.
-pub next_turn : (tape rest behind : List ℕ) (made made_now : Start) (old new : State) (r : Record) (answers more left : List ℕ) (held now after : Option (List ℕ)) (faults faults_now faults_after : ℕ) → Turn tape rest made old answers held now faults faults_now →
-    record_and r behind ≡ front_of rest → length behind < length rest → PlaysOn r old new answers more → made_now ≡ tape_start → new.steps ≤ old.steps + 1 → HandedOn more left now after → faults_now ≤ faults_after →
-    Turn tape behind made_now new left held after faults faults_after
-next_turn tape rest behind made made_now old new r answers more left held now after faults faults_now faults_after turn front shorter plays started step handed counted = record {
+pub next_turn : (rules : Rules) (tape first rest behind : List ℕ) (made made_now : Start) (old new : State) (r : Record) (answers more left : List ℕ) (held now after : Option (List ℕ)) (faults faults_now faults_after : ℕ) → Turn rules tape first rest made old answers held now faults faults_now →
+    record_and r behind ≡ front_of rest → length behind < length rest → PlaysOn made.rules r old new answers more → made_now ≡ made → new.steps ≤ old.steps + 1 → HandedOn more left now after → faults_now ≤ faults_after →
+    Turn rules tape first behind made_now new left held after faults faults_after
+next_turn rules tape first rest behind made made_now old new r answers more left held now after faults faults_now faults_after turn front shorter plays started step handed counted = record {
   counted = omega (arith, turn.counted, counted);
   paid = omega (arith, turn.paid, shorter, step);
-  start = started;
+  start = started ∙ turn.start;
   records = turn.records ++ r ∷ [];
-  stands = stands_more turn.records r answers more old new turn.stands plays;
-  gathered = handed_more tape behind (turn.records ++ r ∷ []) more left held now after
-      (played_more tape rest behind turn.records r answers more (steps_of turn.records) old new held now refl turn.stands plays (sym front) turn.gathered)
+  stands = stands_more rules turn.records r answers more old new turn.stands (played_under rules made r old new answers more turn.start plays);
+  gathered = handed_more rules first behind (turn.records ++ r ∷ []) more left held now after
+      (played_more rules first rest behind turn.records r answers more (steps_of rules turn.records) old new held now refl turn.stands (played_under rules made r old new answers more turn.start plays) (sym front) turn.gathered)
       handed;
 }
 
 -- The same turn by what the switch was equal to.
-pub turn_of : (a b : Started) (tape rest : List ℕ) (answers : List ℕ) (held now : Option (List ℕ)) (faults faults_now : ℕ) → a ≡ b → Turn tape rest b.start b.state answers held now faults faults_now → Turn tape rest a.start a.state answers held now faults faults_now
-turn_of a b tape rest answers held now faults faults_now is turn =
-    subst (λ s. Turn tape rest s.start s.state answers held now faults faults_now) (sym is) turn
+pub turn_of : (rules : Rules) (a b : Started) (tape first rest : List ℕ) (answers : List ℕ) (held now : Option (List ℕ)) (faults faults_now : ℕ) → a ≡ b → Turn rules tape first rest b.start b.state answers held now faults faults_now → Turn rules tape first rest a.start a.state answers held now faults faults_now
+turn_of rules a b tape first rest answers held now faults faults_now is turn =
+    subst (λ s. Turn rules tape first rest s.start s.state answers held now faults faults_now) (sym is) turn
 
 -- A turn in which the sink fails.
-pub turn_breaks : (tape rest behind : List ℕ) (made : Start) (old new : State) (r : Record) (answers more : List ℕ) (held now after : Option (List ℕ)) (faults faults_now faults_after : ℕ) → Turn tape rest made old answers held now faults faults_now →
-    record_and r behind ≡ front_of rest → PlaysOn r old new answers more → IsPartWritten now more after → Rose faults_now faults_after → Broken tape held after faults faults_after
-turn_breaks tape rest behind made old new r answers more held now after faults faults_now faults_after turn front plays part rose =
-    breaks tape behind (turn.records ++ r ∷ []) more held now after faults faults_after
-    (played_more tape rest behind turn.records r answers more (steps_of turn.records) old new held now refl turn.stands plays (sym front) turn.gathered)
+pub turn_breaks : (rules : Rules) (tape first rest behind : List ℕ) (made : Start) (old new : State) (r : Record) (answers more : List ℕ) (held now after : Option (List ℕ)) (faults faults_now faults_after : ℕ) → Turn rules tape first rest made old answers held now faults faults_now →
+    record_and r behind ≡ front_of rest → PlaysOn made.rules r old new answers more → IsPartWritten now more after → Rose faults_now faults_after → Broken rules first held after faults faults_after
+turn_breaks rules tape first rest behind made old new r answers more held now after faults faults_now faults_after turn front plays part rose =
+    breaks rules first behind (turn.records ++ r ∷ []) more held now after faults faults_after
+    (played_more rules first rest behind turn.records r answers more (steps_of rules turn.records) old new held now refl turn.stands (played_under rules made r old new answers more turn.start plays) (sym front) turn.gathered)
     part (omega (arith, turn.counted, rose))
 
 -- The status at a place that begins no record which is built.
@@ -132,53 +141,72 @@ pub unbuilt_at : (ending : Ending) (tape rest : List ℕ) (kind : ℕ) → unbui
 unfolding status_at
 unbuilt_at ending tape rest kind front = ap (status_by ending (length tape - length rest) rest) (sym front)
 
-pub stops : (status : Status) (ending : Ending) (tape rest : List ℕ) (made : Start) (state : State) (answers : List ℕ) (held now : Option (List ℕ)) (faults faults_now : ℕ) → Turn tape rest made state answers held now faults faults_now →
-    status_at ending (length tape - length rest) rest ≡ Some status → Stopped status ending tape answers held now
-stops status ending tape rest made state answers held now faults faults_now turn at =
+pub stops : (rules : Rules) (status : Status) (ending : Ending) (tape first rest : List ℕ) (made : Start) (state : State) (answers : List ℕ) (held now : Option (List ℕ)) (faults faults_now : ℕ) → Turn rules tape first rest made state answers held now faults faults_now →
+    status_at ending (length tape - length rest) rest ≡ Some status → Stopped rules status ending tape first answers held now
+stops rules status ending tape first rest made state answers held now faults faults_now turn at =
     record { records = turn.records; rest = rest; gathered = turn.gathered; cause = inl at }
 
+-- The rules that a tape says are those of the switch that was made for them.
+pub ahead_of : (rules : Rules) (made : Start) (tape first : List ℕ) → made ≡ tape_start rules → rules_and rules first ≡ rules_ahead tape → rules_ahead tape ≡ rules_and made.rules first
+ahead_of rules made tape first is ahead = sym ahead ∙ ap (λ (s : Start). rules_and s.rules first) (sym is)
+
 -- How the playing ends, once the last answers are written or the sink failed.
-pub ends_whole : (status : Status) (ending : Ending) (tape answers last : List ℕ) (now : Option (List ℕ)) (w : Writes) → Stopped status ending tape answers w.held now → last ≡ answers → IsWritten now last w.held_after → EndsPlay status ending tape w
-ends_whole status ending tape answers last now w stopped all written_last =
+pub ends_whole : (rules : Rules) (status : Status) (ending : Ending) (tape first answers last : List ℕ) (now : Option (List ℕ)) (w : Writes) → rules_ahead tape ≡ rules_and rules first → Stopped rules status ending tape first answers w.held now → last ≡ answers → IsWritten now last w.held_after → EndsPlay status ending tape w
+ends_whole rules status ending tape first answers last now w ahead stopped all written_last =
     let written : IsWritten now answers w.held_after = subst (λ xs. IsWritten now xs w.held_after) all written_last in
-    let out : IsWritten w.held (output stopped.records) w.held_after =
-    whole_behind w.held now w.held_after stopped.gathered.handed.piece answers (output stopped.records) stopped.gathered.handed.written written stopped.gathered.handed.whole in
-    let first : FirstRecords tape stopped.rest stopped.records = first_records tape stopped.rest stopped.records stopped.gathered.read in
+    let out : IsWritten w.held (output rules stopped.records) w.held_after =
+    whole_behind w.held now w.held_after stopped.gathered.handed.piece answers (output rules stopped.records) stopped.gathered.handed.written written stopped.gathered.handed.whole in
+    let read : FirstRecords rules tape first stopped.rest stopped.records = first_records rules tape first stopped.rest stopped.records ahead stopped.gathered.read in
     elim stopped.cause [
       | inl at ↦ inl (record {
+        rules = rules;
+        first = first;
         records = stopped.records;
         rest = stopped.rest;
-        first = first;
+        read = read;
         ends = at;
-        only = only_reading tape stopped.records stopped.rest stopped.gathered.read (status_stops ending (length tape - length stopped.rest) stopped.rest status at);
+        only = only_reading first stopped.records stopped.rest stopped.gathered.read (status_stops ending (length tape - length stopped.rest) stopped.rest status at);
         written = out;
       })
-      | inr memory ↦ inr (inr (record { is = memory; records = stopped.records; rest = stopped.rest; first = first; written = out }))
+      | inr memory ↦ inr (inr (inl (record { is = memory; rules = rules; first = first; records = stopped.records; rest = stopped.rest; read = read; written = out })))
     ]
 
-pub ends_cut : (status : Status) (ending : Ending) (tape : List ℕ) (w : Writes) → status ≡ WriteFault → Broken tape w.held w.held_after w.faults w.faults_after → EndsPlay status ending tape w
-ends_cut status ending tape w is broken = inr (inl (record {
+pub ends_cut : (rules : Rules) (status : Status) (ending : Ending) (tape first : List ℕ) (w : Writes) → rules_ahead tape ≡ rules_and rules first → status ≡ WriteFault → Broken rules first w.held w.held_after w.faults w.faults_after → EndsPlay status ending tape w
+ends_cut rules status ending tape first w ahead is broken = inr (inl (record {
   is = is;
   cause = broken.cause;
+  rules = rules;
+  first = first;
   records = broken.records;
   rest = broken.rest;
-  first = first_records tape broken.rest broken.records broken.read;
+  read = first_records rules tape first broken.rest broken.records ahead broken.read;
   written = broken.written;
 }))
 
-pub ends_broken : (status : Status) (ending : Ending) (tape answers last : List ℕ) (now : Option (List ℕ)) (w : Writes) → Stopped status ending tape answers w.held now → last ≡ answers → IsPartWritten now last w.held_after → Rose w.faults w.faults_after → EndsPlay WriteFault ending tape w
-ends_broken status ending tape answers last now w stopped all part rose =
-    ends_cut WriteFault ending tape w refl
-    (breaks tape stopped.rest stopped.records answers w.held now w.held_after w.faults w.faults_after stopped.gathered
+pub ends_broken : (rules : Rules) (status : Status) (ending : Ending) (tape first answers last : List ℕ) (now : Option (List ℕ)) (w : Writes) → rules_ahead tape ≡ rules_and rules first → Stopped rules status ending tape first answers w.held now → last ≡ answers → IsPartWritten now last w.held_after → Rose w.faults w.faults_after → EndsPlay WriteFault ending tape w
+ends_broken rules status ending tape first answers last now w ahead stopped all part rose =
+    ends_cut rules WriteFault ending tape first w ahead refl
+    (breaks rules first stopped.rest stopped.records answers w.held now w.held_after w.faults w.faults_after stopped.gathered
     (subst (λ xs. IsPartWritten now xs w.held_after) all part) rose)
 
 -- Memory was wanting before the first record.
-pub ends_early : (ending : Ending) (tape : List ℕ) (w : Writes) → w.held_after ≡ w.held → EndsPlay Memory ending tape w
+pub ends_early : (rules : Rules) (ending : Ending) (tape first : List ℕ) (w : Writes) → rules_ahead tape ≡ rules_and rules first → w.held_after ≡ w.held → EndsPlay Memory ending tape w
 unfolding IsRecords answers_behind
-ends_early ending tape w same = inr (inr (record {
+ends_early rules ending tape first w ahead same = inr (inr (inl (record {
   is = refl;
+  rules = rules;
+  first = first;
   records = [];
-  rest = tape;
-  first = first_records tape tape [] refl;
+  rest = first;
+  read = first_records rules tape first first [] ahead refl;
   written = subst (λ o. IsWritten w.held [] o) (sym same) (starts_empty w.held);
-}))
+})))
+
+-- The tape's rules are cut, or are none.
+pub ends_cut_short : (status : Status) (ending : Ending) (tape : List ℕ) (w : Writes) → less_than_rules ≡ rules_ahead tape → status ≡ cut_status ending 0 tape → w.held_after ≡ w.held → EndsPlay status ending tape w
+ends_cut_short status ending tape w front is same =
+    inr (inr (inr (record { ends = ap (rules_status ending tape) (sym front) ∙ ap Some (sym is); held = same })))
+
+pub ends_ruleless : (ending : Ending) (tape : List ℕ) (w : Writes) → no_rules ≡ rules_ahead tape → w.held_after ≡ w.held → EndsPlay (BadTape 0) ending tape w
+ends_ruleless ending tape w front same =
+    inr (inr (inr (record { ends = ap (rules_status ending tape) (sym front); held = same })))

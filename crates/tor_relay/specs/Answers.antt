@@ -18,16 +18,17 @@ up_bytes (Ups.Full count) = 1 ∷ 1 ∷ to_be_bytes w32 count
 up_bytes Ups.Memory = []
 
 abbrev pub refusal_bytes : OpenRefusal → List ℕ
-refusal_bytes Refusals.BadId = 3 ∷ 1 ∷ []
-refusal_bytes Refusals.InUse = 3 ∷ 2 ∷ []
-refusal_bytes (Refusals.Full count) = 3 ∷ 3 ∷ to_be_bytes w32 count
-refusal_bytes Refusals.BadHandshake = 3 ∷ 4 ∷ []
-refusal_bytes Refusals.NoChannel = 3 ∷ 5 ∷ []
+refusal_bytes Refusals.BadId = 1 ∷ []
+refusal_bytes Refusals.InUse = 2 ∷ []
+refusal_bytes (Refusals.Full count) = 3 ∷ to_be_bytes w32 count
+refusal_bytes Refusals.BadHandshake = 4 ∷ []
+refusal_bytes Refusals.NoChannel = 5 ∷ []
 
-abbrev pub open_bytes : OpenAnswer → List ℕ
-open_bytes (Opens.Opened circ) = 3 ∷ 0 ∷ to_be_bytes w64 circ.0
-open_bytes (Opens.Refused refusal) = refusal_bytes refusal
-open_bytes Opens.Memory = []
+-- An opening's kind is that of its record.
+abbrev pub open_bytes : ℕ → OpenAnswer → List ℕ
+open_bytes kind (Opens.Opened circ) = kind ∷ 0 ∷ to_be_bytes w64 circ.0
+open_bytes kind (Opens.Refused refusal) = kind ∷ refusal_bytes refusal
+open_bytes kind Opens.Memory = []
 
 abbrev pub next_bytes : Option Cell → List ℕ
 next_bytes (Some cell) = 8 ∷ 1 ∷ encoding (wire_cell cell)

@@ -1,4 +1,5 @@
 pub mod Records
+pub mod TapeRules
 pub mod Answers
 pub mod Input
 pub mod Output

@@ -1,5 +1,6 @@
--- What holds while a tape is played.
-use Rattle.std.specs.Prelude.{◌≡◌, ◌⊎◌, ℕ, ◌-◌, List, [], ◌∷◌, ◌++◌, length, Option, Some}
+-- What holds while the records of a tape, from its first one on, are played under its rules.
+use Rattle.std.specs.Prelude.{◌≡◌, ◌⊎◌, ℕ, ◌-◌, List, ◌∷◌, ◌++◌, length, Option, Some}
+use Rattle.circuit_model.specs.Rules.{Rules}
 use Rattle.tr_io.specs.declared.status.Status.{Status}
 use Rattle.tr_io.specs.declared.status.Status.TheVariants.{Memory}
 use Rattle.tr_io.specs.Faults.{Rose}
@@ -8,15 +9,15 @@ use Rattle.switch_model.specs.State.{State}
 use Rattle.switch_model.specs.Stands.{Stands}
 use Rattle.tor_relay.specs.declared.tape.input.Ending.{Ending}
 use Rattle.tor_relay.specs.declared.tape.record.Record.{Record}
-use Rattle.tor_relay.specs.Steps.{tape_start, step_of, answer_of, steps_of, output, IsRecords}
+use Rattle.tor_relay.specs.Steps.{tape_start, step_of, answer_of, output, IsRecords}
 use Rattle.tor_relay.specs.Output.{IsWritten, IsPartWritten}
 use Rattle.tor_relay.specs.Runs.{status_at}
 
 -- Whatever history the switch stood for, it stands for it with the record's step, whose answer is
 -- behind the others.
-pub record PlaysOn (r : Record) (old new : State) (answers more : List ℕ) : Type 0 where
-  pub stands : (h : List Step) → Stands tape_start old h → Stands tape_start new (step_of h r ∷ h)
-  pub answer : (h : List Step) → Stands tape_start old h → more ≡ answers ++ answer_of h r
+pub record PlaysOn (rules : Rules) (r : Record) (old new : State) (answers more : List ℕ) : Type 0 where
+  pub stands : (h : List Step) → Stands (tape_start rules) old h → Stands (tape_start rules) new (step_of rules h r ∷ h)
+  pub answer : (h : List Step) → Stands (tape_start rules) old h → more ≡ answers ++ answer_of rules h r
 
 -- The front of the answers was written, and the others are left.
 pub record HandedOn (answers left : List ℕ) (held now : Option (List ℕ)) : Type 0 where
@@ -25,21 +26,21 @@ pub record HandedOn (answers left : List ℕ) (held now : Option (List ℕ)) : T
   pub whole : piece ++ left ≡ answers
 
 -- These records were played: their answers are written, but for those that are gathered.
-pub record Gathered (tape rest : List ℕ) (records : List Record) (answers : List ℕ) (held now : Option (List ℕ)) : Type 0 where
-  pub read : IsRecords tape records rest
-  pub handed : HandedOn (output records) answers held now
+pub record Gathered (rules : Rules) (first rest : List ℕ) (records : List Record) (answers : List ℕ) (held now : Option (List ℕ)) : Type 0 where
+  pub read : IsRecords first records rest
+  pub handed : HandedOn (output rules records) answers held now
 
 -- The playing stopped at a place that begins no record which is built, or for want of memory.
-pub record Stopped (status : Status) (ending : Ending) (tape answers : List ℕ) (held now : Option (List ℕ)) : Type 0 where
+pub record Stopped (rules : Rules) (status : Status) (ending : Ending) (tape first answers : List ℕ) (held now : Option (List ℕ)) : Type 0 where
   pub records : List Record
   pub rest : List ℕ
-  pub gathered : Gathered tape rest records answers held now
+  pub gathered : Gathered rules first rest records answers held now
   pub cause : (status_at ending (length tape - length rest) rest ≡ Some status) ⊎ (status ≡ Memory)
 
 -- The playing stopped at a fault of the sink.
-pub record Broken (tape : List ℕ) (held now : Option (List ℕ)) (faults faults_now : ℕ) : Type 0 where
+pub record Broken (rules : Rules) (first : List ℕ) (held now : Option (List ℕ)) (faults faults_now : ℕ) : Type 0 where
   pub cause : Rose faults faults_now
   pub records : List Record
   pub rest : List ℕ
-  pub read : IsRecords tape records rest
-  pub written : IsPartWritten held (output records) now
+  pub read : IsRecords first records rest
+  pub written : IsPartWritten held (output rules records) now

@@ -1,8 +1,12 @@
 -- How the records of a tape are spelled. Numbers are big-endian. Each record begins with the byte
 -- that names its kind.
-use Rattle.std.specs.Prelude.{◌≡◌, ◌<◌, ℕ, List, [], ◌∷◌, length, Bool, ◌==◌, ◌||◌, ◌&&◌, not, nat_le, nat_lt, if◌then◌else◌, take, drop, slice_index}
+use Rattle.std.specs.Prelude.{◌≡◌, ◌<◌, ℕ, List, [], ◌∷◌, length, Option, Some, None, Bool, ◌==◌, ◌||◌, ◌&&◌, nat_le, nat_lt, if◌then◌else◌, take, drop, slice_index}
 use Rattle.std.specs.Int.{w32, w64, from_be_bytes}
 use Rattle.tr_io.specs.declared.names.Side.TheVariants.{PeerOpened, WeOpened}
+use Rattle.tor_spec.specs.CellCommands.{create_command, create_fast_command, create2_command}
+use Rattle.tor_relay.specs.declared.tape.record.CircuitRequest.{CircuitRequest}
+use Rattle.tor_relay.specs.declared.tape.record.CreateCommand.{CreateCommand}
+use Rattle.tor_relay.specs.declared.tape.record.CreateCommand.TheVariants.{Create, CreateFast, Create2}
 use Rattle.tor_relay.specs.declared.tape.record.Record.{Record}
 use Rattle.tor_relay.specs.declared.tape.record.Record.TheVariants.{ChannelUp, OpenCircuit, NextCell}
 use Rattle.tor_relay.specs.declared.tape.record.Front.{Front}
@@ -30,24 +34,41 @@ channel_up_front fields =
     then record_and (ChannelUp (from_be_bytes w32 (field 0 4 fields)) WeOpened) (drop 5 fields)
     else no_record))
 
--- The commands that open a circuit: CREATE, CREATE_FAST, CREATE2.
-unfoldable pub opens_circuit : ℕ → Bool
-opens_circuit command = (command == 1) || (command == 5) || (command == 10)
+-- The command that asks for a circuit, by its byte.
+abbrev pub command_of : ℕ → Option CreateCommand
+command_of byte =
+    if byte == create_command then Some Create
+    else (if byte == create_fast_command then Some CreateFast
+    else (if byte == create2_command then Some Create2 else None))
 
-abbrev pub create_fast_record : List ℕ → Record
-create_fast_record fields =
-    OpenCircuit (record { 0 = from_be_bytes w64 (field 0 8 fields) }) (field 8 20 fields) (from_be_bytes w32 (field 28 4 fields)) (field 33 509 fields)
+-- A fixed cell that asks for a circuit: CircID (4 bytes), the command (1), the payload (509).
+abbrev pub request_of : CreateCommand → List ℕ → CircuitRequest
+request_of command cell =
+    record { id = from_be_bytes w32 (field 0 4 cell); command = command; payload = field 5 509 cell }
 
--- 03: channel (8 bytes), Y (20), a fixed cell: CircID (4), a command that opens a circuit (1), and
--- its payload (509). Only CREATE_FAST is built.
-unfoldable pub open_circuit_front : List ℕ → FrontOf
-open_circuit_front fields =
-    if nat_lt (length fields) 33 then less
-    else (if not (opens_circuit (slice_index fields 32)) then no_record
-    else (if nat_lt (length fields) 542 then less
-    else (if slice_index fields 32 == 5
-    then record_and (create_fast_record fields) (drop 542 fields)
-    else unbuilt 3)))
+-- An opening by its first fields, channel (8 bytes) and Y (20), the key of its padding, and its cell.
+abbrev pub open_circuit_record : List ℕ → Option (List ℕ) → CreateCommand → List ℕ → Record
+open_circuit_record head pad command cell =
+    OpenCircuit (record { 0 = from_be_bytes w64 (field 0 8 head) }) (field 8 20 head) pad (request_of command cell)
+
+abbrev pub front_with_command : List ℕ → Option (List ℕ) → Option CreateCommand → List ℕ → FrontOf
+front_with_command head pad (Some command) cell =
+    if nat_lt (length cell) 514 then less
+    else record_and (open_circuit_record head pad command cell) (drop 514 cell)
+front_with_command head pad None cell = no_record
+
+unfoldable pub opening_front : List ℕ → Option (List ℕ) → List ℕ → FrontOf
+opening_front head pad cell =
+    if nat_lt (length cell) 5 then less
+    else front_with_command head pad (command_of (slice_index cell 4)) cell
+
+-- 03: channel and Y, and the cell.
+abbrev pub open_circuit_front : List ℕ → FrontOf
+open_circuit_front fields = opening_front (take 28 fields) None (drop 28 fields)
+
+-- 0f: channel and Y, the key of the padding (16 bytes), and the cell.
+abbrev pub padded_circuit_front : List ℕ → FrontOf
+padded_circuit_front fields = opening_front (take 28 fields) (Some (field 28 16 fields)) (drop 44 fields)
 
 -- 08: channel (8 bytes), tick (8).
 unfoldable pub next_cell_front : List ℕ → FrontOf
@@ -65,7 +86,8 @@ front_of (kind ∷ fields) =
     if kind == 1 then channel_up_front fields
     else (if kind == 3 then open_circuit_front fields
     else (if kind == 8 then next_cell_front fields
-    else (if is_unbuilt kind then unbuilt kind else no_record)))
+    else (if kind == 15 then padded_circuit_front fields
+    else (if is_unbuilt kind then unbuilt kind else no_record))))
 
 -- The code's front, by what its rest points to.
 abbrev pub plain_front : Front → FrontOf

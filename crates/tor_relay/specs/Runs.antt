@@ -1,5 +1,6 @@
 -- How the run of a tape ends: its status, and what is written at each.
 use Rattle.std.specs.Prelude.{◌≡◌, ◌⊎◌, ℕ, ◌-◌, ◌≤◌, List, [], ◌∷◌, ◌++◌, length, Option, Some, None}
+use Rattle.circuit_model.specs.Rules.{Rules}
 use Rattle.tr_io.specs.declared.status.Status.{Status}
 use Rattle.tr_io.specs.declared.status.Status.TheVariants.{Done, ReadFault, WriteFault, BadTape, NotBuilt, TooLong, Memory}
 use Rattle.tr_io.specs.Faults.{Rose}
@@ -8,6 +9,7 @@ use Rattle.tor_relay.specs.declared.tape.input.Ending.TheVariants.{End, Fault, L
 use Rattle.tor_relay.specs.declared.tape.record.Record.{Record}
 use Rattle.tor_relay.specs.Records.{FrontOf, record_and, less, no_record, unbuilt, front_of}
 use Rattle.switch_model.specs.Legal.{IsLegal}
+use Rattle.tor_relay.specs.TapeRules.{RulesFrontOf, rules_and, less_than_rules, no_rules, rules_ahead}
 use Rattle.tor_relay.specs.Steps.{tape_start, steps_of, IsRecords, output}
 use Rattle.tor_relay.specs.Input.{tape_limit, EndCause, IsRead, IsTape}
 use Rattle.tor_relay.specs.Output.{IsWritten, IsPartWritten}
@@ -52,6 +54,12 @@ status_by ending place rest (unbuilt kind) = Some (NotBuilt kind)
 unfoldable pub status_at : Ending → ℕ → List ℕ → Option Status
 status_at ending place rest = status_by ending place rest (front_of rest)
 
+-- The status where a tape's rules are cut, or are none: its place is that of the tape's first byte.
+abbrev pub rules_status : Ending → List ℕ → RulesFrontOf → Option Status
+rules_status ending tape (rules_and rules first) = None
+rules_status ending tape less_than_rules = Some (cut_status ending 0 tape)
+rules_status ending tape no_rules = Some (BadTape 0)
+
 -- These bytes begin no record that is built.
 abbrev pub BeginsNone : List ℕ → Type 0
 BeginsNone bytes = (r : Record) (behind : List ℕ) → front_of bytes ≡ record_and r behind → ⊥
@@ -61,50 +69,64 @@ pub record SameReading (a b : List Record) (x y : List ℕ) : Type 0 where
   pub records : a ≡ b
   pub rest : x ≡ y
 
--- A tape has no other reading, up to a place that begins no record.
+-- The bytes from the first record on have no other reading, up to a place that begins no record.
 abbrev pub IsOnlyReading : List ℕ → List Record → List ℕ → Type 0
-IsOnlyReading tape records rest =
-    (others : List Record) (other : List ℕ) → IsRecords tape others other → BeginsNone other → SameReading records others rest other
+IsOnlyReading first records rest =
+    (others : List Record) (other : List ℕ) → IsRecords first others other → BeginsNone other → SameReading records others rest other
 
--- The answers of some first records are the front of those of the whole tape.
-abbrev pub IsFrontOfOutput : List ℕ → List ℕ → Type 0
-IsFrontOfOutput tape answers =
-    (all : List Record) (rest : List ℕ) → IsRecords tape all rest → BeginsNone rest → (behind : List ℕ) × (output all ≡ answers ++ behind)
+-- The answers of some first records are the front of those of all.
+abbrev pub IsFrontOfOutput : Rules → List ℕ → List ℕ → Type 0
+IsFrontOfOutput rules first answers =
+    (all : List Record) (rest : List ℕ) → IsRecords first all rest → BeginsNone rest → (behind : List ℕ) × (output rules all ≡ answers ++ behind)
 
--- The tape begins with these records. Their steps, each with its answer, are a legal history.
-pub record FirstRecords (tape rest : List ℕ) (records : List Record) : Type 0 where
-  pub read : IsRecords tape records rest
-  pub legal : IsLegal tape_start (steps_of records)
-  pub front : IsFrontOfOutput tape (output records)
+-- Behind its rules the tape has these records. Their steps, each with its answer, are a legal history
+-- of a switch with these rules.
+pub record FirstRecords (rules : Rules) (tape first rest : List ℕ) (records : List Record) : Type 0 where
+  pub ahead : rules_ahead tape ≡ rules_and rules first
+  pub read : IsRecords first records rest
+  pub legal : IsLegal (tape_start rules) (steps_of rules records)
+  pub front : IsFrontOfOutput rules first (output rules records)
 
 -- All of the tape's records were played, up to the first place that begins none, and answered.
 pub record Played (status : Status) (ending : Ending) (tape : List ℕ) (w : Writes) : Type 0 where
+  pub rules : Rules
+  pub first : List ℕ
   pub records : List Record
   pub rest : List ℕ
-  pub first : FirstRecords tape rest records
+  pub read : FirstRecords rules tape first rest records
   pub ends : status_at ending (length tape - length rest) rest ≡ Some status
-  pub only : IsOnlyReading tape records rest
-  pub written : IsWritten w.held (output records) w.held_after
+  pub only : IsOnlyReading first records rest
+  pub written : IsWritten w.held (output rules records) w.held_after
 
 -- The sink failed: a front of the output was written.
 pub record CutOff (status : Status) (tape : List ℕ) (w : Writes) : Type 0 where
   pub is : status ≡ WriteFault
   pub cause : Rose w.faults w.faults_after
+  pub rules : Rules
+  pub first : List ℕ
   pub records : List Record
   pub rest : List ℕ
-  pub first : FirstRecords tape rest records
-  pub written : IsPartWritten w.held (output records) w.held_after
+  pub read : FirstRecords rules tape first rest records
+  pub written : IsPartWritten w.held (output rules records) w.held_after
 
 -- Memory was wanting at some record: the answers of those before it were written, each whole.
 pub record OutOfMemory (status : Status) (tape : List ℕ) (w : Writes) : Type 0 where
   pub is : status ≡ Memory
+  pub rules : Rules
+  pub first : List ℕ
   pub records : List Record
   pub rest : List ℕ
-  pub first : FirstRecords tape rest records
-  pub written : IsWritten w.held (output records) w.held_after
+  pub read : FirstRecords rules tape first rest records
+  pub written : IsWritten w.held (output rules records) w.held_after
+
+-- The tape's rules are cut, or are none: nothing was played.
+pub record NotBegun (status : Status) (ending : Ending) (tape : List ℕ) (w : Writes) : Type 0 where
+  pub ends : rules_status ending tape (rules_ahead tape) ≡ Some status
+  pub held : w.held_after ≡ w.held
 
 abbrev pub EndsPlay : Status → Ending → List ℕ → Writes → Type 0
-EndsPlay status ending tape w = Played status ending tape w ⊎ (CutOff status tape w ⊎ OutOfMemory status tape w)
+EndsPlay status ending tape w =
+    Played status ending tape w ⊎ (CutOff status tape w ⊎ (OutOfMemory status tape w ⊎ NotBegun status ending tape w))
 
 -- The tape was read, up to the end, a fault or the limit, and played.
 pub record Finished (status : Status) (r : Reads) (w : Writes) : Type 0 where
@@ -125,16 +147,18 @@ pub record Unread (status : Status) (r : Reads) (w : Writes) : Type 0 where
 unfoldable pub IsRun : Status → Reads → Writes → Type 0
 IsRun status r w = Finished status r w ⊎ Unread status r w
 
--- A run of a tape that is these records and nothing else: all is done, and all answers are written,
--- unless memory was wanting.
-unfoldable pub IsDone : Status → List Record → Writes → Type 0
-IsDone status records w = ((status ≡ Done) × IsWritten w.held (output records) w.held_after) ⊎ (status ≡ Memory)
+-- A run of a tape that is rules and these records and nothing else: all is done, and all answers are
+-- written, unless memory was wanting.
+unfoldable pub IsDone : Status → Rules → List Record → Writes → Type 0
+IsDone status rules records w = ((status ≡ Done) × IsWritten w.held (output rules records) w.held_after) ⊎ (status ≡ Memory)
 
--- What makes a run end so: the source tells a tape that is these records and nothing else, it isn't
--- too long, and neither source nor sink failed.
-pub record IsGood (tape : List ℕ) (records : List Record) (r : Reads) (w : Writes) : Type 0 where
+-- What makes a run end so: the source tells a tape that is rules and these records and nothing else, it
+-- isn't too long, and neither source nor sink failed.
+pub record IsGood (tape : List ℕ) (rules : Rules) (records : List Record) (r : Reads) (w : Writes) : Type 0 where
   pub told : r.left ≡ Some tape
-  pub whole : IsRecords tape records []
+  pub first : List ℕ
+  pub ahead : rules_ahead tape ≡ rules_and rules first
+  pub whole : IsRecords first records []
   pub short : length tape ≤ tape_limit
   pub reading : Rose r.faults r.faults_after → ⊥
   pub writing : Rose w.faults w.faults_after → ⊥

@@ -19,20 +19,20 @@ pub fn write_up(answer: UpAnswer, out: &mut Vec<u8>) -> Result<(), AllocError>
     }
 }
 
-/// Appends the answer of `open_circuit`.
-pub fn write_open(answer: OpenAnswer, out: &mut Vec<u8>) -> Result<(), AllocError>
-    ensures ok { OnOk result (out.new.items ≡ out.old.items ++ open_bytes answer) }
+/// Appends the answer of `open_circuit` to a record of this kind.
+pub fn write_open(kind: u8, answer: OpenAnswer, out: &mut Vec<u8>) -> Result<(), AllocError>
+    ensures ok { OnOk result (out.new.items ≡ out.old.items ++ open_bytes kind answer) }
     ensures err { OnErr result (out.new.items ≡ out.old.items) }
 {
     match answer {
-        OpenAnswer::Opened(circ) => write_numbered([3, 0], &circ.0.to_be_bytes(), out),
-        OpenAnswer::Refused(OpenRefusal::BadId) => out.extend_from_slice(&[3, 1]),
-        OpenAnswer::Refused(OpenRefusal::InUse) => out.extend_from_slice(&[3, 2]),
+        OpenAnswer::Opened(circ) => write_numbered([kind, 0], &circ.0.to_be_bytes(), out),
+        OpenAnswer::Refused(OpenRefusal::BadId) => out.extend_from_slice(&[kind, 1]),
+        OpenAnswer::Refused(OpenRefusal::InUse) => out.extend_from_slice(&[kind, 2]),
         OpenAnswer::Refused(OpenRefusal::Full(count)) => {
-            write_numbered([3, 3], &count.to_be_bytes(), out)
+            write_numbered([kind, 3], &count.to_be_bytes(), out)
         }
-        OpenAnswer::Refused(OpenRefusal::BadHandshake) => out.extend_from_slice(&[3, 4]),
-        OpenAnswer::Refused(OpenRefusal::NoChannel) => out.extend_from_slice(&[3, 5]),
+        OpenAnswer::Refused(OpenRefusal::BadHandshake) => out.extend_from_slice(&[kind, 4]),
+        OpenAnswer::Refused(OpenRefusal::NoChannel) => out.extend_from_slice(&[kind, 5]),
         OpenAnswer::Memory => Ok(()),
     }
 }

@@ -1,41 +1,41 @@
 //! Makes the calls of a tape's records, and gathers their answers.
 ghost use Rattle.std.specs.Prelude.{◌≡◌, ◌+◌, ◌<◌, ◌≤◌, ◌^◌, [], IfOk, OnOk, OnErr};
-ghost use Rattle.switch_core.specs.Meaning.{rules_of};
+ghost use Rattle.circ_relay.specs.Values.{rules_of};
 ghost use Rattle.switch_model.specs.Machine.{new_state};
 ghost use Rattle.tor_relay.specs.Playing.{PlaysOn};
+ghost use Rattle.tor_relay.specs.Spelling.{opening_kind};
 ghost use Rattle.tor_relay.specs.Steps.{tape_start};
+ghost use Rattle.tor_relay.specs.TapeRules.{tape_rules};
 
 use crate::tape::answers::{write_next, write_open, write_up};
 use crate::tape::record::Record;
+use crate::tape::rules::TapeRules;
 use cell_codec::{Body, Bytes, Cell, List};
+use circ_relay::{Allow, Rules};
+use hop_handshake::{FastHandshake, opening_of};
 use std::alloc::{AllocError, Global};
 use switch_core::Switch;
-use switch_core::opening::opening_of;
-use switch_core::rules::{Allow, Rules};
 use tr_io::answers::{OpenAnswer, UpAnswer};
 use tr_io::names::Dest;
-
-/// The command of the cells that open a circuit without a public key (tor-spec, "CREATE_FAST/CREATED_FAST
-/// cells").
-const CREATE_FAST: u8 = 5;
 
 /// A switch that a tape is played on, and the answers that aren't written yet.
 #[derive(Drop)]
 pub struct Player {
+    alloc: Global,
     switch: Switch,
     answers: Vec<u8>,
 }
 
 impl Player {
-    /// A player over the tape's switch: its name is 0, and its rules lead `echo.test`, port 7, to
-    /// 127.0.0.1, port 7.
-    pub fn new(alloc: Global) -> Result<Player, AllocError>
-        ensures start { IfOk result (λ p. p.switch.start ≡ tape_start) }
+    /// A player over the tape's switch: its name is 0, and it has the tape's rules.
+    pub fn new(alloc: Global, rules: &TapeRules) -> Result<Player, AllocError>
+        ensures start { IfOk result (λ p. p.switch.start ≡ tape_start (tape_rules rules.now.window rules.now.least)) }
         ensures state { IfOk result (λ p. p.switch.state ≡ new_state) }
         ensures answers { IfOk result (λ p. p.answers.items ≡ []) }
     {
         Ok(Player {
-            switch: Switch::new(alloc, 0, tape_rules(alloc)?)?,
+            alloc,
+            switch: Switch::new(alloc, 0, switch_rules(alloc, rules)?)?,
             answers: Vec::new(alloc),
         })
     }
@@ -58,11 +58,11 @@ impl Player {
     /// Makes a record's call, and gathers its answer. Where memory is wanting, the answers before
     /// it stay.
     pub fn play(&mut self, record: Record) -> Result<(), AllocError>
-        requires start { self.old.switch.start ≡ tape_start }
+        requires start { self.old.switch.start ≡ tape_start self.old.switch.start.rules }
         requires steps { self.old.switch.state.steps < 2 ^ 62 }
-        ensures start { self.new.switch.start ≡ tape_start }
+        ensures start { self.new.switch.start ≡ self.old.switch.start }
         ensures steps { self.new.switch.state.steps ≤ self.old.switch.state.steps + 1 }
-        ensures ok { OnOk result (PlaysOn «record» self.old.switch.state self.new.switch.state self.old.answers.items self.new.answers.items) }
+        ensures ok { OnOk result (PlaysOn self.old.switch.start.rules «record» self.old.switch.state self.new.switch.state self.old.answers.items self.new.answers.items) }
         ensures err { OnErr result (self.new.answers.items ≡ self.old.answers.items) }
     {
         match record {
@@ -70,16 +70,16 @@ impl Player {
                 UpAnswer::Memory => Err(AllocError),
                 answer => write_up(answer, &mut self.answers),
             },
-            Record::OpenCircuit(chan, y, id, payload) => {
+            Record::OpenCircuit(chan, y, pad, request) => {
                 let cell = Cell {
-                    circ: id,
-                    command: CREATE_FAST,
-                    body: Body::Fixed(payload),
+                    circ: request.id,
+                    command: request.command.byte(),
+                    body: Body::Fixed(request.payload),
                 };
-                let opening = opening_of(&cell, &y)?;
-                match self.switch.open_circuit(chan, id, &opening) {
+                let opening = opening_of(self.alloc, &cell, &FastHandshake, &y, pad)?;
+                match self.switch.open_circuit(chan, cell.circ, &opening) {
                     OpenAnswer::Memory => Err(AllocError),
-                    answer => write_open(answer, &mut self.answers),
+                    answer => write_open(opening_kind(pad), answer, &mut self.answers),
                 }
             }
             Record::NextCell(chan, tick) => {
@@ -90,9 +90,19 @@ impl Player {
     }
 }
 
-/// The rules of the tape's switch.
-fn tape_rules(alloc: Global) -> Result<Rules, AllocError>
-    ensures { IfOk result (λ rules. rules_of rules ≡ tape_start.rules) }
+/// The kind of an opening's record, with or without a key of the padding.
+fn opening_kind(pad: Option<[u8; 16]>) -> u8
+    ensures { result ≡ opening_kind pad }
+{
+    match pad {
+        Some(_) => 0x0f,
+        None => 0x03,
+    }
+}
+
+/// The switch's rules: those of the tape, and `echo.test`, port 7, leads to 127.0.0.1, port 7.
+fn switch_rules(alloc: Global, rules: &TapeRules) -> Result<Rules, AllocError>
+    ensures { IfOk result (λ r. rules_of r ≡ tape_rules rules.now.window rules.now.least) }
 {
     let mut allow = List::new(alloc);
     allow.push(Allow {
@@ -103,5 +113,9 @@ fn tape_rules(alloc: Global) -> Result<Rules, AllocError>
             port: 7,
         },
     })?;
-    Ok(Rules { allow })
+    Ok(Rules {
+        allow,
+        window: rules.window,
+        least: rules.least,
+    })
 }

@@ -2,10 +2,14 @@
 ghost use Rattle.std.specs.Prelude.{◌≡◌, ◌+◌, ◌≤◌, ◌++◌, ℕ, List, length, take, drop};
 ghost use Rattle.tor_relay.specs.declared.tape.record.Record.{Record as RecordValue};
 ghost use Rattle.tor_relay.specs.Spelling.{spelling, FitsFields};
-ghost use Rattle.tor_relay.specs.Records.{record_and, FrontIs, RestIsShorter, front_of, channel_up_front, open_circuit_front, next_cell_front, opens_circuit, create_fast_record};
+ghost use Rattle.tor_relay.specs.Records.{record_and, FrontIs, RestIsShorter, front_of, channel_up_front, open_circuit_front, padded_circuit_front, opening_front, next_cell_front, command_of, open_circuit_record};
 
-use crate::tape::record::{Front, Record};
+use crate::tape::record::{CircuitRequest, CreateCommand, Front, Record};
+use cell_codec::command::{CREATE, CREATE_FAST, CREATE2};
 use tr_io::names::{ChanNo, Side};
+
+/// How many bytes an opening's channel and Y have.
+const HEAD: usize = 28;
 
 /// Reads the record at the front of the bytes: whatever spells one is read as it, and what is read
 /// as one spells it.
@@ -32,6 +36,7 @@ fn front(bytes: &[u8]) -> Front<'_>
         0x01 => channel_up(fields),
         0x03 => open_circuit(fields),
         0x08 => next_cell(fields),
+        0x0f => padded_circuit(fields),
         0x02 | 0x04..=0x07 | 0x09..=0x0e => Front::NotBuilt(*kind),
         _ => Front::Bad,
     }
@@ -54,42 +59,76 @@ fn channel_up(fields: &[u8]) -> Front<'_>
     Front::Whole(Record::ChannelUp(slot, side), &fields[5..])
 }
 
-#[tactic(auto, using(crate::proofs::Openings::opened), unfolding(crate::specs::Records::open_circuit_front))]
 fn open_circuit(fields: &[u8]) -> Front<'_>
     ensures front { FrontIs result (open_circuit_front fields.now) }
     ensures shorter { RestIsShorter result (length fields.now + 1) }
 {
-    if fields.len() < 33 {
-        return Front::Cut;
+    match fields.split_first_chunk::<HEAD>() {
+        Some((head, cell)) => opening(head, None, cell),
+        None => Front::Cut,
     }
-    if !opens_circuit(fields[32]) {
-        return Front::Bad;
-    }
-    let Some((_, rest)) = fields.split_first_chunk::<542>() else {
+}
+
+fn padded_circuit(fields: &[u8]) -> Front<'_>
+    ensures front { FrontIs result (padded_circuit_front fields.now) }
+    ensures shorter { RestIsShorter result (length fields.now + 1) }
+{
+    let Some((head, rest)) = fields.split_first_chunk::<HEAD>() else {
         return Front::Cut;
     };
-    if fields[32] != 5 {
-        return Front::NotBuilt(3);
+    match rest.split_first_chunk::<16>() {
+        Some((pad, cell)) => opening(head, Some(*pad), cell),
+        None => Front::Cut,
     }
-    Front::Whole(create_fast(fields), rest)
 }
 
-/// The record of a CREATE_FAST cell, whose fields are all there.
-fn create_fast(fields: &[u8]) -> Record
-    requires { 542 ≤ length fields.now }
-    ensures { result ≡ create_fast_record fields.now }
+/// An opening by its channel and Y, the key of its padding, and its cell with what is behind it.
+#[tactic(auto, using(crate::proofs::Openings::opened), unfolding(crate::specs::Records::opening_front))]
+fn opening<'a>(head: &[u8; HEAD], pad: Option<[u8; 16]>, cell: &'a [u8]) -> Front<'a>
+    ensures front { FrontIs result (opening_front head.now pad cell.now) }
+    ensures shorter { RestIsShorter result (length cell.now + 1) }
 {
-    let chan = ChanNo(u64::from_be_bytes(field(fields, 0)));
-    let id = u32::from_be_bytes(field(fields, 28));
-    Record::OpenCircuit(chan, field(fields, 8), id, field(fields, 33))
+    if cell.len() < 5 {
+        return Front::Cut;
+    }
+    let Some(command) = command_of(cell[4]) else {
+        return Front::Bad;
+    };
+    let Some((_, rest)) = cell.split_first_chunk::<514>() else {
+        return Front::Cut;
+    };
+    Front::Whole(open_circuit_record(head, pad, command, cell), rest)
 }
 
-/// Whether a command opens a circuit: CREATE, CREATE_FAST or CREATE2.
-#[tactic(auto, unfolding(crate::specs::Records::opens_circuit))]
-fn opens_circuit(command: u8) -> bool
-    ensures { result ≡ opens_circuit command }
+/// The record of an opening, whose cell is all there.
+fn open_circuit_record(
+    head: &[u8; HEAD],
+    pad: Option<[u8; 16]>,
+    command: CreateCommand,
+    cell: &[u8],
+) -> Record
+    requires { 514 ≤ length cell.now }
+    ensures { result ≡ open_circuit_record head.now pad command cell.now }
 {
-    matches!(command, 1 | 5 | 10)
+    let chan = ChanNo(u64::from_be_bytes(field(head, 0)));
+    let request = CircuitRequest {
+        id: u32::from_be_bytes(field(cell, 0)),
+        command,
+        payload: field(cell, 5),
+    };
+    Record::OpenCircuit(chan, field(head, 8), pad, request)
+}
+
+/// The command that asks for a circuit, if this byte is one.
+fn command_of(byte: u8) -> Option<CreateCommand>
+    ensures { result ≡ command_of byte }
+{
+    match byte {
+        CREATE => Some(CreateCommand::Create),
+        CREATE_FAST => Some(CreateCommand::CreateFast),
+        CREATE2 => Some(CreateCommand::Create2),
+        _ => None,
+    }
 }
 
 #[tactic(auto, unfolding(crate::specs::Records::next_cell_front))]
@@ -106,7 +145,7 @@ fn next_cell(fields: &[u8]) -> Front<'_>
 }
 
 /// `N` bytes from an offset on.
-fn field<const N: usize>(bytes: &[u8], at: usize) -> [u8; N]
+pub fn field<const N: usize>(bytes: &[u8], at: usize) -> [u8; N]
     requires { at + N ≤ length bytes.now }
     ensures { result ≡ take N (drop at bytes.now) }
 {

@@ -1,5 +1,6 @@
 //! Plays a tape from its source to its sink.
 ghost use Rattle.std.specs.Prelude.{◌≡◌, ◌-◌, ◌≤◌, ℕ, [], List, Some, true, false, IfOk, OnOk, OnErr, map, length, string_bytes};
+ghost use Rattle.circuit_model.specs.Rules.{Rules};
 ghost use Rattle.switch_model.specs.Machine.{new_state};
 ghost use Rattle.tr_io.specs.Faults.{Rose};
 ghost use Rattle.tor_relay.specs.declared.tape.record.Record.{Record};
@@ -9,12 +10,15 @@ ghost use Rattle.tor_relay.specs.Output.{IsWritten, IsPartWritten};
 ghost use Rattle.tor_relay.specs.Playing.{HandedOn, Stopped, Broken};
 ghost use Rattle.tor_relay.specs.Runs.{cut_status, reads, writes, EndsPlay, IsRun, IsGood, IsDone};
 ghost use Rattle.tor_relay.specs.Steps.{tape_start};
+ghost use Rattle.tor_relay.specs.TapeRules.{tape_rules, rules_and, rules_ahead};
 
 use crate::tape::input::{Ending, Input, read_tape};
 use crate::tape::output::{WriteFault, flush, write_all};
 use crate::tape::player::Player;
 use crate::tape::reader::read_front;
 use crate::tape::record::Front;
+use crate::tape::rules::{RulesFront, TapeRules};
+use crate::tape::rules_reader::read_rules;
 use std::alloc::Global;
 use tr_io::sink::Sink;
 use tr_io::source::Source;
@@ -40,10 +44,10 @@ pub fn tape_main<S: Source, K: Sink>(
     ensures run { is_tape_line (map string_bytes words.now) ≡ true → IsRun result
         (reads (S.left source.old) (S.faults source.old) (S.left source.new) (S.faults source.new))
         (writes (K.written sink.old) (K.faults sink.old) (K.written sink.new) (K.faults sink.new)) }
-    ensures done { is_tape_line (map string_bytes words.now) ≡ true → (tape : List ℕ) (records : List Record) → IsGood tape records
+    ensures done { is_tape_line (map string_bytes words.now) ≡ true → (tape : List ℕ) (rules : Rules) (records : List Record) → IsGood tape rules records
         (reads (S.left source.old) (S.faults source.old) (S.left source.new) (S.faults source.new))
         (writes (K.written sink.old) (K.faults sink.old) (K.written sink.new) (K.faults sink.new)) →
-        IsDone result records (writes (K.written sink.old) (K.faults sink.old) (K.written sink.new) (K.faults sink.new)) }
+        IsDone result rules records (writes (K.written sink.old) (K.faults sink.old) (K.written sink.new) (K.faults sink.new)) }
 {
     if !is_tape_line(words) {
         return Status::Usage;
@@ -64,17 +68,41 @@ fn is_tape_line(words: &[String]) -> bool
     }
 }
 
-/// Plays a tape whose bytes are read, and writes all of its answers.
+/// Plays a tape whose bytes are read, under the rules that it says, and writes all of its answers.
 fn play<K: Sink>(alloc: Global, input: &Input, sink: &mut K) -> Status
     ensures status { IsRunStatus result }
     ensures read { result ≡ Status.ReadFault → input.now.ending ≡ Ending.Fault }
     ensures write { result ≡ Status.WriteFault → Rose (K.faults sink.old) (K.faults sink.new) }
     ensures play { EndsPlay result input.now.ending input.now.bytes.items (writes (K.written sink.old) (K.faults sink.old) (K.written sink.new) (K.faults sink.new)) }
 {
-    let Ok(mut player) = Player::new(alloc) else {
+    let tape = input.bytes.as_slice();
+    match read_rules(tape) {
+        RulesFront::Whole(rules, first) => play_under(alloc, &rules, input, first, sink),
+        RulesFront::Cut => cut_status(input.ending, 0, tape),
+        RulesFront::Bad => Status::BadTape(0),
+    }
+}
+
+/// Plays the records of a tape with these rules, from the first one on, and writes all of its
+/// answers.
+fn play_under<K: Sink>(
+    alloc: Global,
+    rules: &TapeRules,
+    input: &Input,
+    first: &[u8],
+    sink: &mut K,
+) -> Status
+    requires ahead { rules_and (tape_rules rules.now.window rules.now.least) first.now ≡ rules_ahead input.now.bytes.items }
+    requires within { length first.now ≤ length input.now.bytes.items }
+    ensures status { IsRunStatus result }
+    ensures read { result ≡ Status.ReadFault → input.now.ending ≡ Ending.Fault }
+    ensures write { result ≡ Status.WriteFault → Rose (K.faults sink.old) (K.faults sink.new) }
+    ensures play { EndsPlay result input.now.ending input.now.bytes.items (writes (K.written sink.old) (K.faults sink.old) (K.written sink.new) (K.faults sink.new)) }
+{
+    let Ok(mut player) = Player::new(alloc, rules) else {
         return Status::Memory;
     };
-    let status = match play_records(&mut player, input, sink) {
+    let status = match play_records(&mut player, input, first, sink) {
         Ok(status) => status,
         Err(WriteFault) => return Status::WriteFault,
     };
@@ -84,24 +112,27 @@ fn play<K: Sink>(alloc: Global, input: &Input, sink: &mut K) -> Status
     }
 }
 
-/// Plays the records one after another, up to one that isn't whole. The last answers stay gathered.
+/// Plays the records one after another, from the first on, up to one that isn't whole. The last
+/// answers stay gathered.
 fn play_records<K: Sink>(
     player: &mut Player,
     input: &Input,
+    first: &[u8],
     sink: &mut K,
 ) -> Result<Status, WriteFault>
-    requires start { player.old.switch.start ≡ tape_start }
+    requires start { player.old.switch.start ≡ tape_start player.old.switch.start.rules }
+    requires within { length first.now ≤ length input.now.bytes.items }
     requires state { player.old.switch.state ≡ new_state }
     requires answers { player.old.answers.items ≡ [] }
     ensures status { IfOk result IsRunStatus }
     ensures read { IfOk result (λ status. status ≡ Status.ReadFault → input.now.ending ≡ Ending.Fault) }
     ensures written { IfOk result (λ status. ¬ (status ≡ Status.WriteFault)) }
     ensures counted { K.faults sink.old ≤ K.faults sink.new }
-    ensures stopped { IfOk result (λ status. Stopped status input.now.ending input.now.bytes.items player.new.answers.items (K.written sink.old) (K.written sink.new)) }
-    ensures broken { OnErr result (Broken input.now.bytes.items (K.written sink.old) (K.written sink.new) (K.faults sink.old) (K.faults sink.new)) }
+    ensures stopped { IfOk result (λ status. Stopped player.old.switch.start.rules status input.now.ending input.now.bytes.items first.now player.new.answers.items (K.written sink.old) (K.written sink.new)) }
+    ensures broken { OnErr result (Broken player.old.switch.start.rules first.now (K.written sink.old) (K.written sink.new) (K.faults sink.old) (K.faults sink.new)) }
 {
     let tape = input.bytes.as_slice();
-    let mut rest = tape;
+    let mut rest = first;
     loop {
         let place = (tape.len() - rest.len()) as u64;
         match read_front(rest) {

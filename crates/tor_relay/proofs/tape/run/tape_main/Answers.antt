@@ -1,4 +1,4 @@
-use Rattle.std.proofs.Common.{◌≡◌, refl}
+use Rattle.std.proofs.Common.{refl}
 use Rattle.tor_relay.proofs.Readings.{run_done, finished, unread}
 use Rattle.tor_relay.proofs.tape.run.tape_main.Goals as goal
 
