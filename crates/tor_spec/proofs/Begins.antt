@@ -11,12 +11,12 @@ use Rattle.std.proofs.lemmas.Bool.Decides.{nat_tests}
 use Rattle.std.proofs.lemmas.Bool.{le-leb}
 use Rattle.std.proofs.lemmas.List.{get_or-take, get_or-reverse, length-reverse, get_or_append_left}
 use Rattle.std.proofs.lemmas.List.Elements.{All-append, All-from_get_or}
-use Rattle.std.proofs.lemmas.List.Folds.{list_any_at, Any-from_list_any}
+use Rattle.std.proofs.lemmas.List.Folds.{list_any_at, list_any_none, Any-from_list_any}
 use Rattle.std.proofs.lemmas.List.Sums.{passes_at_first, fails_before_first, split_at_first}
 use Rattle.std.proofs.lemmas.Bool.{leb-true, eqb-true, ltb-true, ltb-false}
 use Rattle.std.proofs.lemmas.List.Sums.{position_or_len_is}
 use Rattle.std.proofs.Math.Seq.{split_at, get_or-append_seam, take-append_seam, get_or-append_right, drop-append-add}
-use Rattle.tor_spec.specs.Begin.{is_colon, Target, IsHost, SpellsTarget, is_host_length, is_port_text, port_of_text, split_at_last_colon, target_of_parts, target_of_text, begin_target, begin_payload}
+use Rattle.tor_spec.specs.Begin.{is_colon, Target, IsHost, SpellsTarget, is_host_length, is_host_name, is_port_text, port_of_text, split_at_last_colon, target_of_parts, target_of_text, begin_target, begin_payload}
 use Rattle.tor_spec.specs.Decimal.{decimal_value, decimal_digits}
 use Rattle.tor_spec.specs.Resolve.{SpellsHost, resolve_host, resolve_payload}
 use Rattle.tor_spec.specs.Text.{is_zero_byte, terminated_text}
@@ -76,6 +76,21 @@ other_bytes text byte is outside =
     let high : byte ≤ 57 = subst (λ b. b ≤ 57) same digit.1 in
     elim outside [ inl h ↦ absurd (omega arith) | inr h ↦ absurd (omega arith) ])
 
+-- A host without zero bytes.
+no_zero_found : (host : List ℕ) → All (λ b. b ≢ 0) host → list_any is_zero_byte host ≡ false
+no_zero_found host no_zero =
+    list_any_none is_zero_byte host
+    (All-from_get_or (λ b. is_zero_byte b ≡ false) host 0 (λ k below. zero_test (get_or host k 0) (no_zero k 0 below)))
+
+named_by_length : (b other : Bool) → other ≡ false → (b && not other) ≡ b
+named_by_length true other none = ap not none
+named_by_length false other none = refl
+
+host_by_length : (host : List ℕ) → All (λ b. b ≢ 0) host → is_host_name host ≡ is_host_length (length host)
+unfolding is_host_name
+host_by_length host no_zero =
+    named_by_length (is_host_length (length host)) (list_any is_zero_byte host) (no_zero_found host no_zero)
+
 target_of_spelling : (host text : List ℕ) (port : ℕ) → IsHost host → port_of_text text ≡ Some port
     → target_of_text (host ++ 58 ∷ text) ≡ Some (record { host = host; port = port })
 unfolding target_of_text target_of_parts is_host_length
@@ -84,6 +99,7 @@ target_of_spelling host text port is_host is_port =
     let found = option_map target (port_of_text text) in
     ap (option_and_then target_of_parts)
     (split_at_last_colon-append host text (other_bytes text 58 (port_bytes text port is_port) (inr (lit< tt))))
+    ∙ ap (λ b. cond b found None) (host_by_length host is_host.no_zero_byte)
     ∙ ap (λ b. cond (b && leb (length host) 255) found None) (le-leb 1 (length host) is_host.nonempty)
     ∙ ap (λ b. cond b found None) (le-leb (length host) 255 is_host.short)
     ∙ ap (option_map target) is_port
@@ -226,10 +242,21 @@ if_some : {X : Type 0} (b : Bool) (o : Option X) (y : X) → cond b o None ≡ S
 if_some true o y e = (refl, e)
 if_some false o y e = cc
 
+-- A host in front of the last colon of a text that a zero byte ends has none itself.
+pub cut_host : (payload text host port : List ℕ) → terminated_text payload ≡ Some text → split_at_last_colon text ≡ Some (host, port)
+    → is_host_name host ≡ is_host_length (length host)
+cut_host payload text host port ended cut =
+    let whole = (terminated_text_is payload text ended).2 in
+    let spelled : text ≡ host ++ 58 ∷ port = split_at_last_colon_is text (host, port) cut in
+    let no_zero : All (λ b. b ≢ 0) (host ++ 58 ∷ port) = subst (λ t. All (λ b. b ≢ 0) t) spelled whole in
+    let long : length (host ++ 58 ∷ port) ≡ length host + suc (length port) = length-append host (58 ∷ port) in
+    host_by_length host
+    (λ k d below same. no_zero k d (omega arith) (get_or_append_left host (58 ∷ port) d k below ∙ same))
+
 -- What is read from a BEGIN is what it spells.
 pub read_target_is_spelled : (payload : List ℕ) (target : Target) → begin_target payload ≡ Some target
     → SpellsTarget payload target.host target.port
-unfolding begin_target target_of_text target_of_parts is_host_length
+unfolding begin_target target_of_text target_of_parts is_host_name is_host_length
 read_target_is_spelled payload target is =
     let make : List ℕ → ℕ → Target = λ host port. record { host = host; port = port } in
     let read = then_some target_of_text (terminated_text payload) target is in
@@ -239,8 +266,10 @@ read_target_is_spelled payload target is =
     let host = cut.0.0 in
     let port_text = cut.0.1 in
     let spelled : text ≡ host ++ 58 ∷ port_text = split_at_last_colon_is text cut.0 cut.1 in
-    let tests = if_some (leb 1 (length host) && leb (length host) 255) (option_map (make host) (port_of_text port_text)) target cut.2 in
-    let sizes = and_true (leb 1 (length host)) (leb (length host) 255) tests.0 in
+    let size = leb 1 (length host) && leb (length host) 255 in
+    let other = not (list_any is_zero_byte host) in
+    let tests = if_some (size && other) (option_map (make host) (port_of_text port_text)) target cut.2 in
+    let sizes = and_true (leb 1 (length host)) (leb (length host) 255) (and_true size other tests.0).0 in
     let port = map_some (make host) (port_of_text port_text) target tests.1 in
     let no_zero : All (λ b. b ≢ 0) (host ++ 58 ∷ port_text) = subst (λ t. All (λ b. b ≢ 0) t) spelled ended.2 in
     let long : length (host ++ 58 ∷ port_text) ≡ length host + suc (length port_text) = length-append host (58 ∷ port_text) in

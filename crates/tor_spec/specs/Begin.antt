@@ -1,11 +1,11 @@
 -- The payload of BEGIN (tor-spec, "Opening streams and transferring data"): where the client
 -- wants to be connected to, as "host:port" ended by a zero byte. What follows it, as the
 -- standard's flags, is not looked at.
-use Rattle.std.specs.Prelude.{◌≡◌, ◌≤◌, ◌≢◌, All, ℕ, [], ◌∷◌, ◌++◌, List, length, Bool, ◌==◌, ◌&&◌, nat_le, if◌then◌else◌, Option, Some, None, option_map, option_and_then}
+use Rattle.std.specs.Prelude.{◌≡◌, ◌≤◌, ◌≢◌, All, ℕ, [], ◌∷◌, ◌++◌, List, length, Bool, not, ◌==◌, ◌&&◌, nat_le, if◌then◌else◌, Option, Some, None, option_map, option_and_then}
 use Rattle.std.specs.List.{list_any, list_all, before_last, after_last}
 use Rattle.std.specs.Char.{is_ascii_digit}
 use Rattle.tor_spec.specs.Decimal.{decimal_value, decimal_digits}
-use Rattle.tor_spec.specs.Text.{terminated_text}
+use Rattle.tor_spec.specs.Text.{is_zero_byte, terminated_text}
 
 pub record Target : Type 0 where
   pub host : List ℕ
@@ -18,13 +18,17 @@ is_colon b = b == 58
 unfoldable pub is_host_length : ℕ → Bool
 is_host_length n = nat_le 1 n && nat_le n 255
 
+-- None of them is zero.
+unfoldable pub is_host_name : List ℕ → Bool
+is_host_name host = is_host_length (length host) && not (list_any is_zero_byte host)
+
 -- A host name that a payload can carry.
 pub record IsHost (host : List ℕ) : Type 0 where
   pub nonempty : 1 ≤ length host
   pub short : length host ≤ 255
   pub no_zero_byte : All (λ b. b ≢ 0) host
 
--- One to five decimal digits.
+-- One to five decimal digits. That zeros may lead is a rule of this relay.
 unfoldable pub is_port_text : List ℕ → Bool
 is_port_text text = nat_le 1 (length text) && nat_le (length text) 5 && list_all is_ascii_digit text
 
@@ -42,11 +46,11 @@ split_at_last_colon text =
 -- The target of this host and the text of a port.
 unfoldable pub target_of_parts : List ℕ × List ℕ → Option Target
 target_of_parts parts =
-    if is_host_length (length parts.0)
+    if is_host_name parts.0
     then option_map (λ port. record { host = parts.0; port = port }) (port_of_text parts.1)
     else None
 
--- The target that "host:port" names. The host may have colons too.
+-- The target that "host:port" names. The host may have colons too, but no zero byte.
 unfoldable pub target_of_text : List ℕ → Option Target
 target_of_text text = option_and_then target_of_parts (split_at_last_colon text)
 

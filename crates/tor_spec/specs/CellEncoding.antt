@@ -1,6 +1,7 @@
 -- How a cell lies on a link (tor-spec, "Cell format"; link protocol 4). Bytes are numbers below 256.
 use Rattle.std.specs.Prelude.{ℕ, ◌∷◌, ◌++◌, List, length, Bool, ◌==◌, ◌||◌, nat_le, if◌then◌else◌}
 use Rattle.std.specs.Int.{w16, w32, to_be_bytes}
+use Rattle.tor_spec.specs.CellCommands.{versions_command, vpadding_command}
 
 -- A cell's fields: the CircID, the command and the payload.
 pub record WireCell : Type 0 where
@@ -8,9 +9,9 @@ pub record WireCell : Type 0 where
   pub command : ℕ
   pub payload : List ℕ
 
--- VERSIONS, and every command from 128 on, have a payload of variable length.
+-- VERSIONS, and every command from VPADDING on, have a payload of variable length.
 abbrev pub is_variable : ℕ → Bool
-is_variable command = (command == 7) || nat_le 128 command
+is_variable command = (command == versions_command) || nat_le vpadding_command command
 
 -- CircID (4 bytes), command (1), for a variable-length cell the length (2), and the payload;
 -- numbers are big-endian.

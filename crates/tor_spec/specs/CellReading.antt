@@ -3,6 +3,7 @@
 use Rattle.std.specs.Prelude.{ℕ, ◌+◌, [], ◌∷◌, ◌++◌, List, length, take, drop, slice_index, Bool, true, false, ◌==◌, ◌&&◌, nat_lt, nat_le, if◌then◌else◌, Option, Some, None, option_and_then, zero, suc}
 use Rattle.std.specs.Option.{option_map_or}
 use Rattle.std.specs.Int.{w16, w32, from_be_bytes}
+use Rattle.tor_spec.specs.CellCommands.{versions_command}
 use Rattle.tor_spec.specs.CellEncoding.{WireCell, is_variable}
 
 -- How many bytes the cell has that these begin with, once they tell: 514, or 7 and the length
@@ -47,11 +48,11 @@ unfoldable pub first_at : List ℕ → Option (WireCell × List ℕ)
 first_at bytes = option_and_then (cut_off first_of bytes) (first_size bytes)
 
 -- The CircID and the command with which a link begins, where three bytes show that these aren't
--- 0 and VERSIONS (7).
+-- 0 and VERSIONS.
 unfoldable pub wrong_start : List ℕ → Option (ℕ × ℕ)
 wrong_start bytes =
     if nat_lt (length bytes) 3 then None
-    else if (from_be_bytes w16 (slice_index bytes 0 ∷ slice_index bytes 1 ∷ []) == 0) && (slice_index bytes 2 == 7) then None
+    else if (from_be_bytes w16 (slice_index bytes 0 ∷ slice_index bytes 1 ∷ []) == 0) && (slice_index bytes 2 == versions_command) then None
     else Some (from_be_bytes w16 (slice_index bytes 0 ∷ slice_index bytes 1 ∷ []), slice_index bytes 2)
 
 -- What a link's bytes leave unread: the bytes behind its last cell, and whether its first cell

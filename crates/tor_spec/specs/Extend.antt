@@ -72,6 +72,9 @@ handshake_reply payload =
 unfoldable pub handshake_reply_payload : List ℕ → List ℕ
 handshake_reply_payload handshake = to_be_bytes w16 (length handshake) ++ handshake
 
+abbrev pub handshake_request_payload : ℕ → List ℕ → List ℕ
+handshake_request_payload handshake_type handshake = to_be_bytes w16 handshake_type ++ handshake_reply_payload handshake
+
 -- The client's half of a handshake in an EXTEND2 or CREATE2, its type and its data: HTYPE (2 bytes),
 -- HLEN (2), HDATA (HLEN). Anything may follow.
 unfoldable pub handshake_request : List ℕ → Option (ℕ × List ℕ)
@@ -95,5 +98,4 @@ extend_request (count ∷ rest) = option_and_then request_behind (destination co
 -- The request with one specifier, of type 0.
 unfoldable pub extend_payload : Address → ℕ → List ℕ → List ℕ
 extend_payload to handshake_type handshake =
-    1 ∷ 0 ∷ 6 ∷ to.ip ++ to_be_bytes w16 to.port ++ to_be_bytes w16 handshake_type
-    ++ handshake_reply_payload handshake
+    1 ∷ 0 ∷ 6 ∷ to.ip ++ to_be_bytes w16 to.port ++ handshake_request_payload handshake_type handshake

@@ -1,5 +1,6 @@
 -- The payload of a NETINFO cell (tor-spec, "NETINFO cells").
 use Rattle.std.specs.Prelude.{ℕ, ◌+◌, [], ◌∷◌, List, length, drop, replicate, slice_index, Bool, not, ◌==◌, ◌&&◌, ◌||◌, nat_lt, is_some, if◌then◌else◌, Option, Some, None, option_and_then, zero, suc}
+use Rattle.tor_spec.specs.CellCommands.{netinfo_command}
 use Rattle.tor_spec.specs.CellEncoding.{WireCell}
 
 -- An address of type 4 (IPv4) has 4 bytes, and one of type 6 (IPv6) has 16.
@@ -31,4 +32,4 @@ is_netinfo payload = is_some (option_and_then behind_list (behind_address (drop 
 
 -- The NETINFO of a sender that tells nothing: time 0, the address 0.0.0.0 and no own address.
 abbrev pub silent_netinfo : WireCell
-silent_netinfo = record { circuit = 0; command = 8; payload = 0 ∷ 0 ∷ 0 ∷ 0 ∷ 4 ∷ 4 ∷ replicate 503 0 }
+silent_netinfo = record { circuit = 0; command = netinfo_command; payload = 0 ∷ 0 ∷ 0 ∷ 0 ∷ 4 ∷ 4 ∷ replicate 503 0 }

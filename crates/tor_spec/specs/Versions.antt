@@ -2,15 +2,16 @@
 use Rattle.std.specs.Prelude.{ℕ, [], ◌∷◌, List, Bool, ◌==◌, max, if◌then◌else◌, Option, Some, None}
 use Rattle.std.specs.List.{flat_map, list_any}
 use Rattle.std.specs.Int.{w16, to_be_bytes, from_be_bytes}
+use Rattle.tor_spec.specs.CellCommands.{versions_command}
 use Rattle.tor_spec.specs.CellEncoding.{WireCell}
 
 -- The payload: each version in two bytes, big-endian.
 abbrev pub versions_payload : List ℕ → List ℕ
 versions_payload versions = flat_map (to_be_bytes w16) versions
 
--- VERSIONS (command 7) with this list, on CircID 0.
+-- VERSIONS with this list, on CircID 0.
 abbrev pub versions_cell : List ℕ → WireCell
-versions_cell versions = record { circuit = 0; command = 7; payload = versions_payload versions }
+versions_cell versions = record { circuit = 0; command = versions_command; payload = versions_payload versions }
 
 -- The list that a payload of an even number of bytes holds.
 abbrev pub versions_of : List ℕ → List ℕ
