@@ -28,11 +28,11 @@ IsSettled Opening rest = (wrong_start rest ≡ None) × (first_at rest ≡ None)
 IsSettled Open rest = cell_at rest ≡ None
 IsSettled (Refused circ command) rest = (rest ≡ []) × (wrong_start (to_be_bytes w16 circ ++ command ∷ []) ≡ Some (circ, command))
 
--- BadFirst tells the link's wrong start; want of memory tells nothing.
+-- BadFirst tells the link's wrong start. Memory may be wanting where the link isn't refused.
 abbrev pub TellsRefusal : DecodeFault → Unread → Type 0
 TellsRefusal (BadFirst circ command) link = refusal link ≡ Some (circ, command)
 TellsRefusal Short link = ⊥
-TellsRefusal Memory link = Unit {0}
+TellsRefusal Memory link = refusal link ≡ None
 
 -- Bytes of a cell that hasn't ended are left, and the link isn't refused.
 pub record IsUnfinished (link : Unread) : Type 0 where

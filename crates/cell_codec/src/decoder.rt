@@ -71,7 +71,7 @@ impl Decoder {
     /// Takes the next piece of the link and gives the cells that end in it, in order.
     ///
     /// `BadFirst` comes once three bytes show that the link doesn't begin with VERSIONS on CircID
-    /// 0, and at every later call. After `Memory` the piece was not taken.
+    /// 0, and at every later call. A refused link takes no memory. After `Memory` the piece was not taken.
     pub fn feed(&mut self, piece: &[u8]) -> Result<List<Cell>, DecodeFault>
         ensures cells { IfOk result (λ cells. map wire_cell cells.items ≡ (reading (with_piece self.old piece.now)).cells) }
         ensures well_formed { IfOk result (λ cells. All IsWellFormed cells.items) }

@@ -1,5 +1,5 @@
-use Rattle.std.proofs.Common.{◌≡◌, ◌++◌, map, None, sym, ap, ◌∙◌, subst}
-use Rattle.tor_spec.specs.CellReading.{wrong_start, first_at, first_reading}
+use Rattle.std.proofs.Common.{rules, ◌≡◌, ◌++◌, map, None, sym, ap, ◌∙◌, subst}
+use Rattle.tor_spec.specs.CellReading.{with_piece, refusal, wrong_start, first_at, first_reading}
 use Rattle.cell_codec.specs.Cells.{wire_cell}
 use Rattle.cell_codec.specs.Decoding.{Reads, unread_of, IsSettled}
 use Rattle.cell_codec.proofs.Feeding.{open_reading, open_accepted, opening_reading, opening_refusal, opening_cells, opening_left, start_kept, start_left, refused_again, refused_left}
@@ -76,3 +76,14 @@ returns-in-None-clause-unread c = λ _.
     ap (λ s. unread_of s c.feed_opening.new.rest.items) c.in-Opening.is
     ∙ opening_left _ _ start (rw kept.0 at kept.1) kept.0
     ∙ sym (ap (λ r. r.left) (opening_reading _ _ _ _ (sym c.self.view_is) c.in-Opening.is))
+
+pub returns-in_err-feed_open-in-Open-clause-refused : goal.returns-in_err-feed_open-in-Open-clause-refused
+returns-in_err-feed_open-in-Open-clause-refused c =
+    let accepted : refusal (with_piece c.args.self.now c.args.piece.now) ≡ None = open_accepted _ _ _ _ (sym c.self.view_is) c.in-Open.is in
+    search (rules, accepted)
+
+pub returns-in_err-cells-in-Opening-clause-refused : goal.returns-in_err-cells-in-Opening-clause-refused
+returns-in_err-cells-in-Opening-clause-refused c =
+    let accepted : refusal (with_piece c.args.self.now c.args.piece.now) ≡ None =
+    opening_refusal _ _ _ _ (sym c.self.view_is) c.in-Opening.is ∙ (rw c.as_slice.ensures.value at (sym c.in_default.ensures.start)) in
+    search (rules, accepted)
