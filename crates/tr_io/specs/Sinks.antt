@@ -1,4 +1,4 @@
--- What a write says of the bytes that a sink holds.
+-- What a write says of the bytes that a sink holds, and of those that it flushed.
 use Rattle.std.specs.Prelude.{◌≡◌, ℕ, ◌<◌, ◌≤◌, List, ◌++◌, length, take, Option, Some, None}
 use Rattle.tr_io.specs.declared.sink.WriteAnswer.{WriteAnswer}
 use Rattle.tr_io.specs.declared.sink.WriteAnswer.TheVariants.{Took, Failed}
@@ -17,3 +17,14 @@ Writes Failed piece written after = after ≡ Some written
 abbrev pub WritesTo : Option (List ℕ) → WriteAnswer → List ℕ → Option (List ℕ) → Type 0
 WritesTo None answer piece after = after ≡ None
 WritesTo (Some written) answer piece after = Writes answer piece written after
+
+-- Where the bytes flushed are told: those flushed before stay in front.
+abbrev pub KeepsFlushed : Option (List ℕ) → Option (List ℕ) → Type 0
+KeepsFlushed None after = after ≡ None
+KeepsFlushed (Some flushed) None = ⊥
+KeepsFlushed (Some flushed) (Some after) = (more : List ℕ) × (after ≡ flushed ++ more)
+
+-- A flush that doesn't fail has flushed all that was written.
+abbrev pub FlushesAll : WriteAnswer → Option (List ℕ) → Option (List ℕ) → Type 0
+FlushesAll (Took n) written flushed = flushed ≡ written
+FlushesAll Failed written flushed = Unit {0}

@@ -10,9 +10,12 @@ pub mod edges;
 mod failing_calls;
 pub mod memory;
 pub mod names;
+pub mod phrase;
 pub mod sink;
 pub mod source;
 pub mod standard;
 pub mod status;
 pub mod step;
 pub mod stepping;
+#[cfg(test)]
+mod tests;

@@ -1,10 +1,15 @@
 //! A source and a sink in memory, which tell their bytes and fail at listed calls.
-ghost use Rattle.std.specs.Prelude.{◌≡◌, ℕ, ◌≤◌, ◌+◌, List, [], Some, drop, length, MatchBool};
+ghost use Rattle.std.specs.Prelude.{◌≡◌, ◌≢◌, ◌<◌, ◌≤◌, [], Some, length, take, IsTrue, min};
+ghost use Rattle.tr_io.specs.Faults.{Rose};
+ghost use Rattle.tr_io.specs.Memory.{is_listed, next_call, read_answer, flush_answer, calls_after_write};
+ghost use Rattle.tr_io.specs.Sinks.{TookWithin, WritesTo, KeepsFlushed, FlushesAll};
+ghost use Rattle.tr_io.specs.Sources.{GotWithin, ReadsFrom};
 
 use crate::failing_calls::FailingCalls;
 use crate::sink::{Sink, WriteAnswer};
 use crate::source::{ReadAnswer, Source};
 use std::alloc::Global;
+use std::marker::Model;
 
 /// A source over bytes in memory.
 #[derive(Drop)]
@@ -13,8 +18,17 @@ pub struct MemorySource {
     taken: usize,
     most: usize,
     calls: FailingCalls,
-    ghost within: { taken ≤ length bytes.items },
-    ghost some: { 1 ≤ most },
+}
+
+impl Model for MemorySource {
+    ghost use Rattle.std.specs.Prelude.{◌≤◌, drop, length};
+    ghost use Rattle.tr_io.specs.Memory.{SourceState};
+
+    ghost Value = { SourceState };
+
+    ghost view = { λ s. record { left = drop s.taken s.bytes.items; most = s.most; failing = s.calls.failing.items; calls = s.calls.next; faults = s.calls.faults } };
+
+    ghost invariant = { λ s. (s.taken ≤ length s.bytes.items) × (1 ≤ s.most) };
 }
 
 impl MemorySource {
@@ -22,6 +36,7 @@ impl MemorySource {
     /// with the listed numbers, counted from 0.
     pub fn new(bytes: Vec<u8>, most: usize, failing: Vec<u64>) -> MemorySource
         requires { 1 ≤ most }
+        ensures { result ≡ record { left = bytes.items; most = most; failing = failing.items; calls = 0; faults = 0 } }
     {
         MemorySource {
             bytes,
@@ -33,11 +48,22 @@ impl MemorySource {
 }
 
 impl Source for MemorySource {
-    ghost left = { λ s. Some (drop s.taken s.bytes.items) };
+    ghost left = { λ s. Some s.left };
 
-    ghost faults = { λ s. s.calls.faults };
+    ghost faults = { λ s. s.faults };
 
-    fn read(&mut self, into: &mut [u8]) -> ReadAnswer {
+    fn read(&mut self, into: &mut [u8]) -> ReadAnswer
+        requires { 0 < length into.old }
+        ensures within { GotWithin result into.new }
+        ensures bytes { ReadsFrom (Some self.old.left) result into.new (Some self.new.left) }
+        ensures counted { self.old.faults ≤ self.new.faults }
+        ensures cause { result ≡ ReadAnswer.Failed → Rose self.old.faults self.new.faults }
+        ensures steady { result ≢ ReadAnswer.Failed → self.new.faults ≡ self.old.faults }
+        ensures answer { result ≡ read_answer self.old (length into.old) }
+        ensures calls { self.new.calls ≡ next_call self.old.calls }
+        ensures failing { self.new.failing ≡ self.old.failing }
+        ensures most { self.new.most ≡ self.old.most }
+    {
         if self.calls.fails() {
             return ReadAnswer::Failed;
         }
@@ -56,37 +82,78 @@ impl Source for MemorySource {
 #[derive(Drop)]
 pub struct MemorySink {
     bytes: Vec<u8>,
+    flushed: usize,
     most: usize,
     calls: FailingCalls,
-    ghost some: { 1 ≤ most },
+}
+
+impl Model for MemorySink {
+    ghost use Rattle.std.specs.Prelude.{◌≤◌, length};
+    ghost use Rattle.tr_io.specs.Memory.{SinkState};
+
+    ghost Value = { SinkState };
+
+    ghost view = { λ s. record { written = s.bytes.items; flushed = s.flushed; most = s.most; failing = s.calls.failing.items; calls = s.calls.next; faults = s.calls.faults } };
+
+    ghost invariant = { λ s. (s.flushed ≤ length s.bytes.items) × (1 ≤ s.most) };
 }
 
 impl MemorySink {
     /// An empty sink, which takes at most `most` bytes a write, and fails at the calls of `write`
-    /// and `flush` with the listed numbers, counted together from 0. It fails, too, where memory
-    /// for the bytes is wanting.
+    /// and `flush` with the listed numbers, counted together from 0; a write of no bytes isn't
+    /// counted. It fails, too, where memory for the bytes is wanting.
     pub fn new(alloc: Global, most: usize, failing: Vec<u64>) -> MemorySink
         requires { 1 ≤ most }
+        ensures { result ≡ record { written = []; flushed = 0; most = most; failing = failing.items; calls = 0; faults = 0 } }
     {
         MemorySink {
             bytes: Vec::new(alloc),
+            flushed: 0,
             most,
             calls: FailingCalls::new(failing),
         }
     }
 
     /// The bytes written so far.
-    pub fn as_slice(&self) -> &[u8] {
+    pub fn as_slice(&self) -> &[u8]
+        ensures { result.now ≡ self.now.written }
+    {
         self.bytes.as_slice()
+    }
+
+    /// The bytes flushed so far.
+    pub fn flushed(&self) -> &[u8]
+        ensures { result.now ≡ take self.now.flushed self.now.written }
+    {
+        &self.bytes[..self.flushed]
     }
 }
 
 impl Sink for MemorySink {
-    ghost written = { λ s. Some s.bytes.items };
+    ghost written = { λ s. Some s.written };
 
-    ghost faults = { λ s. s.calls.faults };
+    ghost flushed = { λ s. Some (take s.flushed s.written) };
 
-    fn write(&mut self, piece: &[u8]) -> WriteAnswer {
+    ghost faults = { λ s. s.faults };
+
+    fn write(&mut self, piece: &[u8]) -> WriteAnswer
+        ensures within { TookWithin result piece.now }
+        ensures empty { piece.now ≡ [] → result ≡ WriteAnswer.Took 0 }
+        ensures bytes { WritesTo (Some self.old.written) result piece.now (Some self.new.written) }
+        ensures flushed { KeepsFlushed (Some (take self.old.flushed self.old.written)) (Some (take self.new.flushed self.new.written)) }
+        ensures counted { self.old.faults ≤ self.new.faults }
+        ensures cause { result ≡ WriteAnswer.Failed → Rose self.old.faults self.new.faults }
+        ensures steady { result ≢ WriteAnswer.Failed → self.new.faults ≡ self.old.faults }
+        ensures listed { piece.now ≢ [] → IsTrue (is_listed self.old.failing self.old.calls) → result ≡ WriteAnswer.Failed }
+        ensures took { result ≢ WriteAnswer.Failed → result ≡ WriteAnswer.Took (min (length piece.now) self.old.most) }
+        ensures kept { self.new.flushed ≡ self.old.flushed }
+        ensures calls { self.new.calls ≡ calls_after_write self.old.calls piece.now }
+        ensures failing { self.new.failing ≡ self.old.failing }
+        ensures most { self.new.most ≡ self.old.most }
+    {
+        if piece.is_empty() {
+            return WriteAnswer::Took(0);
+        }
         if self.calls.fails() {
             return WriteAnswer::Failed;
         }
@@ -98,10 +165,24 @@ impl Sink for MemorySink {
         WriteAnswer::Took(count)
     }
 
-    fn flush(&mut self) -> WriteAnswer {
+    fn flush(&mut self) -> WriteAnswer
+        ensures within { TookWithin result [] }
+        ensures bytes { WritesTo (Some self.old.written) result [] (Some self.new.written) }
+        ensures flushed { KeepsFlushed (Some (take self.old.flushed self.old.written)) (Some (take self.new.flushed self.new.written)) }
+        ensures all { FlushesAll result (Some self.new.written) (Some (take self.new.flushed self.new.written)) }
+        ensures counted { self.old.faults ≤ self.new.faults }
+        ensures cause { result ≡ WriteAnswer.Failed → Rose self.old.faults self.new.faults }
+        ensures steady { result ≢ WriteAnswer.Failed → self.new.faults ≡ self.old.faults }
+        ensures answer { result ≡ flush_answer self.old }
+        ensures written { self.new.written ≡ self.old.written }
+        ensures calls { self.new.calls ≡ next_call self.old.calls }
+        ensures failing { self.new.failing ≡ self.old.failing }
+        ensures most { self.new.most ≡ self.old.most }
+    {
         if self.calls.fails() {
             return WriteAnswer::Failed;
         }
+        self.flushed = self.bytes.as_slice().len();
         WriteAnswer::Took(0)
     }
 }

@@ -1,5 +1,5 @@
 //! Where bytes come from.
-ghost use Rattle.std.specs.Prelude.{◌≡◌, ℕ, ◌<◌, ◌≤◌, List, Option, length};
+ghost use Rattle.std.specs.Prelude.{◌≡◌, ◌≢◌, ℕ, ◌<◌, ◌≤◌, List, Option, length};
 ghost use Rattle.tr_io.specs.Faults.{Rose};
 ghost use Rattle.tr_io.specs.Sources.{GotWithin, ReadsFrom};
 
@@ -21,7 +21,7 @@ pub trait Source {
     /// The bytes that are left, where the source tells them.
     ghost left: { Self → Option (List ℕ) };
 
-    /// How often the source failed. The count never falls, and stands still at 2^64 - 1.
+    /// How often the source failed. The count rises at failures alone, and stands still at 2^64 - 1.
     ghost faults: { Self → ℕ };
 
     /// Reads the next bytes into the front of the buffer, which isn't empty.
@@ -30,5 +30,6 @@ pub trait Source {
         ensures within { GotWithin result into.new }
         ensures bytes { ReadsFrom (left self.old) result into.new (left self.new) }
         ensures counted { faults self.old ≤ faults self.new }
-        ensures cause { result ≡ ReadAnswer.Failed → Rose (faults self.old) (faults self.new) };
+        ensures cause { result ≡ ReadAnswer.Failed → Rose (faults self.old) (faults self.new) }
+        ensures steady { result ≢ ReadAnswer.Failed → faults self.new ≡ faults self.old };
 }

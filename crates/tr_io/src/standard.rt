@@ -16,7 +16,9 @@ pub struct ReaderSource<R> {
 
 impl<R: Read> ReaderSource<R> {
     /// A source over the reader, which hasn't failed yet.
-    pub fn new(reader: R) -> ReaderSource<R> {
+    pub fn new(reader: R) -> ReaderSource<R>
+        ensures { ⟦<ReaderSource<R> as Source>⟧.faults result ≡ 0 }
+    {
         ReaderSource { reader, faults: 0 }
     }
 }
@@ -47,13 +49,17 @@ pub struct WriterSink<W> {
 
 impl<W: Write> WriterSink<W> {
     /// A sink over the writer, which hasn't failed yet.
-    pub fn new(writer: W) -> WriterSink<W> {
+    pub fn new(writer: W) -> WriterSink<W>
+        ensures { ⟦<WriterSink<W> as Sink>⟧.faults result ≡ 0 }
+    {
         WriterSink { writer, faults: 0 }
     }
 }
 
 impl<W: Write> Sink for WriterSink<W> {
     ghost written = { λ _. None };
+
+    ghost flushed = { λ _. None };
 
     ghost faults = { λ s. s.faults };
 

@@ -1,8 +1,9 @@
 //! How a program ends.
-ghost use Rattle.std.specs.Prelude.{◌≡◌};
-ghost use Rattle.tr_io.specs.Statuses.{status_number};
+ghost use Rattle.std.specs.Prelude.{◌≡◌, ◌≤◌, ◌++◌, length};
+ghost use Rattle.std.specs.Fmt.{decimal};
+ghost use Rattle.tr_io.specs.Statuses.{status_number, status_text, phrase_text};
 
-use std::fmt;
+use crate::phrase::Phrase;
 
 /// How a program ended: its exit status, and what it says on standard error.
 #[derive(Clone, Copy, Debug, PartialEq, Eq)]
@@ -59,27 +60,52 @@ impl Status {
             Status::StreamEnded(_) => 13,
         }
     }
+
+    /// What a program says of its end on standard error, behind its name; nothing where all was
+    /// done. A program adds its usage text, on a line of its own, behind `usage`.
+    pub fn phrase(self) -> Phrase
+        ensures { phrase_text result ≡ status_text self }
+    {
+        match self {
+            Status::Done => words(""),
+            Status::Usage => words("usage"),
+            Status::Settings(rule) => numbered("settings rule ", u64::from(rule), ""),
+            Status::ReadFault => words("read fault"),
+            Status::WriteFault => words("write fault"),
+            Status::BadTape(place) => numbered("bad tape at ", place, ""),
+            Status::NotBuilt(kind) => numbered("kind ", u64::from(kind), " not built"),
+            Status::TooLong => words("too long"),
+            Status::DoorFault => words("door fault"),
+            Status::CrewFault => words("crew fault"),
+            Status::Memory => words("out of memory"),
+            Status::LinkRefused(cause) => numbered("link refused ", u64::from(cause), ""),
+            Status::CircuitClosed(cause) => numbered("circuit closed ", u64::from(cause), ""),
+            Status::StreamEnded(reason) => numbered("stream ended ", u64::from(reason), ""),
+        }
+    }
 }
 
-/// What a program says of its end on standard error, behind its name; nothing where all was done.
-/// A program adds its usage text, on a line of its own, behind `usage`.
-impl fmt::Display for Status {
-    fn fmt<W: fmt::Write>(&self, f: &mut fmt::Formatter<W>) -> fmt::Result {
-        match self {
-            Status::Done => Ok(()),
-            Status::Usage => write!(f, "usage"),
-            Status::Settings(rule) => write!(f, "settings rule {rule}"),
-            Status::ReadFault => write!(f, "read fault"),
-            Status::WriteFault => write!(f, "write fault"),
-            Status::BadTape(place) => write!(f, "bad tape at {place}"),
-            Status::NotBuilt(kind) => write!(f, "kind {kind} not built"),
-            Status::TooLong => write!(f, "too long"),
-            Status::DoorFault => write!(f, "door fault"),
-            Status::CrewFault => write!(f, "crew fault"),
-            Status::Memory => write!(f, "out of memory"),
-            Status::LinkRefused(cause) => write!(f, "link refused {cause}"),
-            Status::CircuitClosed(cause) => write!(f, "circuit closed {cause}"),
-            Status::StreamEnded(reason) => write!(f, "stream ended {reason}"),
-        }
+/// Words without a number.
+fn words(front: &'static str) -> Phrase
+    requires { length front.now ≤ 20 }
+    ensures { phrase_text result ≡ front.now }
+{
+    Phrase {
+        front,
+        number: None,
+        behind: "",
+    }
+}
+
+/// Words round a number.
+fn numbered(front: &'static str, number: u64, behind: &'static str) -> Phrase
+    requires front { length front.now ≤ 20 }
+    requires behind { length behind.now ≤ 20 }
+    ensures { phrase_text result ≡ front.now ++ (decimal number ++ behind.now) }
+{
+    Phrase {
+        front,
+        number: Some(number),
+        behind,
     }
 }
