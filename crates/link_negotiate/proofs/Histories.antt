@@ -1,73 +1,75 @@
--- Where a side stands behind a list of cells.
+-- Where a side stands after a list of cells.
 use Rattle.std.proofs.Common.{◌≡◌, ℕ, [], ◌∷◌, List, Bool, true, false, cond, Option, Some, None, Result, Ok, Err, refl, ap, sym, ◌∙◌}
 use Rattle.std.proofs.lemmas.Option.{none-some, same_Some}
 use Rattle.tor_spec.specs.CellEncoding.{WireCell}
 use Rattle.cell_codec.specs.declared.LinkFault.{LinkFault}
+use Rattle.link_negotiate.specs.declared.arrival.Arrival.{Arrival}
+use Rattle.link_negotiate.specs.declared.arrival.Arrival.TheVariants.{Netinfo, InBetween, Fault}
 use Rattle.link_negotiate.specs.declared.phase.Phase.{Phase}
-use Rattle.link_negotiate.specs.declared.phase.Phase.TheVariants.{Versions, Netinfo, Open, Refused}
-use Rattle.link_negotiate.specs.Negotiation.{versions_told, netinfo_told, Side, answer, answer_in, behind_versions, behind_netinfo, behind_all}
-use Rattle.link_negotiate.specs.History.{is_told, tells, first_told, answer_behind_end, answer_behind_told, answer_behind_versions, answer_after}
+use Rattle.link_negotiate.specs.declared.phase.Phase.TheVariants.{AwaitsVersions, AwaitsNetinfo, Open, Refused}
+use Rattle.link_negotiate.specs.Negotiation.{link_version, arrival, Side, step_answer, phase_answer, phase_after_versions, phase_after_arrival, side_after_all}
+use Rattle.link_negotiate.specs.History.{is_last, ends_negotiation, last_cell, answer_behind_last, answer_awaiting_netinfo, answer_behind_versions, answer_by_history}
 
 abbrev side : Bool → Phase → Side
 side opener phase = record { opener = opener; phase = phase }
 
-stays_open : (opener : Bool) (cells : List WireCell) → behind_all (side opener Open) cells ≡ side opener Open
+stays_open : (opener : Bool) (cells : List WireCell) → side_after_all (side opener Open) cells ≡ side opener Open
 stays_open opener [] = refl
 stays_open opener (c ∷ cells) = stays_open opener cells
 
-stays_refused : (opener : Bool) (fault : LinkFault) (cells : List WireCell) → behind_all (side opener (Refused fault)) cells ≡ side opener (Refused fault)
+stays_refused : (opener : Bool) (fault : LinkFault) (cells : List WireCell) → side_after_all (side opener (Refused fault)) cells ≡ side opener (Refused fault)
 stays_refused opener fault [] = refl
 stays_refused opener fault (c ∷ cells) = stays_refused opener fault cells
 
 -- Where a side stands that awaits NETINFO, by the first cell that isn't passed over.
-abbrev awaiting : ℕ → Option WireCell → Phase
-awaiting version None = Netinfo version
-awaiting version (Some told) = behind_netinfo version (netinfo_told version told)
+abbrev phase_by_last : ℕ → Option WireCell → Phase
+phase_by_last version None = AwaitsNetinfo version
+phase_by_last version (Some end) = phase_after_arrival version (arrival version end)
 
-awaits_by : (opener : Bool) (version : ℕ) (c : WireCell) (cells : List WireCell) (read : Result Bool LinkFault) → netinfo_told version c ≡ read
-    → behind_all (side opener (Netinfo version)) cells ≡ side opener (awaiting version (first_told version cells))
-    → behind_all (side opener (behind_netinfo version read)) cells ≡ side opener (awaiting version (cond (is_told read) (Some c) (first_told version cells)))
-awaits_by opener version c cells (Ok true) e later =
-    stays_open opener cells ∙ sym (ap (λ r. side opener (behind_netinfo version r)) e)
-awaits_by opener version c cells (Ok false) e later = later
-awaits_by opener version c cells (Err fault) e later =
-    stays_refused opener fault cells ∙ sym (ap (λ r. side opener (behind_netinfo version r)) e)
+stands_by : (opener : Bool) (version : ℕ) (c : WireCell) (cells : List WireCell) (a : Arrival) → arrival version c ≡ a
+    → side_after_all (side opener (AwaitsNetinfo version)) cells ≡ side opener (phase_by_last version (last_cell version cells))
+    → side_after_all (side opener (phase_after_arrival version a)) cells ≡ side opener (phase_by_last version (cond (is_last a) (Some c) (last_cell version cells)))
+stands_by opener version c cells Netinfo e later =
+    stays_open opener cells ∙ sym (ap (λ a. side opener (phase_after_arrival version a)) e)
+stands_by opener version c cells InBetween e later = later
+stands_by opener version c cells (Fault fault) e later =
+    stays_refused opener fault cells ∙ sym (ap (λ a. side opener (phase_after_arrival version a)) e)
 
-awaits : (opener : Bool) (version : ℕ) (cells : List WireCell)
-    → behind_all (side opener (Netinfo version)) cells ≡ side opener (awaiting version (first_told version cells))
-awaits opener version [] = refl
-awaits opener version (c ∷ cells) = awaits_by opener version c cells (netinfo_told version c) refl (awaits opener version cells)
+stands : (opener : Bool) (version : ℕ) (cells : List WireCell)
+    → side_after_all (side opener (AwaitsNetinfo version)) cells ≡ side opener (phase_by_last version (last_cell version cells))
+stands opener version [] = refl
+stands opener version (c ∷ cells) = stands_by opener version c cells (arrival version c) refl (stands opener version cells)
 
-answered_told : (opener : Bool) (version : ℕ) (read : Result Bool LinkFault) (c : WireCell) → is_told read ≡ true
-    → answer_in opener (behind_netinfo version read) c ≡ answer_behind_end read c
-answered_told opener version (Ok true) c told = refl
-answered_told opener version (Ok false) c told = cc
-answered_told opener version (Err fault) c told = refl
+answered_behind_last : (opener : Bool) (version : ℕ) (a : Arrival) (c : WireCell) → is_last a ≡ true
+    → phase_answer opener (phase_after_arrival version a) c ≡ answer_behind_last a c
+answered_behind_last opener version Netinfo c last = refl
+answered_behind_last opener version InBetween c last = cc
+answered_behind_last opener version (Fault fault) c last = refl
 
-tells_by : (version : ℕ) (c : WireCell) (cells : List WireCell) (told : WireCell) (b : Bool) → tells version c ≡ b
-    → (first_told version cells ≡ Some told → tells version told ≡ true) → cond b (Some c) (first_told version cells) ≡ Some told
-    → tells version told ≡ true
-tells_by version c cells told true is later e = sym (ap (tells version) (same_Some c told e)) ∙ is
-tells_by version c cells told false is later e = later e
+ends_by : (version : ℕ) (c : WireCell) (cells : List WireCell) (end : WireCell) (b : Bool) → ends_negotiation version c ≡ b
+    → (last_cell version cells ≡ Some end → ends_negotiation version end ≡ true) → cond b (Some c) (last_cell version cells) ≡ Some end
+    → ends_negotiation version end ≡ true
+ends_by version c cells end true is later e = sym (ap (ends_negotiation version) (same_Some c end e)) ∙ is
+ends_by version c cells end false is later e = later e
 
-found_tells : (version : ℕ) (cells : List WireCell) (told : WireCell) → first_told version cells ≡ Some told → tells version told ≡ true
-found_tells version [] told e = absurd (none-some told e)
-found_tells version (c ∷ cells) told e = tells_by version c cells told (tells version c) refl (found_tells version cells told) e
+found_ends : (version : ℕ) (cells : List WireCell) (end : WireCell) → last_cell version cells ≡ Some end → ends_negotiation version end ≡ true
+found_ends version [] end e = absurd (none-some end e)
+found_ends version (c ∷ cells) end e = ends_by version c cells end (ends_negotiation version c) refl (found_ends version cells end) e
 
-answered_awaiting : (opener : Bool) (version : ℕ) (told : Option WireCell) (c : WireCell)
-    → ((d : WireCell) → told ≡ Some d → tells version d ≡ true)
-    → answer_in opener (awaiting version told) c ≡ answer_behind_told opener version told c
+answered_awaiting : (opener : Bool) (version : ℕ) (end : Option WireCell) (c : WireCell)
+    → ((d : WireCell) → end ≡ Some d → ends_negotiation version d ≡ true)
+    → phase_answer opener (phase_by_last version end) c ≡ answer_awaiting_netinfo opener version end c
 answered_awaiting opener version None c is = refl
-answered_awaiting opener version (Some d) c is = answered_told opener version (netinfo_told version d) c (is d refl)
+answered_awaiting opener version (Some d) c is = answered_behind_last opener version (arrival version d) c (is d refl)
 
-answered_behind : (opener : Bool) (read : Result ℕ LinkFault) (cells : List WireCell) (c : WireCell)
-    → answer (behind_all (side opener (behind_versions read)) cells) c ≡ answer_behind_versions opener read cells c
-answered_behind opener (Err fault) cells c = ap (λ s. answer s c) (stays_refused opener fault cells)
-answered_behind opener (Ok version) cells c =
-    ap (λ s. answer s c) (awaits opener version cells)
-    ∙ answered_awaiting opener version (first_told version cells) c (found_tells version cells)
+answered_behind_versions : (opener : Bool) (read : Result ℕ LinkFault) (cells : List WireCell) (c : WireCell)
+    → step_answer (side_after_all (side opener (phase_after_versions read)) cells) c ≡ answer_behind_versions opener read cells c
+answered_behind_versions opener (Err fault) cells c = ap (λ s. step_answer s c) (stays_refused opener fault cells)
+answered_behind_versions opener (Ok version) cells c =
+    ap (λ s. step_answer s c) (stands opener version cells)
+    ∙ answered_awaiting opener version (last_cell version cells) c (found_ends version cells)
 
-pub answered_after : (opener : Bool) (before : List WireCell) (c : WireCell)
-    → answer (behind_all (side opener Versions) before) c ≡ answer_after opener before c
-answered_after opener [] c = refl
-answered_after opener (first ∷ more) c = answered_behind opener (versions_told first) more c
+pub answered_by_history : (opener : Bool) (before : List WireCell) (c : WireCell)
+    → step_answer (side_after_all (side opener AwaitsVersions) before) c ≡ answer_by_history opener before c
+answered_by_history opener [] c = refl
+answered_by_history opener (first ∷ more) c = answered_behind_versions opener (link_version first) more c

@@ -3,36 +3,39 @@ use Rattle.std.specs.Prelude.{ℕ, [], ◌∷◌, List, Bool, true, false, find,
 use Rattle.tor_spec.specs.CellEncoding.{WireCell}
 use Rattle.cell_codec.specs.declared.LinkFault.{LinkFault}
 use Rattle.cell_codec.specs.declared.LinkFault.TheVariants.{Unexpected}
-use Rattle.link_negotiate.specs.Negotiation.{versions_told, netinfo_told, Answer, answer_to_versions, answer_to_netinfo}
-use Rattle.link_negotiate.specs.Negotiation.Answer.{Refuses}
+use Rattle.link_negotiate.specs.declared.arrival.Arrival.{Arrival}
+use Rattle.link_negotiate.specs.declared.arrival.Arrival.TheVariants.{Netinfo, InBetween, Fault}
+use Rattle.link_negotiate.specs.Negotiation.{link_version, arrival, StepAnswer, versions_answer, arrival_answer}
+use Rattle.link_negotiate.specs.Negotiation.StepAnswer.{Refuses}
 
--- Whether a cell behind VERSIONS isn't passed over.
-abbrev pub is_told : Result Bool LinkFault → Bool
-is_told (Ok false) = false
-is_told (Ok true) = true
-is_told (Err fault) = true
+-- Whether the negotiation ends with a cell: it isn't passed over.
+abbrev pub is_last : Arrival → Bool
+is_last Netinfo = true
+is_last InBetween = false
+is_last (Fault fault) = true
 
-abbrev pub tells : ℕ → WireCell → Bool
-tells version c = is_told (netinfo_told version c)
+abbrev pub ends_negotiation : ℕ → WireCell → Bool
+ends_negotiation version c = is_last (arrival version c)
 
--- The first cell that isn't, where this version was agreed on.
-abbrev pub first_told : ℕ → List WireCell → Option WireCell
-first_told version cells = find (tells version) cells
+-- The first such cell, where this version was agreed on.
+abbrev pub last_cell : ℕ → List WireCell → Option WireCell
+last_cell version cells = find (ends_negotiation version) cells
 
--- Behind the cell that ended the negotiation: an open link awaits nothing, and a refusal is repeated.
-abbrev pub answer_behind_end : Result Bool LinkFault → WireCell → Answer
-answer_behind_end (Ok _) c = Refuses (Unexpected c.command)
-answer_behind_end (Err fault) c = Refuses fault
+-- Behind that cell an open link awaits nothing, and a refusal is repeated.
+abbrev pub answer_behind_last : Arrival → WireCell → StepAnswer
+answer_behind_last Netinfo c = Refuses (Unexpected c.command)
+answer_behind_last InBetween c = Refuses (Unexpected c.command)
+answer_behind_last (Fault fault) c = Refuses fault
 
-abbrev pub answer_behind_told : Bool → ℕ → Option WireCell → WireCell → Answer
-answer_behind_told opener version None c = answer_to_netinfo opener version (netinfo_told version c)
-answer_behind_told opener version (Some told) c = answer_behind_end (netinfo_told version told) c
+abbrev pub answer_awaiting_netinfo : Bool → ℕ → Option WireCell → WireCell → StepAnswer
+answer_awaiting_netinfo opener version None c = arrival_answer opener version (arrival version c)
+answer_awaiting_netinfo opener version (Some end) c = answer_behind_last (arrival version end) c
 
-abbrev pub answer_behind_versions : Bool → Result ℕ LinkFault → List WireCell → WireCell → Answer
+abbrev pub answer_behind_versions : Bool → Result ℕ LinkFault → List WireCell → WireCell → StepAnswer
 answer_behind_versions opener (Err fault) more c = Refuses fault
-answer_behind_versions opener (Ok version) more c = answer_behind_told opener version (first_told version more) c
+answer_behind_versions opener (Ok version) more c = answer_awaiting_netinfo opener version (last_cell version more) c
 
 -- The first cell is to be VERSIONS, and the first behind it that isn't passed over NETINFO.
-abbrev pub answer_after : Bool → List WireCell → WireCell → Answer
-answer_after opener [] c = answer_to_versions opener (versions_told c)
-answer_after opener (first ∷ more) c = answer_behind_versions opener (versions_told first) more c
+abbrev pub answer_by_history : Bool → List WireCell → WireCell → StepAnswer
+answer_by_history opener [] c = versions_answer opener (link_version c)
+answer_by_history opener (first ∷ more) c = answer_behind_versions opener (link_version first) more c

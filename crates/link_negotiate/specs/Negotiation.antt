@@ -10,20 +10,22 @@ use Rattle.tor_spec.specs.Versions.{versions_of, versions_cell, highest_common}
 use Rattle.tor_spec.specs.Netinfo.{is_netinfo, silent_netinfo}
 use Rattle.cell_codec.specs.declared.LinkFault.{LinkFault}
 use Rattle.cell_codec.specs.declared.LinkFault.TheVariants.{OddVersions, NoCommonVersion, Unexpected, BadNetinfo}
+use Rattle.link_negotiate.specs.declared.arrival.Arrival.{Arrival}
+use Rattle.link_negotiate.specs.declared.arrival.Arrival.TheVariants.{Netinfo, InBetween, Fault}
 use Rattle.link_negotiate.specs.declared.phase.Phase.{Phase}
-use Rattle.link_negotiate.specs.declared.phase.Phase.TheVariants.{Versions, Netinfo, Open, Refused}
+use Rattle.link_negotiate.specs.declared.phase.Phase.TheVariants.{AwaitsVersions, AwaitsNetinfo, Open, Refused}
 
 -- The link protocols that our side speaks.
 abbrev pub our_versions : List ℕ
 our_versions = 4 ∷ 5 ∷ []
 
--- What the first awaited cell tells: the highest version that both sides speak.
+-- The version that a link gets by its first cell: the highest that both sides speak.
 abbrev pub version_or : Option ℕ → Result ℕ LinkFault
 version_or None = Err NoCommonVersion
 version_or (Some version) = Ok version
 
-abbrev pub versions_told : WireCell → Result ℕ LinkFault
-versions_told c =
+abbrev pub link_version : WireCell → Result ℕ LinkFault
+link_version c =
     if c.command == versions_command then
     (if (length c.payload % 2) == 0 then version_or (highest_common our_versions (versions_of c.payload)) else Err OddVersions)
     else Err (Unexpected c.command)
@@ -43,12 +45,12 @@ negotiates_padding version command = nat_le 5 version && (command == padding_neg
 abbrev pub may_come_before : ℕ → ℕ → Bool
 may_come_before version command = comes_in_between command || negotiates_padding version command
 
--- What a cell behind VERSIONS tells: whether it is the NETINFO.
-abbrev pub netinfo_told : ℕ → WireCell → Result Bool LinkFault
-netinfo_told version c =
-    if c.command == netinfo_command then (if is_netinfo c.payload then Ok true else Err BadNetinfo)
-    else if may_come_before version c.command then Ok false
-    else Err (Unexpected c.command)
+-- What a cell is to a side that awaits NETINFO, where this version was agreed on.
+abbrev pub arrival : ℕ → WireCell → Arrival
+arrival version c =
+    if c.command == netinfo_command then (if is_netinfo c.payload then Netinfo else Fault BadNetinfo)
+    else if may_come_before version c.command then InBetween
+    else Fault (Unexpected c.command)
 
 -- A side of a link: whether it opened the connection, and where the negotiation stands.
 pub record Side : Type 0 where
@@ -56,60 +58,60 @@ pub record Side : Type 0 where
   pub phase : Phase
 
 abbrev pub opening_side : Side
-opening_side = record { opener = true; phase = Versions }
+opening_side = record { opener = true; phase = AwaitsVersions }
 
 abbrev pub answering_side : Side
-answering_side = record { opener = false; phase = Versions }
+answering_side = record { opener = false; phase = AwaitsVersions }
 
--- An answer: cells to send; ready, with a version and what is to be sent first; nothing; or a
--- refusal.
-pub data Answer : Type 0 where
-  Sends : List WireCell → Answer
-  IsReady : ℕ → Option WireCell → Answer
-  PassesOver : Answer
-  Refuses : LinkFault → Answer
+-- What a side does at a cell: it sends cells; it is ready, with a version and what is to be sent first;
+-- it does nothing; or it refuses the link.
+pub data StepAnswer : Type 0 where
+  Sends : List WireCell → StepAnswer
+  IsReady : ℕ → Option WireCell → StepAnswer
+  PassesOver : StepAnswer
+  Refuses : LinkFault → StepAnswer
 
--- To VERSIONS the answering side sends its own, and its NETINFO behind it.
-abbrev pub answer_to_versions : Bool → Result ℕ LinkFault → Answer
-answer_to_versions opener (Err fault) = Refuses fault
-answer_to_versions true (Ok version) = PassesOver
-answer_to_versions false (Ok version) = Sends (versions_cell our_versions ∷ silent_netinfo ∷ [])
+-- At VERSIONS the answering side sends its own, and its NETINFO behind it.
+abbrev pub versions_answer : Bool → Result ℕ LinkFault → StepAnswer
+versions_answer opener (Err fault) = Refuses fault
+versions_answer true (Ok version) = PassesOver
+versions_answer false (Ok version) = Sends (versions_cell our_versions ∷ silent_netinfo ∷ [])
 
 -- NETINFO opens the link; the opening side sends its own first.
-abbrev pub answer_to_netinfo : Bool → ℕ → Result Bool LinkFault → Answer
-answer_to_netinfo opener version (Err fault) = Refuses fault
-answer_to_netinfo opener version (Ok false) = PassesOver
-answer_to_netinfo true version (Ok true) = IsReady version (Some silent_netinfo)
-answer_to_netinfo false version (Ok true) = IsReady version None
+abbrev pub arrival_answer : Bool → ℕ → Arrival → StepAnswer
+arrival_answer opener version (Fault fault) = Refuses fault
+arrival_answer opener version InBetween = PassesOver
+arrival_answer true version Netinfo = IsReady version (Some silent_netinfo)
+arrival_answer false version Netinfo = IsReady version None
 
 -- An open link awaits nothing, and a refusal is repeated (rules of this relay).
-abbrev pub answer_in : Bool → Phase → WireCell → Answer
-answer_in opener Versions c = answer_to_versions opener (versions_told c)
-answer_in opener (Netinfo version) c = answer_to_netinfo opener version (netinfo_told version c)
-answer_in opener Open c = Refuses (Unexpected c.command)
-answer_in opener (Refused fault) c = Refuses fault
+abbrev pub phase_answer : Bool → Phase → WireCell → StepAnswer
+phase_answer opener AwaitsVersions c = versions_answer opener (link_version c)
+phase_answer opener (AwaitsNetinfo version) c = arrival_answer opener version (arrival version c)
+phase_answer opener Open c = Refuses (Unexpected c.command)
+phase_answer opener (Refused fault) c = Refuses fault
 
-abbrev pub answer : Side → WireCell → Answer
-answer s c = answer_in s.opener s.phase c
+abbrev pub step_answer : Side → WireCell → StepAnswer
+step_answer s c = phase_answer s.opener s.phase c
 
-abbrev pub behind_versions : Result ℕ LinkFault → Phase
-behind_versions (Err fault) = Refused fault
-behind_versions (Ok version) = Netinfo version
+abbrev pub phase_after_versions : Result ℕ LinkFault → Phase
+phase_after_versions (Err fault) = Refused fault
+phase_after_versions (Ok version) = AwaitsNetinfo version
 
-abbrev pub behind_netinfo : ℕ → Result Bool LinkFault → Phase
-behind_netinfo version (Err fault) = Refused fault
-behind_netinfo version (Ok false) = Netinfo version
-behind_netinfo version (Ok true) = Open
+abbrev pub phase_after_arrival : ℕ → Arrival → Phase
+phase_after_arrival version (Fault fault) = Refused fault
+phase_after_arrival version InBetween = AwaitsNetinfo version
+phase_after_arrival version Netinfo = Open
 
-abbrev pub phase_behind : Phase → WireCell → Phase
-phase_behind Versions c = behind_versions (versions_told c)
-phase_behind (Netinfo version) c = behind_netinfo version (netinfo_told version c)
-phase_behind Open c = Open
-phase_behind (Refused fault) c = Refused fault
+abbrev pub phase_after : Phase → WireCell → Phase
+phase_after AwaitsVersions c = phase_after_versions (link_version c)
+phase_after (AwaitsNetinfo version) c = phase_after_arrival version (arrival version c)
+phase_after Open c = Open
+phase_after (Refused fault) c = Refused fault
 
--- Where a side stands behind a cell, and behind a list of them.
-abbrev pub behind : Side → WireCell → Side
-behind s c = record { opener = s.opener; phase = phase_behind s.phase c }
+-- Where a side stands after a cell, and after a list of them.
+abbrev pub side_after : Side → WireCell → Side
+side_after s c = record { opener = s.opener; phase = phase_after s.phase c }
 
-abbrev pub behind_all : Side → List WireCell → Side
-behind_all s cells = fold behind s cells
+abbrev pub side_after_all : Side → List WireCell → Side
+side_after_all s cells = fold side_after s cells

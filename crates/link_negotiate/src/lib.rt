@@ -11,6 +11,7 @@
 #![tactic(auto)]
 
 mod answer;
+mod arrival;
 mod greeting;
 pub mod laws;
 mod negotiation;

@@ -2,9 +2,10 @@ ghost use Rattle.std.specs.Prelude.{◌≡◌, ◌≢◌, true, false};
 ghost use Rattle.cell_codec.specs.Cells.{wire_cell};
 
 use crate::answer::LinkAnswer;
+use crate::arrival::Arrival;
 use crate::greeting::{greeting, own_netinfo};
 use crate::phase::Phase;
-use crate::reading::{read_netinfo, read_versions};
+use crate::reading::{read_arrival, read_versions};
 use cell_codec::{Cell, LinkFault};
 use std::alloc::Global;
 use std::marker::Model;
@@ -26,8 +27,8 @@ impl Model for Negotiation {
 }
 
 impl Negotiation {
-    ghost use Rattle.link_negotiate.specs.Negotiation.{opening_side, answering_side, answer, behind};
-    ghost use Rattle.link_negotiate.specs.Answering.{Answers};
+    ghost use Rattle.link_negotiate.specs.Negotiation.{opening_side, answering_side, step_answer, side_after};
+    ghost use Rattle.link_negotiate.specs.Answering.{IsAnswer};
     ghost use Rattle.link_negotiate.specs.declared.answer.LinkAnswer.TheVariants.{Memory};
 
     /// The side that opened the connection. It sends VERSIONS, with `OUR_VERSIONS`, first.
@@ -37,7 +38,7 @@ impl Negotiation {
         Negotiation {
             alloc,
             opener: true,
-            phase: Phase::Versions,
+            phase: Phase::AwaitsVersions,
         }
     }
 
@@ -48,7 +49,7 @@ impl Negotiation {
         Negotiation {
             alloc,
             opener: false,
-            phase: Phase::Versions,
+            phase: Phase::AwaitsVersions,
         }
     }
 
@@ -57,22 +58,22 @@ impl Negotiation {
     /// repeated for every later cell, and an open link refuses each as unexpected: these are rules of
     /// this relay.
     ///
-    /// After `Memory` the cell was not taken.
+    /// Only the answer to VERSIONS that sends cells takes memory. After `Memory` the cell was not taken.
     pub fn step(&mut self, cell: &Cell) -> LinkAnswer
-        ensures answer { Answers result (answer self.old (wire_cell cell.now)) }
-        ensures next { result ≢ Memory → self.new ≡ behind self.old (wire_cell cell.now) }
+        ensures answer { IsAnswer result (step_answer self.old (wire_cell cell.now)) }
+        ensures next { result ≢ Memory → self.new ≡ side_after self.old (wire_cell cell.now) }
         ensures memory { result ≡ Memory → self.new ≡ self.old }
     {
         match self.phase {
-            Phase::Versions => match read_versions(cell) {
+            Phase::AwaitsVersions => match read_versions(cell) {
                 Ok(version) => {
                     if self.opener {
-                        self.phase = Phase::Netinfo(version);
+                        self.phase = Phase::AwaitsNetinfo(version);
                         return LinkAnswer::PassedOver;
                     }
                     match greeting(self.alloc) {
                         Ok(cells) => {
-                            self.phase = Phase::Netinfo(version);
+                            self.phase = Phase::AwaitsNetinfo(version);
                             LinkAnswer::Send(cells)
                         }
                         Err(_) => LinkAnswer::Memory,
@@ -83,8 +84,8 @@ impl Negotiation {
                     LinkAnswer::Refused(fault)
                 }
             },
-            Phase::Netinfo(version) => match read_netinfo(cell, version) {
-                Ok(true) => {
+            Phase::AwaitsNetinfo(version) => match read_arrival(cell, version) {
+                Arrival::Netinfo => {
                     self.phase = Phase::Open;
                     let netinfo = if self.opener {
                         Some(own_netinfo())
@@ -93,8 +94,8 @@ impl Negotiation {
                     };
                     LinkAnswer::Ready(version, netinfo)
                 }
-                Ok(false) => LinkAnswer::PassedOver,
-                Err(fault) => {
+                Arrival::InBetween => LinkAnswer::PassedOver,
+                Arrival::Fault(fault) => {
                     self.phase = Phase::Refused(fault);
                     LinkAnswer::Refused(fault)
                 }

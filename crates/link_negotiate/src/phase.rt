@@ -4,9 +4,9 @@ use cell_codec::LinkFault;
 #[derive(Clone, Copy)]
 pub enum Phase {
     /// VERSIONS is awaited.
-    Versions,
+    AwaitsVersions,
     /// NETINFO is awaited; this version was agreed on.
-    Netinfo(u16),
+    AwaitsNetinfo(u16),
     /// The link is open.
     Open,
     /// The link is refused.
