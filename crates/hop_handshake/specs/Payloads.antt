@@ -1,8 +1,7 @@
 -- The payloads of the cells that open a circuit and answer it, as they are written: what stands
 -- behind their fields is zero.
 use Rattle.std.specs.Prelude.{ℕ, ◌-◌, [], ◌∷◌, ◌++◌, List, length, replicate}
-use Rattle.std.specs.Int.{w16, to_be_bytes}
-use Rattle.tor_spec.specs.Extend.{handshake_reply_payload}
+use Rattle.tor_spec.specs.Extend.{handshake_reply_payload, handshake_request_payload}
 
 -- A payload of 509 bytes that begins with these fields.
 abbrev pub filled : List ℕ → List ℕ
@@ -14,7 +13,7 @@ created_fast_payload y kh = filled (y ++ kh)
 
 -- CREATE2 (tor-spec, "CREATE and CREATED cells"): HTYPE (2 bytes), HLEN (2), HDATA (HLEN).
 abbrev pub create2_payload : ℕ → List ℕ → List ℕ
-create2_payload htype hdata = filled (to_be_bytes w16 htype ++ handshake_reply_payload hdata)
+create2_payload htype hdata = filled (handshake_request_payload htype hdata)
 
 -- CREATED2 (tor-spec, "CREATE and CREATED cells"): HLEN (2 bytes), HDATA (HLEN).
 abbrev pub created2_payload : List ℕ → List ℕ

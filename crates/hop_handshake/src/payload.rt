@@ -2,6 +2,8 @@
 ghost use Rattle.std.specs.Prelude.{◌≡◌, ◌≤◌, length};
 ghost use Rattle.hop_handshake.specs.Payloads.{filled, created2_payload};
 
+use byteorder::{BigEndian, ByteOrder};
+
 /// These fields, then zeros up to the 509 bytes of a fixed payload.
 pub fn filled(fields: &[u8]) -> [u8; 509]
     requires { length fields.now ≤ 509 }
@@ -18,7 +20,8 @@ pub fn created2_payload(hdata: &[u8]) -> [u8; 509]
     requires { length hdata.now ≤ 507 }
     ensures { result ≡ created2_payload hdata.now }
 {
-    let mut payload = filled(&(hdata.len() as u16).to_be_bytes());
+    let mut payload = [0; 509];
+    BigEndian::write_u16(&mut payload, hdata.len() as u16);
     payload[2..2 + hdata.len()].copy_from_slice(hdata);
     payload
 }
