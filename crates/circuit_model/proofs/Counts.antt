@@ -5,7 +5,9 @@ use Rattle.tor_spec.specs.Extend.{Extend, handshake_reply}
 use Rattle.circuit_model.specs.Events.{Event, Born, Forward, Backward, Connected, Data, Ended, Drained, Freed, Linked, Answered, Failed}
 use Rattle.circuit_model.specs.Rules.{Rules}
 use Rattle.circuit_model.specs.Log.{Log, Message, Effects, no_effects, closing, newest, is_closed}
-use Rattle.circuit_model.specs.NextHop.{NextHop, Absent, Dialling, Waiting, There, next_hop}
+use Rattle.circuit_model.specs.declared.next_hop.NextHop.{NextHop}
+use Rattle.circuit_model.specs.declared.next_hop.NextHop.TheVariants.{Absent, Dialling, Waiting, There}
+use Rattle.circuit_model.specs.NextHop.{next_hop}
 use Rattle.circuit_model.specs.Places.{Place, place_at}
 use Rattle.circuit_model.specs.Packaged.{packaged_by}
 use Rattle.circuit_model.specs.Windows.{has_command, is_data_of, is_data_body, circuit_packaged, circuit_grant, stream_packaged, stream_grant}

@@ -6,7 +6,9 @@ use Rattle.tor_spec.specs.Extend.{handshake_reply}
 use Rattle.circuit_model.specs.Events.{CircuitCell, Event, Born, Forward, Backward, Connected, Data, Ended, Drained, Freed, Linked, Answered, Failed}
 use Rattle.circuit_model.specs.Rules.{Rules}
 use Rattle.circuit_model.specs.Log.{Log, Message, Effects, no_effects, is_closed, pushed}
-use Rattle.circuit_model.specs.NextHop.{NextHop, Absent, Dialling, Waiting, There, next_hop, has_leg, is_absent, is_linked, leg_count}
+use Rattle.circuit_model.specs.declared.next_hop.NextHop.{NextHop}
+use Rattle.circuit_model.specs.declared.next_hop.NextHop.TheVariants.{Absent, Dialling, Waiting, There}
+use Rattle.circuit_model.specs.NextHop.{next_hop, has_leg, is_absent, is_linked, leg_count}
 use Rattle.circuit_model.specs.Opened.{keys_in, reply_in, born_keys, born_reply}
 use Rattle.circuit_model.specs.Packaged.{behind}
 use Rattle.circuit_model.specs.Places.{Place, place_at}

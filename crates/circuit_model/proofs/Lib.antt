@@ -8,3 +8,5 @@ pub mod Streams
 pub mod PathLayers
 pub mod Versions
 pub mod Keystreams
+pub mod Copied
+pub mod Handshakes

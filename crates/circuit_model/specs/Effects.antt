@@ -5,7 +5,9 @@ use Rattle.tor_spec.specs.RelayCell.{begin_command, data_command, end_command, s
 use Rattle.circuit_model.specs.Events.{Event, Born, Forward, Backward, Connected, Data, Ended, Drained, Freed, Linked, Answered, Failed, CircuitCell}
 use Rattle.circuit_model.specs.Rules.{Rules}
 use Rattle.circuit_model.specs.Log.{Log, Message, Effects, no_effects, closing, is_closed}
-use Rattle.circuit_model.specs.NextHop.{NextHop, next_hop, There}
+use Rattle.circuit_model.specs.declared.next_hop.NextHop.{NextHop}
+use Rattle.circuit_model.specs.declared.next_hop.NextHop.TheVariants.{There}
+use Rattle.circuit_model.specs.NextHop.{next_hop}
 use Rattle.circuit_model.specs.Places.{place_at}
 use Rattle.circuit_model.specs.Received.{Received, TooManyEarly, Unrecognised, TooLong, ForUs, received}
 use Rattle.circuit_model.specs.Streams.{begin_effects, data_effects, end_effects, sendme_effects, resolve_effects, ending, connected_effects, edge_data_effects, ended_effects, drained_effects}

@@ -1,24 +1,17 @@
 -- What can happen to one circuit of a relay. Places are named by their serial: the accepted BEGIN
 -- with number 0 of the circuit makes place 0, the next one place 1, and so on.
 use Rattle.std.specs.Prelude.{ℕ, List, Option}
+use Rattle.kdf_tor.specs.declared.LayerKeys.{LayerKeys}
+use Rattle.circuit_model.specs.declared.cell.CircuitCell.{CircuitCell as Declared}
 
--- A cell on a circuit without its CircID: the cell command and the payload of 509 bytes.
-pub record CircuitCell : Type 0 where
-  pub command : ℕ
-  pub body : List ℕ
-
--- What relay and client share (tor-spec, "Setting circuit keys"): the seeds of the forward and the
--- backward running digest, Df and Db, and the keys of the forward and the backward cipher, Kf and Kb.
-pub record CircuitKeys : Type 0 where
-  pub df : List ℕ
-  pub db : List ℕ
-  pub kf : List ℕ
-  pub kb : List ℕ
+-- A cell on a circuit without its CircID.
+abbrev pub CircuitCell : Type 0
+CircuitCell = Declared
 
 pub data Event : Type 0 where
   -- the circuit is opened: the cell that answers the opening, the keys, and the key that makes the padding
   -- of this relay's bodies, if there is one; always the first event
-  Born : (reply : CircuitCell) (keys : CircuitKeys) (pad : Option (List ℕ)) → Event
+  Born : (reply : CircuitCell) (keys : LayerKeys) (pad : Option (List ℕ)) → Event
   -- a RELAY or RELAY_EARLY cell from the client's side: its command and its body as it came
   Forward : (command : ℕ) (body : List ℕ) → Event
   -- the body of a RELAY cell from the next hop

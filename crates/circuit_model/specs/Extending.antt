@@ -1,11 +1,10 @@
 -- The rows of the table of effects that concern the next hop (tor-spec, "EXTEND and EXTENDED cells",
 -- "CREATE and CREATED cells", "Tearing down circuits").
 use Rattle.std.specs.Prelude.{ℕ, ◌-◌, [], ◌∷◌, ◌++◌, List, length, not, if◌then◌else◌, Option, Some, None, is_some, nat_le, option_and_then, replicate}
-use Rattle.std.specs.Int.{w16, to_be_bytes}
 use Rattle.tor_spec.specs.CellCommands.{create2_command}
 use Rattle.tor_spec.specs.Reasons.{destroy_protocol, destroy_requested}
 use Rattle.tor_spec.specs.RelayCell.{truncated_command, extended2_command}
-use Rattle.tor_spec.specs.Extend.{Address, Extend, extend_request, handshake_reply, handshake_reply_payload}
+use Rattle.tor_spec.specs.Extend.{Address, Extend, extend_request, handshake_reply, handshake_reply_payload, handshake_request_payload}
 use Rattle.circuit_model.specs.Events.{CircuitCell}
 use Rattle.circuit_model.specs.Log.{Entry, Log, Message, Effects, no_effects, closing, newest}
 use Rattle.circuit_model.specs.NextHop.{next_hop, is_absent}
@@ -48,7 +47,7 @@ filled bytes = bytes ++ replicate (509 - length bytes) 0
 unfoldable pub create2 : Extend → CircuitCell
 create2 request = record {
   command = create2_command;
-  body = filled (to_be_bytes w16 request.handshake_type ++ handshake_reply_payload request.handshake);
+  body = filled (handshake_request_payload request.handshake_type request.handshake);
 }
 
 abbrev pub creating : Option Extend → Effects

@@ -5,6 +5,7 @@ use Rattle.std.specs.Prelude.{ℕ, ◌+◌, [], ◌∷◌, ◌++◌, List, Bool,
 use Rattle.std.specs.List.{list_any}
 use Rattle.std.specs.Option.{option_or}
 use Rattle.tor_spec.specs.Extend.{Address}
+use Rattle.circuit_model.specs.declared.places.StreamKey.{StreamKey as Declared}
 use Rattle.circuit_model.specs.Events.{Event, CircuitCell}
 
 -- A relay message that is for this relay: a recognised relay cell of a fitting Length.
@@ -21,9 +22,8 @@ pub record Message : Type 0 where
   pub place : Option ℕ
 
 -- The name of a stream at the edge: its StreamID and the serial of its place.
-pub record StreamKey : Type 0 where
-  pub stream : ℕ
-  pub serial : ℕ
+abbrev pub StreamKey : Type 0
+StreamKey = Declared
 
 -- What the edge is to do: make a connection, write bytes to it, close it with a reason.
 pub data Order : Type 0 where

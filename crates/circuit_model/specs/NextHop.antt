@@ -2,16 +2,10 @@
 -- circuits"). A leg is the circuit on one channel: leg 0 towards the client, leg k towards the next
 -- hop that was linked as the k-th.
 use Rattle.std.specs.Prelude.{ℕ, Bool, true, false, if◌then◌else◌, Option, Some, None, unwrap_or, is_some}
+use Rattle.circuit_model.specs.declared.next_hop.NextHop.{NextHop}
+use Rattle.circuit_model.specs.declared.next_hop.NextHop.TheVariants.{Absent, Dialling, Waiting, There}
 use Rattle.circuit_model.specs.Events.{Event, Linked, Answered}
 use Rattle.circuit_model.specs.Log.{Log, Effects, count_of, newest}
-
-pub data NextHop : Type 0 where
-  Absent : NextHop
-  -- a channel to it is wanted
-  Dialling : NextHop
-  -- CREATE2 was given to it, CREATED2 is awaited
-  Waiting : NextHop
-  There : NextHop
 
 -- What an entry's effects make of the next hop: an accepted EXTEND2 dials it, TRUNCATE gives it up.
 abbrev pub hop_by_effects : Effects → Option NextHop

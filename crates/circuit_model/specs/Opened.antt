@@ -3,19 +3,20 @@
 use Rattle.std.specs.Prelude.{ℕ, ◌*◌, [], ◌∷◌, ◌++◌, List, Bool, true, false, if◌then◌else◌, Option, Some, None, unwrap_or, replicate}
 use Rattle.crypto_spec.specs.HopLayer.{layered, is_recognised}
 use Rattle.crypto_spec.specs.RunningDigest.{running_digest}
-use Rattle.circuit_model.specs.Events.{Event, Born, Forward, CircuitCell, CircuitKeys}
+use Rattle.kdf_tor.specs.declared.LayerKeys.{LayerKeys}
+use Rattle.circuit_model.specs.Events.{Event, Born, Forward, CircuitCell}
 use Rattle.circuit_model.specs.Log.{Log, count_of, newest}
 
-abbrev pub keys_in : Event → Option CircuitKeys
+abbrev pub keys_in : Event → Option LayerKeys
 keys_in (Born reply keys pad) = Some keys
 keys_in event = None
 
 -- Stands in for the keys before Born.
-abbrev pub no_keys : CircuitKeys
+abbrev pub no_keys : LayerKeys
 no_keys = record { df = replicate 20 0; db = replicate 20 0; kf = replicate 16 0; kb = replicate 16 0 }
 
 -- The keys that the circuit was opened with.
-abbrev pub born_keys : Log → CircuitKeys
+abbrev pub born_keys : Log → LayerKeys
 born_keys log = unwrap_or (newest (λ entry. keys_in entry.event) log) no_keys
 
 abbrev pub reply_in : Event → Option CircuitCell

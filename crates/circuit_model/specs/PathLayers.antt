@@ -4,11 +4,11 @@ use Rattle.std.specs.Prelude.{ℕ, ◌+◌, ◌*◌, [], ◌∷◌, ◌++◌, Li
 use Rattle.crypto_spec.specs.HopLayer.{layered, is_recognised}
 use Rattle.crypto_spec.specs.RunningDigest.{running_digest}
 use Rattle.tor_spec.specs.RelayCell.{with_digest}
-use Rattle.circuit_model.specs.Events.{CircuitKeys}
+use Rattle.kdf_tor.specs.declared.LayerKeys.{LayerKeys}
 
 -- What the client shares with one hop, and what has gone between them so far.
 pub record PathHop : Type 0 where
-  pub keys : CircuitKeys
+  pub keys : LayerKeys
   -- how many bodies the client sent through this hop's layer, and how many came back through it
   pub sent : ℕ
   pub came : ℕ

@@ -4,6 +4,8 @@
 use Rattle.std.specs.Prelude.{ℕ, ◌==◌, ◌&&◌, Bool, true, false, if◌then◌else◌, List, length, Option, Some, None, option_map, find, filter, slice_get}
 use Rattle.std.specs.List.{list_any}
 use Rattle.tor_spec.specs.Extend.{Address}
+use Rattle.circuit_model.specs.declared.places.Phase.{Phase}
+use Rattle.circuit_model.specs.declared.places.Phase.TheVariants.{Reaching, Joined, Ending, Free}
 use Rattle.circuit_model.specs.Events.{Event, Connected, Freed}
 use Rattle.circuit_model.specs.Log.{Log, StreamKey, Order, Reach, Close, collected}
 
@@ -24,13 +26,6 @@ places log = collected (λ entry. place_of entry.effects.edge) log
 -- The place with this serial.
 abbrev pub place_at : Log → ℕ → Option Place
 place_at log serial = slice_get (places log) serial
-
--- Not yet connected; connected; ended by either side; given back.
-pub data Phase : Type 0 where
-  Reaching : Phase
-  Joined : Phase
-  Ending : Phase
-  Free : Phase
 
 abbrev pub connects : ℕ → Event → Bool
 connects serial (Connected n) = n == serial

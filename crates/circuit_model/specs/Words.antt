@@ -3,7 +3,7 @@
 -- A history is a list of events, the newest first; `in_order` turns the public form, oldest first,
 -- into it. `log rules history` is its log, and every other word is one of the log:
 --
---   events             Events     Event, CircuitCell, CircuitKeys
+--   events             Events     Event, CircuitCell
 --   rules              Rules      Rules, Allow, allowed_address, resolved_address
 --   log                Log        Log, Entry, Message, Effects, Order, StreamKey, is_closed
 --   opened bodies      Opened     born_keys, born_reply, born_pad, forward_count, plain_body, recognised_bodies

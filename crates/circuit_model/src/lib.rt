@@ -6,4 +6,11 @@
 //! show what the definitions mean.
 #![tactic(auto)]
 
+mod cell;
 pub mod laws;
+mod next_hop;
+mod places;
+
+pub use cell::CircuitCell;
+pub use next_hop::NextHop;
+pub use places::{Phase, StreamKey};
