@@ -1,4 +1,3 @@
 pub mod Values
 pub mod Received
-pub mod Created
 pub mod Reading

@@ -1,18 +1,14 @@
 -- What the program's values are in the definitions.
 use Rattle.std.specs.Prelude.{List, map, option_map}
-use Rattle.kdf_tor.specs.declared.LayerKeys.{LayerKeys}
 use Rattle.tor_spec.specs.Extend.{Address as ModelAddress}
-use Rattle.circuit_model.specs.Events.{CircuitCell as ModelCell, CircuitKeys, Event as ModelEvent, Born as born, Forward as forward, Backward as backward, Connected as connected, Data as edge_data, Ended as ended, Drained as drained, Freed as freed, Linked as linked, Answered as answered, Failed as failed}
+use Rattle.circuit_model.specs.Events.{Event as ModelEvent, Born as born, Forward as forward, Backward as backward, Connected as connected, Data as edge_data, Ended as ended, Drained as drained, Freed as freed, Linked as linked, Answered as answered, Failed as failed}
 use Rattle.circuit_model.specs.Rules.{Allow as ModelAllow, Rules as ModelRules}
-use Rattle.circuit_model.specs.Log.{Message as ModelMessage, StreamKey as ModelKey, Order as ModelOrder, Reach as reach, Carry as carry, Close as close_order, Effects as ModelEffects, Entry as ModelEntry, Log}
-use Rattle.circuit_model.specs.NextHop.{NextHop as ModelHop, Absent as absent, Dialling as dialling, Waiting as waiting, There as there}
-use Rattle.circuit_model.specs.Places.{Place as ModelPlace, Phase as ModelPhase, Reaching as reaching, Joined as joined, Ending as ending, Free as free}
+use Rattle.circuit_model.specs.Log.{Message as ModelMessage, Order as ModelOrder, Reach as reach, Carry as carry, Close as close_order, Effects as ModelEffects, Entry as ModelEntry, Log}
+use Rattle.circuit_model.specs.Places.{Place as ModelPlace}
 use Rattle.circuit_model.specs.Words.{in_order}
-use Rattle.plain_circuit.specs.declared.event.CircuitCell.{CircuitCell}
 use Rattle.plain_circuit.specs.declared.event.Event.{Event}
 use Rattle.plain_circuit.specs.declared.event.Event.TheVariants.{Born, Forward, Backward, Connected, Data, Ended, Drained, Freed, Linked, Answered, Failed}
 use Rattle.plain_circuit.specs.declared.effects.Address.{Address}
-use Rattle.plain_circuit.specs.declared.effects.StreamKey.{StreamKey}
 use Rattle.plain_circuit.specs.declared.effects.Order.{Order}
 use Rattle.plain_circuit.specs.declared.effects.Order.TheVariants.{Reach, Carry, Close}
 use Rattle.plain_circuit.specs.declared.effects.Effects.{Effects}
@@ -20,20 +16,10 @@ use Rattle.plain_circuit.specs.declared.rules.Allow.{Allow}
 use Rattle.plain_circuit.specs.declared.rules.Rules.{Rules}
 use Rattle.plain_circuit.specs.declared.log.Message.{Message}
 use Rattle.plain_circuit.specs.declared.log.Entry.{Entry}
-use Rattle.plain_circuit.specs.declared.next_hop.NextHop.{NextHop}
-use Rattle.plain_circuit.specs.declared.next_hop.NextHop.TheVariants.{Absent, Dialling, Waiting, There}
 use Rattle.plain_circuit.specs.declared.places.Place.{Place}
-use Rattle.plain_circuit.specs.declared.places.Phase.{Phase}
-use Rattle.plain_circuit.specs.declared.places.Phase.TheVariants.{Reaching, Joined, Ending, Free}
-
-abbrev pub cell_of : CircuitCell → ModelCell
-cell_of c = record { command = c.command; body = c.body }
-
-abbrev pub keys_of : LayerKeys → CircuitKeys
-keys_of k = record { df = k.df; db = k.db; kf = k.kf; kb = k.kb }
 
 abbrev pub event_of : Event → ModelEvent
-event_of (Born reply keys pad) = born (cell_of reply) (keys_of keys) pad
+event_of (Born reply keys pad) = born reply keys pad
 event_of (Forward command body) = forward command body
 event_of (Backward body) = backward body
 event_of (Connected serial) = connected serial
@@ -58,18 +44,15 @@ allow_of line = record { host = line.host.items; port = line.port; to = address_
 abbrev pub rules_of : Rules → ModelRules
 rules_of rules = record { allow = map allow_of rules.allow.items; window = rules.window; least = rules.least }
 
-abbrev pub key_of : StreamKey → ModelKey
-key_of k = record { stream = k.stream; serial = k.serial }
-
 abbrev pub order_of : Order → ModelOrder
-order_of (Reach key to) = reach (key_of key) (address_of to)
-order_of (Carry key bytes) = carry (key_of key) bytes.items
-order_of (Close key reason) = close_order (key_of key) reason
+order_of (Reach key to) = reach key (address_of to)
+order_of (Carry key bytes) = carry key bytes.items
+order_of (Close key reason) = close_order key reason
 
 abbrev pub effects_of : Effects → ModelEffects
 effects_of e = record {
   back = e.back;
-  forth = option_map cell_of e.forth;
+  forth = e.forth;
   edge = option_map order_of e.edge;
   dial = option_map address_of e.dial;
   cut = e.cut;
@@ -97,17 +80,5 @@ entry_of e = record {
 abbrev pub log_of : List Entry → Log
 log_of entries = in_order (map entry_of entries)
 
-abbrev pub hop_of : NextHop → ModelHop
-hop_of Absent = absent
-hop_of Dialling = dialling
-hop_of Waiting = waiting
-hop_of There = there
-
 abbrev pub place_of : Place → ModelPlace
-place_of p = record { key = key_of p.key; to = address_of p.to }
-
-abbrev pub phase_of : Phase → ModelPhase
-phase_of Reaching = reaching
-phase_of Joined = joined
-phase_of Ending = ending
-phase_of Free = free
+place_of p = record { key = p.key; to = address_of p.to }

@@ -1,19 +1,12 @@
 //! What an event has the relay do.
 
-use crate::event::CircuitCell;
+use circuit_model::{CircuitCell, StreamKey};
 
 /// An IPv4 address and a port.
 #[derive(Clone, Copy)]
 pub struct Address {
     pub ip: [u8; 4],
     pub port: u16,
-}
-
-/// The name of a stream at the edge: its StreamID and the serial of its place.
-#[derive(Clone, Copy)]
-pub struct StreamKey {
-    pub stream: u16,
-    pub serial: usize,
 }
 
 /// What the edge is to do.

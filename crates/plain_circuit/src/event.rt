@@ -2,14 +2,8 @@
 
 ghost use Rattle.std.specs.Prelude.{◌≤◌, vec_len};
 
+use circuit_model::CircuitCell;
 use kdf_tor::LayerKeys;
-
-/// A cell on a circuit without its CircID: command and payload.
-#[derive(Clone, Copy)]
-pub struct CircuitCell {
-    pub command: u8,
-    pub body: [u8; 509],
-}
 
 /// Bytes that one DATA has room for.
 #[derive(Drop)]

@@ -1,19 +1,19 @@
 //! Messages and events that concern the next hop.
 
-ghost use Rattle.std.specs.Prelude.{◌≡◌, ◌≤◌, ◌-◌, ◌++◌, IfOk, IfSome, length, option_map, replicate};
-ghost use Rattle.tor_spec.specs.Extend.{extend_request};
+ghost use Rattle.std.specs.Prelude.{◌≡◌, ◌≤◌, ◌++◌, IfOk, IfSome, length, option_map};
+ghost use Rattle.std.specs.Int.{w16, to_be_bytes};
+ghost use Rattle.tor_spec.specs.Extend.{extend_request, handshake_request_payload};
 ghost use Rattle.relay_cell.specs.Extend.{extend_of};
 ghost use Rattle.circuit_model.specs.NextHop.{next_hop, is_absent};
-ghost use Rattle.circuit_model.specs.Extending.{address_asked, extend_effects, truncate_effects, accepted_request, create2, linked_effects, answered_effects};
-ghost use Rattle.plain_circuit.specs.Created.{create2_front};
-ghost use Rattle.plain_circuit.specs.Values.{log_of, message_of, entry_of, effects_of, address_of, cell_of};
+ghost use Rattle.circuit_model.specs.Extending.{address_asked, extend_effects, truncate_effects, accepted_request, create2, filled, linked_effects, answered_effects};
+ghost use Rattle.plain_circuit.specs.Values.{log_of, message_of, entry_of, effects_of, address_of};
 
 use crate::effects::{Address, Effects};
-use crate::event::CircuitCell;
 use crate::log::{Entry, Message};
-use crate::next_hop::{NextHop, next_hop};
+use crate::next_hop::next_hop;
 use crate::packaged::packaging;
 use cell_codec::{command, destroy_reason};
+use circuit_model::{CircuitCell, NextHop};
 use relay_cell::{Extend2, extended2_body, read_extend2, read_handshake_reply, truncated_body};
 use std::alloc::{AllocError, Global};
 
@@ -85,9 +85,8 @@ fn accepted_request<'a>(entry: &'a Entry<'_>) -> Option<Extend2<'a>>
 }
 
 /// HTYPE and HLEN.
-#[tactic(auto, unfolding(crate::specs::Created::create2_front))]
 fn create2_head(htype: u16, length: u16) -> [u8; 4]
-    ensures { result ≡ create2_front htype length }
+    ensures { result ≡ to_be_bytes w16 htype ++ to_be_bytes w16 length }
 {
     let [type_high, type_low] = htype.to_be_bytes();
     let [length_high, length_low] = length.to_be_bytes();
@@ -95,10 +94,9 @@ fn create2_head(htype: u16, length: u16) -> [u8; 4]
 }
 
 /// The payload of CREATE2; the rest is zero.
-#[tactic(auto)]
 fn create2_body(htype: u16, hdata: &[u8]) -> [u8; 509]
     requires { length hdata.now ≤ 498 }
-    ensures { result ≡ create2_front htype (length hdata.now) ++ hdata.now ++ replicate (505 - length hdata.now) 0 }
+    ensures { result ≡ filled (handshake_request_payload htype hdata.now) }
 {
     let mut body = [0; 509];
     let end = 4 + hdata.len();
@@ -108,10 +106,10 @@ fn create2_body(htype: u16, hdata: &[u8]) -> [u8; 509]
 }
 
 /// CREATE2: HTYPE, HLEN and HDATA as the EXTEND2 had them.
-#[tactic(auto, using(crate::proofs::Handshakes::create2_filled))]
+#[tactic(auto, unfolding(circuit_model::specs::Extending::create2))]
 fn create2(request: &Extend2<'_>) -> CircuitCell
     requires { length request.now.hdata.now ≤ 498 }
-    ensures { cell_of result ≡ create2 (extend_of request.now) }
+    ensures { result ≡ create2 (extend_of request.now) }
 {
     CircuitCell {
         command: command::CREATE2,

@@ -1,26 +1,17 @@
 //! The next hop of a circuit.
 
-ghost use Rattle.std.specs.Prelude.{◌≡◌, option_map};
+ghost use Rattle.std.specs.Prelude.{◌≡◌};
 ghost use Rattle.circuit_model.specs.NextHop.{hop_by, next_hop};
-ghost use Rattle.plain_circuit.specs.Values.{log_of, event_of, effects_of, hop_of};
+ghost use Rattle.plain_circuit.specs.Values.{log_of, event_of, effects_of};
 
 use crate::effects::Effects;
 use crate::event::Event;
 use crate::log::Entry;
-
-#[derive(Clone, Copy)]
-pub enum NextHop {
-    Absent,
-    /// A channel to it is wanted.
-    Dialling,
-    /// CREATE2 was given to it, CREATED2 is awaited.
-    Waiting,
-    There,
-}
+use circuit_model::NextHop;
 
 /// What an event makes of the next hop.
 fn hop_by(event: &Event, effects: &Effects) -> Option<NextHop>
-    ensures { option_map hop_of result ≡ hop_by (event_of event.now) (effects_of effects.now) }
+    ensures { result ≡ hop_by (event_of event.now) (effects_of effects.now) }
 {
     match event {
         Event::Linked => Some(NextHop::Waiting),
@@ -33,7 +24,7 @@ fn hop_by(event: &Event, effects: &Effects) -> Option<NextHop>
 
 /// The newest entry that says something of the next hop decides.
 pub fn next_hop(log: &[Entry<'_>]) -> NextHop
-    ensures { hop_of result ≡ next_hop (log_of log.now) }
+    ensures { result ≡ next_hop (log_of log.now) }
 {
     let mut hop = NextHop::Absent;
     for entry in log {

@@ -1,6 +1,6 @@
 //! Relay cells from the client's side with this relay's layer taken off, and which are recognised.
 
-ghost use Rattle.std.specs.Prelude.{◌≡◌, ℕ, ◌+◌, ◌*◌, ◌^◌, ◌<◌, ◌&&◌, ◌++◌, ◌∷◌, [], List, IfOk, option_map, bytes_eq, length, take, drop};
+ghost use Rattle.std.specs.Prelude.{◌≡◌, ℕ, ◌+◌, ◌*◌, ◌^◌, ◌<◌, ◌&&◌, ◌++◌, ◌∷◌, [], List, IfOk, bytes_eq, length, take, drop};
 ghost use Rattle.crypto_spec.specs.HopLayer.{layered};
 ghost use Rattle.crypto_spec.specs.Keystream.{keystream_part};
 ghost use Rattle.crypto_spec.specs.RunningDigest.{running_digest};
@@ -8,7 +8,7 @@ ghost use Rattle.run_digest.specs.HashState.{StandsFor};
 ghost use Rattle.circuit_model.specs.Log.{Entry as ModelEntry, pushed};
 ghost use Rattle.circuit_model.specs.Opened.{keys_in, no_keys, born_keys, pad_in, born_pad, is_forward, forward_count, plain_body, with_recognised, recognised_with, recognised_bodies};
 ghost use Rattle.plain_circuit.specs.Reading.{IsReader};
-ghost use Rattle.plain_circuit.specs.Values.{log_of, event_of, keys_of};
+ghost use Rattle.plain_circuit.specs.Values.{log_of, event_of};
 
 use crate::event::Event;
 use crate::log::Entry;
@@ -18,7 +18,7 @@ use run_digest::Running;
 use std::alloc::{AllocError, Global};
 
 fn keys_in(event: &Event) -> Option<LayerKeys>
-    ensures { option_map keys_of result ≡ keys_in (event_of event.now) }
+    ensures { result ≡ keys_in (event_of event.now) }
 {
     match event {
         Event::Born(_, keys, _) => Some(*keys),
@@ -28,7 +28,7 @@ fn keys_in(event: &Event) -> Option<LayerKeys>
 
 /// Stands in for the keys before the circuit is opened.
 fn no_keys() -> LayerKeys
-    ensures { keys_of result ≡ no_keys }
+    ensures { result ≡ no_keys }
 {
     LayerKeys {
         df: [0; 20],
@@ -40,7 +40,7 @@ fn no_keys() -> LayerKeys
 
 /// The keys that the circuit was opened with; zero bytes stand in before that.
 pub fn born_keys(log: &[Entry<'_>]) -> LayerKeys
-    ensures { keys_of result ≡ born_keys (log_of log.now) }
+    ensures { result ≡ born_keys (log_of log.now) }
 {
     let mut keys = no_keys();
     for entry in log {

@@ -1,12 +1,13 @@
 //! The places of a circuit: its streams at this relay.
 
 ghost use Rattle.std.specs.Prelude.{◌≡◌, ◌≤◌, ◌==◌, ◌&&◌, IfOk, length, filter, find, map, option_map, slice_get};
-ghost use Rattle.circuit_model.specs.Places.{place_of as place_made_by, connects, frees, closes_place, is_connected, is_ended, is_freed, phase, is_live, is_live_phase, is_taken_phase, places, place_at, live_place, taken_places};
-ghost use Rattle.plain_circuit.specs.Values.{log_of, event_of, order_of, place_of, phase_of};
+ghost use Rattle.circuit_model.specs.Places.{place_of as place_made_by, connects, frees, closes_place, is_connected, is_ended, is_freed, phase, is_live, is_taken_phase, places, place_at, live_place, taken_places};
+ghost use Rattle.plain_circuit.specs.Values.{log_of, event_of, order_of, place_of};
 
-use crate::effects::{Address, Order, StreamKey};
+use crate::effects::{Address, Order};
 use crate::event::Event;
 use crate::log::Entry;
+use circuit_model::{Phase, StreamKey};
 use std::alloc::{AllocError, Global};
 
 #[derive(Clone, Copy)]
@@ -14,15 +15,6 @@ pub struct Place {
     pub key: StreamKey,
     /// Where its stream is connected to.
     pub to: Address,
-}
-
-/// Not yet connected; connected; ended by either side; given back.
-#[derive(Clone, Copy)]
-pub enum Phase {
-    Reaching,
-    Joined,
-    Ending,
-    Free,
 }
 
 fn connects(serial: usize, event: &Event) -> bool
@@ -82,7 +74,7 @@ fn is_freed(log: &[Entry<'_>], serial: usize) -> bool
 /// The phase of a place that was made.
 #[tactic(auto, unfolding(circuit_model::specs::Places::phase))]
 pub fn phase_at(log: &[Entry<'_>], serial: usize) -> Phase
-    ensures { phase_of result ≡ phase (log_of log.now) serial }
+    ensures { result ≡ phase (log_of log.now) serial }
 {
     if is_freed(log, serial) {
         Phase::Free

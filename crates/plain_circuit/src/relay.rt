@@ -1,16 +1,16 @@
 //! What the one-thread relay does with an event after a history.
 
-ghost use Rattle.std.specs.Prelude.{◌≡◌, IfOk, option_map};
+ghost use Rattle.std.specs.Prelude.{◌≡◌, IfOk};
 ghost use Rattle.circuit_model.specs.Effects.{message_effects, passed_on, forward_effects, open_effects};
 ghost use Rattle.circuit_model.specs.Words.{entry_after, log, effects};
-ghost use Rattle.plain_circuit.specs.Values.{history_of, log_of, rules_of, event_of, message_of, effects_of, entry_of, cell_of, hop_of};
+ghost use Rattle.plain_circuit.specs.Values.{history_of, log_of, rules_of, event_of, message_of, effects_of, entry_of};
 ghost use Rattle.plain_circuit.specs.Received.{received_of};
 
 use crate::effects::Effects;
-use crate::event::{CircuitCell, Event};
+use crate::event::Event;
 use crate::extending::{answered_effects, extend_effects, linked_effects, truncate_effects};
 use crate::log::{Entry, Message};
-use crate::next_hop::{NextHop, next_hop};
+use crate::next_hop::next_hop;
 use crate::places::place_at;
 use crate::received::{Received, is_closed, read_cell};
 use crate::rules::Rules;
@@ -19,6 +19,7 @@ use crate::streams::{
     end_effects, ended_effects, ending, resolve_effects, sendme_effects,
 };
 use cell_codec::destroy_reason;
+use circuit_model::{CircuitCell, NextHop};
 use relay_cell::{command, stream_end};
 use std::alloc::{AllocError, Global};
 
@@ -47,7 +48,7 @@ fn message_effects(
 
 /// A body for another hop goes on with the command of its cell, if there is a next hop.
 fn passed_on(hop: NextHop, cell: CircuitCell) -> Effects
-    ensures { effects_of result ≡ passed_on (hop_of hop) (cell_of cell) }
+    ensures { effects_of result ≡ passed_on hop cell }
 {
     match hop {
         NextHop::There => Effects {

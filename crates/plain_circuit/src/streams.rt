@@ -7,7 +7,7 @@ ghost use Rattle.circuit_model.specs.Rules.{resolved_address};
 ghost use Rattle.circuit_model.specs.Streams.{ending, begin_effects, acknowledging, data_effects, end_effects, stream_sendme_at, sendme_effects, resolved_value, resolve_effects, connected_effects, edge_data_effects, ended_effects, drained_effects};
 ghost use Rattle.plain_circuit.specs.Values.{log_of, rules_of, message_of, effects_of, address_of, place_of};
 
-use crate::effects::{Address, Effects, Order, StreamKey};
+use crate::effects::{Address, Effects, Order};
 use crate::event::Piece;
 use crate::log::{Entry, Message};
 use crate::packaged::packaging;
@@ -19,6 +19,7 @@ use crate::windows::{
     grant_for, packed_for,
 };
 use cell_codec::destroy_reason;
+use circuit_model::StreamKey;
 use relay_cell::{
     circuit_sendme_body, connected_body, data_body, end_body, end_reason, read_begin, read_resolve,
     resolved_body, resolved_type, stream_end, stream_sendme_body,

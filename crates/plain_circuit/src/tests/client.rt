@@ -3,12 +3,13 @@
 ghost use Rattle.std.specs.Prelude.{◌<◌};
 
 use crate::effects::Address;
-use crate::event::{CircuitCell, Event, Piece};
+use crate::event::{Event, Piece};
 use crate::log::Entry;
 use crate::relay::{effects, log_of};
 use crate::rules::{Allow, Rules};
 use crate::tests::deeds::{Deeds, NOTHING, deeds_of, last_deeds};
 use aes_ctr::Stream;
+use circuit_model::CircuitCell;
 use kdf_tor::{LayerKeys, derive};
 use relay_cell::{begin_body, put_digest};
 use run_digest::Running;

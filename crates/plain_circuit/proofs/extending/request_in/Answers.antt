@@ -1,6 +1,6 @@
 use Rattle.std.proofs.Common.{arith}
 use Rattle.relay_cell.specs.Extend.{extend_of}
-use Rattle.plain_circuit.proofs.Handshakes.{extend_handshake_short}
+use Rattle.circuit_model.proofs.Handshakes.{extend_handshake_short}
 use Rattle.plain_circuit.proofs.extending.request_in.Goals as goal
 
 pub returns-clause-short : goal.returns-clause-short
