@@ -2,7 +2,8 @@
 use Rattle.std.proofs.Common.{◌≡◌, ◌≢◌, ◌<◌, ℕ, ◌==◌, List, ◌∷◌, length, get_or, Bool, true, false, Option, Some, None, refl, sym, ap, subst, ◌∙◌, arith}
 use Rattle.std.proofs.lemmas.Option.{slice_get_within}
 use Rattle.circuit_model.specs.Log.{Entry, Log}
-use Rattle.circuit_model.specs.Places.{Place, Free, places, place_of, phase}
+use Rattle.circuit_model.specs.declared.places.Phase.TheVariants.{Free}
+use Rattle.circuit_model.specs.Places.{Place, places, place_of, phase}
 use Rattle.stream_edge.specs.declared.held.Held.{Held}
 use Rattle.stream_edge.specs.PlacesState.{PlacesState, held_at, with_held}
 use Rattle.stream_edge.proofs.Holding.{held_there, held_elsewhere}

@@ -1,5 +1,5 @@
 -- The parts of a circuit behind a DATA.
-use Rattle.std.proofs.Common.{◌+◌, ◌%◌, if◌then◌else◌, ◌≡◌, ℕ, ◌==◌, List, Bool, true, false, Some, None, refl, sym, ap, subst, ◌∙◌, nat_le}
+use Rattle.std.proofs.Common.{◌+◌, if◌then◌else◌, ◌≡◌, ℕ, ◌==◌, List, Bool, true, false, Some, None, refl, sym, ap, subst, ◌∙◌, nat_le}
 use Rattle.tor_spec.specs.RelayCell.{begin_command, data_command, sendme_command}
 use Rattle.sendme_windows.specs.WindowsState.{StandsFor}
 use Rattle.tor_spec.specs.CircuitWindow.{after_accepting, is_sendme_due}

@@ -15,10 +15,9 @@ use Rattle.stream_edge.specs.Streams.{is_stream, after_packaging as one_packaged
 use Rattle.circuit_model.specs.Events.{Event, Born, Forward, Backward, Connected, Data, Ended, Drained, Freed, Linked, Answered}
 use Rattle.circuit_model.specs.Rules.{Rules}
 use Rattle.circuit_model.specs.Log.{Log, StreamKey as ModelKey, Effects, Close, no_effects, is_closed}
-use Rattle.circuit_model.specs.Opened.{born_keys, keys_in}
+use Rattle.circuit_model.specs.Opened.{keys_in}
 use Rattle.circuit_model.specs.Packaged.{own, finished, back_digest, package_of, packaged_by}
 use Rattle.circuit_model.specs.NextHop.{hop_by, hop_by_effects}
-use Rattle.circuit_model.specs.Places.{place_of}
 use Rattle.circuit_model.specs.Received.{is_early}
 use Rattle.circuit_model.specs.Streams.{time_to_live}
 use Rattle.circuit_model.specs.Effects.{open_effects, effects_after}

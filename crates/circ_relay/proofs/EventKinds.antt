@@ -9,7 +9,9 @@ use Rattle.circuit_model.specs.Opened.{keys_in}
 use Rattle.circuit_model.specs.Packaged.{packaged_by}
 use Rattle.circuit_model.specs.Windows.{is_data_body, packs_data, has_command, is_data_of}
 use Rattle.circuit_model.specs.Received.{Received, TooManyEarly, Unrecognised, TooLong, ForUs, received, message_in, message_at}
-use Rattle.circuit_model.specs.NextHop.{NextHop, There, next_hop}
+use Rattle.circuit_model.specs.declared.next_hop.NextHop.{NextHop}
+use Rattle.circuit_model.specs.declared.next_hop.NextHop.TheVariants.{There}
+use Rattle.circuit_model.specs.NextHop.{next_hop}
 use Rattle.circuit_model.specs.Places.{place_at}
 use Rattle.circuit_model.specs.Extending.{accepted_request, creating}
 use Rattle.circuit_model.specs.Effects.{passed_on, forward_effects, open_effects, effects_after}

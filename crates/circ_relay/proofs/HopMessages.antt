@@ -1,23 +1,22 @@
 -- The parts of a circuit behind EXTEND2 and TRUNCATE.
-use Rattle.std.proofs.Common.{◌-◌, not, ◌≤◌, length, replicate, if◌then◌else◌, ◌≡◌, ℕ, ◌==◌, List, [], ◌∷◌, ◌++◌, Bool, true, false, Option, Some, None, refl, sym, ap, ◌∙◌, arith}
+use Rattle.std.proofs.Common.{not, if◌then◌else◌, ◌≡◌, ℕ, ◌==◌, List, [], ◌∷◌, Bool, true, false, Option, Some, None, refl, sym, ap, ◌∙◌}
 use Rattle.tor_spec.specs.RelayCell.{begin_command, data_command, end_command, sendme_command, truncate_command, extend2_command, relay_body, truncated_command}
 use Rattle.circuit_model.specs.Events.{Forward}
 use Rattle.circuit_model.specs.Rules.{Rules}
 use Rattle.circuit_model.specs.Log.{Entry, Log, Message, Effects, is_closed, no_effects, newest}
-use Rattle.circuit_model.specs.NextHop.{Absent as NoHop, Dialling as DiallingHop, next_hop, is_absent, NextHop, Dialling, Waiting, There, hop_by, hop_by_effects}
+use Rattle.circuit_model.specs.declared.next_hop.NextHop.TheVariants.{Absent, Dialling, Waiting, There}
+use Rattle.circuit_model.specs.declared.next_hop.NextHop.{NextHop}
+use Rattle.circuit_model.specs.NextHop.{next_hop, is_absent, hop_by, hop_by_effects}
 use Rattle.circuit_model.specs.Places.{place_of}
 use Rattle.circuit_model.specs.Received.{ForUs, received, message_at}
-use Rattle.circuit_model.specs.Extending.{linked_effects, extend_effects, create2, truncate_effects}
-use Rattle.tor_spec.specs.Extend.{Address, Extend, extend_request}
-use Rattle.circ_relay.specs.declared.circuit.NextHop.TheVariants.{Absent as CodeAbsent, Dialling as CodeDialling}
-use Rattle.circ_relay.proofs.Handshakes.{extend_handshake_short, create2_filled}
+use Rattle.circuit_model.specs.Extending.{linked_effects, extend_effects, create2, filled, truncate_effects}
+use Rattle.tor_spec.specs.Extend.{Address, Extend, extend_request, handshake_request_payload}
 use Rattle.circuit_model.specs.Effects.{effects_after}
 use Rattle.circuit_model.specs.Words.{entry_after}
 use Rattle.circ_relay.specs.declared.circuit.Circuit.{Circuit}
 use Rattle.circ_relay.specs.Packaging.{PackagerState, Packages}
 use Rattle.circ_relay.specs.BroughtMessages.{after_cell, IsBrought}
-use Rattle.circ_relay.specs.Created.{create2_front}
-use Rattle.circ_relay.specs.CircuitOfLog.{HasParts, hop_of, sends_create2}
+use Rattle.circ_relay.specs.CircuitOfLog.{HasParts, sends_create2}
 use Rattle.circ_relay.specs.WindowOfLog.{window_of}
 use Rattle.circ_relay.proofs.WindowByEvent.{other_message_leaves}
 use Rattle.circ_relay.proofs.Changing.{apart_by}
@@ -30,18 +29,17 @@ use Rattle.circ_relay.proofs.MessageKinds.{does, of_truncate, of_extend2, IsOthe
 
 -- EXTEND2.
 
-pub asked_create2 : (payload : List ℕ) (request : Extend) (made : List ℕ) → extend_request payload ≡ Some request → length payload ≤ 498
-    → made ≡ create2_front request.handshake_type (length request.handshake) ++ request.handshake ++ replicate (505 - length request.handshake) 0
+pub asked_create2 : (request : Extend) (made : List ℕ) → made ≡ filled (handshake_request_payload request.handshake_type request.handshake)
     → create2 request ≡ record { command = 10; body = made }
-asked_create2 payload request made asks short is =
-    create2_filled request (omega (arith, extend_handshake_short payload request asks, short)) ∙ ap (λ (b : List ℕ). record { command = 10; body = b }) (sym is)
+unfolding create2
+asked_create2 request made is = ap (λ (b : List ℕ). record { command = 10; body = b }) (sym is)
 
 extend_accepted : (log : Log) (m : Message) (request : Extend) (to : Address) → m.early ≡ true → is_absent (next_hop log) ≡ true → extend_request m.payload ≡ Some request → request.to ≡ Some to
     → extend_effects log m ≡ record no_effects { dial = Some to }
 extend_accepted log m request to early absent asks named = rw (early, absent, asks, named) refl
 
 dialled_hop : (rules : Rules) (log : Log) (command : ℕ) (body : List ℕ) (to : Address) → effects_after rules log (Forward command body) ≡ record no_effects { dial = Some to }
-    → next_hop (after_cell rules log command body) ≡ DiallingHop
+    → next_hop (after_cell rules log command body) ≡ Dialling
 dialled_hop rules log command body to same = rw same refl
 
 dialled_linked : (rules : Rules) (log : Log) (command : ℕ) (body : List ℕ) (m : Message) (to : Address) (request : Extend) (made : List ℕ) → effects_after rules log (Forward command body) ≡ record no_effects { dial = Some to }
@@ -50,9 +48,9 @@ dialled_linked : (rules : Rules) (log : Log) (command : ℕ) (body : List ℕ) (
 dialled_linked rules log command body m to request made same message asks makes = rw (same, message, asks, makes) refl
 
 pub dialled_parts : (c : Circuit) (rules : Rules) (log : Log) (command : ℕ) (body : List ℕ) (m : Message) (request : Extend) (to : Address) (made : List ℕ) → HasParts c log
-    → is_closed log ≡ false → received log command body ≡ ForUs m → m.command ≡ extend2_command → m.early ≡ true → is_absent (hop_of c.next_hop) ≡ true
+    → is_closed log ≡ false → received log command body ≡ ForUs m → m.command ≡ extend2_command → m.early ≡ true → is_absent c.next_hop ≡ true
     → extend_request m.payload ≡ Some request → request.to ≡ Some to → create2 request ≡ record { command = 10; body = made }
-    → HasParts (record c { next_hop = CodeDialling; create2 = made }) (after_cell rules log command body)
+    → HasParts (record c { next_hop = Dialling; create2 = made }) (after_cell rules log command body)
 dialled_parts c rules log command body m request to made has unclosed got is early absent asks named makes =
     let none : is_absent (next_hop log) ≡ true = ap is_absent (sym has.hop) ∙ absent in
     let given = effects_of_cell rules log command body m unclosed got ∙ of_extend2 rules log m is ∙ extend_accepted log m request to early none asks named in
@@ -69,25 +67,25 @@ dialled_parts c rules log command body m request to made has unclosed got is ear
 
 -- TRUNCATE.
 
-cut_hop : (hop : NextHop) (cut : Bool) → cut ≡ not (is_absent hop) → unwrap_or (option_or (if cut then Some NoHop else None) (Some hop)) NoHop ≡ NoHop
-cut_hop NoHop cut is = rw is refl
+cut_hop : (hop : NextHop) (cut : Bool) → cut ≡ not (is_absent hop) → unwrap_or (option_or (if cut then Some Absent else None) (Some hop)) Absent ≡ Absent
+cut_hop Absent cut is = rw is refl
 cut_hop Dialling cut is = rw is refl
 cut_hop Waiting cut is = rw is refl
 cut_hop There cut is = rw is refl
 
-next_by : (said : Option NextHop) (cut : Bool) → cut ≡ not (is_absent (unwrap_or said NoHop)) → unwrap_or (option_or (if cut then Some NoHop else None) said) NoHop ≡ NoHop
+next_by : (said : Option NextHop) (cut : Bool) → cut ≡ not (is_absent (unwrap_or said Absent)) → unwrap_or (option_or (if cut then Some Absent else None) said) Absent ≡ Absent
 next_by None cut is = rw is refl
 next_by (Some hop) cut is = cut_hop hop cut is
 
 truncated_hop : (rules : Rules) (log : Log) (command : ℕ) (body : List ℕ) → effects_after rules log (Forward command body) ≡ truncate_effects log
-    → next_hop (after_cell rules log command body) ≡ NoHop
+    → next_hop (after_cell rules log command body) ≡ Absent
 truncated_hop rules log command body given =
-    ap (λ (e : Effects). unwrap_or (option_or (hop_by_effects e) (newest (λ entry. hop_by entry.event entry.effects) log)) NoHop) given
+    ap (λ (e : Effects). unwrap_or (option_or (hop_by_effects e) (newest (λ entry. hop_by entry.event entry.effects) log)) Absent) given
     ∙ next_by (newest (λ entry. hop_by entry.event entry.effects) log) (not (is_absent (next_hop log))) refl
 
 pub truncated_parts : (c : Circuit) (new : PackagerState) (message : CodeMessage) (rules : Rules) (log : Log) (command : ℕ) (body : List ℕ) (m : Message)
     → IsBrought message log command body m → HasParts c log → m.command ≡ truncate_command → Packages c.packager new (relay_body truncated_command 0 (3 ∷ []))
-    → HasParts (record c { packager = new; next_hop = CodeAbsent }) (after_cell rules log command body)
+    → HasParts (record c { packager = new; next_hop = Absent }) (after_cell rules log command body)
 truncated_parts c new message rules log command body m b has is packages =
     let given : effects_after rules log (Forward command body) ≡ truncate_effects log = does message rules log command body m b ∙ of_truncate rules log m is in
     let other : IsOther m.command = other_command m.command truncate_command is refl refl refl refl in

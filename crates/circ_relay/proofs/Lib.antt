@@ -26,8 +26,6 @@ pub mod Longer
 pub mod Edges
 pub mod Shut
 pub mod Undrained
-pub mod Copied
-pub mod Handshakes
 pub mod AfterCells
 pub mod LivePlaces
 pub mod MessageKinds

@@ -12,12 +12,14 @@ use Rattle.circuit_model.specs.Log.{Entry, Log, Effects, is_closed, newest, push
 use Rattle.circuit_model.specs.Opened.{born_pad, keys_in, pad_in}
 use Rattle.circuit_model.specs.Packaged.{packaged_by, own}
 use Rattle.circuit_model.specs.Extending.{accepted_request, linked_effects, creating}
-use Rattle.circuit_model.specs.NextHop.{NextHop, Absent, hop_by, hop_by_effects, next_hop}
+use Rattle.circuit_model.specs.declared.next_hop.NextHop.{NextHop}
+use Rattle.circuit_model.specs.declared.next_hop.NextHop.TheVariants.{Absent}
+use Rattle.circuit_model.specs.NextHop.{hop_by, hop_by_effects, next_hop}
 use Rattle.circuit_model.specs.Places.{Place, place_of, place_at}
 use Rattle.circuit_model.specs.Received.{is_early, early_count}
 use Rattle.circuit_model.specs.Words.{entry_after, log}
 use Rattle.circ_relay.specs.declared.circuit.Circuit.{Circuit}
-use Rattle.circ_relay.specs.CircuitOfLog.{hop_of, sends_create2, AreAddresses, HasParts, IsCircuit, IsMadeBy}
+use Rattle.circ_relay.specs.CircuitOfLog.{sends_create2, AreAddresses, HasParts, IsCircuit, IsMadeBy}
 use Rattle.circ_relay.specs.Packaging.{PackagerState, IsPackager, IsPackagedNext, IsSameCircuit}
 use Rattle.circ_relay.specs.PlacesOfLog.{ArePlaces}
 use Rattle.circ_relay.specs.Values.{address_of}
@@ -155,7 +157,7 @@ pub parts_after : (c d : Circuit) (entry : Entry) (log : Log) → HasParts c log
     → d.next_hop ≡ c.next_hop → d.create2 ≡ c.create2 → d.addresses ≡ c.addresses → IsPackager d.packager (entry ∷ log)
     → StandsFor d.windows (window_of (entry ∷ log)) → ArePlaces d.places (entry ∷ log) → KeepsStreams c.places d.places → HasParts d (entry ∷ log)
 parts_after c d entry log has aside hop create2 addresses packager windows places keeps = record {
-  hop = ap hop_of hop ∙ has.hop ∙ sym (hop_after entry log aside.hop);
+  hop = hop ∙ has.hop ∙ sym (hop_after entry log aside.hop);
   asked = λ dialling. request_after entry log aside.dial ∙ has.asked (sym hop ∙ dialling) ∙ ap (λ p. sends_create2 p) (sym create2);
   packager = packager;
   windows = windows;

@@ -1,30 +1,30 @@
 -- A circuit after its opening, and after what its next hop sends and comes to.
-use Rattle.std.proofs.Common.{◌≡◌, ◌||◌, ◌<◌, ◌≤◌, ℕ, [], ◌∷◌, ◌++◌, List, Bool, true, false, if◌then◌else◌, Option, Some, None, refl, sym, ap, subst, ◌∙◌, is_some, length, nat_le, replicate, arith}
+use Rattle.std.proofs.Common.{◌≡◌, ◌<◌, ◌≤◌, ℕ, [], ◌∷◌, List, Bool, true, false, if◌then◌else◌, Option, Some, None, refl, sym, ap, subst, ◌∙◌, length, nat_le, replicate, arith}
 use Rattle.std.proofs.lemmas.Bool.{le-leb}
-use Rattle.std.specs.Option.{unwrap_or, option_or}
+use Rattle.std.specs.Option.{option_or}
 use Rattle.tor_spec.specs.CircuitWindow.{CircuitWindow, fresh_window}
 use Rattle.tor_spec.specs.Extend.{handshake_reply, handshake_reply_payload}
 use Rattle.tor_spec.specs.RelayCell.{extended2_command, relay_body}
 use Rattle.tr_io.specs.declared.names.Dest.{Dest}
 use Rattle.sendme_windows.specs.WindowsState.{StandsFor}
 use Rattle.stream_edge.specs.PlacesState.{PlacesState}
-use Rattle.circuit_model.specs.Events.{Event, Born, Backward, Linked, Answered, Failed, CircuitCell, CircuitKeys}
+use Rattle.kdf_tor.specs.declared.LayerKeys.{LayerKeys}
+use Rattle.circuit_model.specs.Events.{Event, Born, Backward, Linked, Answered, Failed, CircuitCell}
 use Rattle.circuit_model.specs.Rules.{Rules}
-use Rattle.circuit_model.specs.Log.{Entry, Log, Effects, Message, no_effects, closing, is_closed, newest, pushed}
+use Rattle.circuit_model.specs.Log.{Entry, Log, Effects, Message, no_effects, closing, is_closed}
 use Rattle.circuit_model.specs.Opened.{born_keys, born_pad}
-use Rattle.circuit_model.specs.Extending.{accepted_request, linked_effects, answered_effects, creating, extending}
-use Rattle.circuit_model.specs.NextHop.{NextHop as ModelHop, Absent as absent, hop_by, hop_by_effects, next_hop}
+use Rattle.circuit_model.specs.Extending.{linked_effects, answered_effects, extending}
+use Rattle.circuit_model.specs.NextHop.{next_hop}
 use Rattle.circuit_model.specs.Packaged.{finished, own, packaging}
 use Rattle.circuit_model.specs.Places.{place_of}
 use Rattle.circuit_model.specs.Effects.{open_effects, effects_after}
 use Rattle.circuit_model.specs.Words.{entry_after, log, effects}
 use Rattle.circ_relay.specs.declared.circuit.Circuit.{Circuit}
-use Rattle.circ_relay.specs.declared.circuit.NextHop.{NextHop}
-use Rattle.circ_relay.specs.declared.circuit.NextHop.TheVariants.{Absent, Dialling, Waiting, There}
-use Rattle.circ_relay.specs.CircuitOfLog.{HasParts, IsCircuit, IsMadeBy, AreAddresses, hop_of, sends_create2}
+use Rattle.circuit_model.specs.declared.next_hop.NextHop.{NextHop}
+use Rattle.circuit_model.specs.declared.next_hop.NextHop.TheVariants.{Absent, Dialling, Waiting, There}
+use Rattle.circ_relay.specs.CircuitOfLog.{HasParts, IsCircuit, IsMadeBy, AreAddresses, sends_create2}
 use Rattle.circ_relay.specs.Packaging.{PackagerState, IsPackager, IsPackagedNext}
 use Rattle.circ_relay.specs.PlacesOfLog.{ArePlaces}
-use Rattle.circ_relay.specs.WindowOfLog.{window_of}
 use Rattle.circ_relay.proofs.Doing.{when_open}
 use Rattle.circ_relay.proofs.Beginning.{nothing_is_held}
 use Rattle.circ_relay.proofs.Longer.{IsAside, aside_by, unclosed_after, packager_after, none_packaged, stands_still, same_streams, addresses_after, parts_after}
@@ -181,15 +181,15 @@ answered_keeps c packager rules h payload body is gives packages =
 no_addresses : (addresses : List Dest) (state : PlacesState) → AreAddresses addresses state []
 no_addresses addresses state place stream of_log none held found = cc
 
-first_hop : (rules : Rules) (reply : CircuitCell) (keys : CircuitKeys) (pad : Option (List ℕ)) → next_hop (entry_after rules [] (Born reply keys pad) ∷ []) ≡ absent
+first_hop : (rules : Rules) (reply : CircuitCell) (keys : LayerKeys) (pad : Option (List ℕ)) → next_hop (entry_after rules [] (Born reply keys pad) ∷ []) ≡ Absent
 unfolding open_effects
 first_hop rules reply keys pad = refl
 
-nothing_packaged : (rules : Rules) (reply : CircuitCell) (keys : CircuitKeys) (pad : Option (List ℕ)) → own (entry_after rules [] (Born reply keys pad) ∷ []) ≡ []
+nothing_packaged : (rules : Rules) (reply : CircuitCell) (keys : LayerKeys) (pad : Option (List ℕ)) → own (entry_after rules [] (Born reply keys pad) ∷ []) ≡ []
 unfolding open_effects
 nothing_packaged rules reply keys pad = refl
 
-nothing_closed : (rules : Rules) (reply : CircuitCell) (keys : CircuitKeys) (pad : Option (List ℕ)) → is_closed (entry_after rules [] (Born reply keys pad) ∷ []) ≡ false
+nothing_closed : (rules : Rules) (reply : CircuitCell) (keys : LayerKeys) (pad : Option (List ℕ)) → is_closed (entry_after rules [] (Born reply keys pad) ∷ []) ≡ false
 unfolding open_effects
 nothing_closed rules reply keys pad = refl
 
@@ -197,23 +197,20 @@ or_none : (pad : Option (List ℕ)) → option_or pad None ≡ pad
 or_none None = refl
 or_none (Some key) = refl
 
-no_place : (rules : Rules) (reply : CircuitCell) (keys : CircuitKeys) (pad : Option (List ℕ)) → place_of (effects_after rules [] (Born reply keys pad)).edge ≡ None
+no_place : (rules : Rules) (reply : CircuitCell) (keys : LayerKeys) (pad : Option (List ℕ)) → place_of (effects_after rules [] (Born reply keys pad)).edge ≡ None
 unfolding open_effects
 no_place rules reply keys pad = refl
-
-hop_absent : (hop : NextHop) → hop ≡ Absent → hop_of hop ≡ absent
-hop_absent hop is = rw is refl
 
 no_places : (state : PlacesState) → state ≡ record { held = replicate 32 None; next_serial = 0; calls = 0 } → ArePlaces state []
 no_places state is = subst (λ (s : PlacesState). ArePlaces s []) (sym is) nothing_is_held
 
-opened_parts : (c : Circuit) (rules : Rules) (reply : CircuitCell) (keys : CircuitKeys) (pad : Option (List ℕ)) → c.next_hop ≡ Absent →
+opened_parts : (c : Circuit) (rules : Rules) (reply : CircuitCell) (keys : LayerKeys) (pad : Option (List ℕ)) → c.next_hop ≡ Absent →
     ((log : Log) → own log ≡ [] → (born_keys log).db ≡ keys.db → born_pad log ≡ pad → IsPackager c.packager log) → StandsFor c.windows fresh_window →
     c.places ≡ record { held = replicate 32 None; next_serial = 0; calls = 0 } → HasParts c (entry_after rules [] (Born reply keys pad) ∷ [])
 opened_parts c rules reply keys pad hop packs stands free =
     let entry : Entry = entry_after rules [] (Born reply keys pad) in
     record {
-      hop = hop_absent c.next_hop hop ∙ sym (first_hop rules reply keys pad);
+      hop = hop ∙ sym (first_hop rules reply keys pad);
       asked = λ dialling. cc;
       packager = packs (entry ∷ []) (nothing_packaged rules reply keys pad) refl (or_none pad);
       windows = subst (λ (w : CircuitWindow). StandsFor c.windows w) (sym (opening_is_fresh rules reply keys pad)) stands;
@@ -221,7 +218,7 @@ opened_parts c rules reply keys pad hop packs stands free =
       addresses = addresses_after c.addresses c.places c.places entry [] (same_streams c.places) (no_place rules reply keys pad) (no_addresses c.addresses c.places);
     }
 
-pub opened : (c : Circuit) (rules : Rules) (reply : CircuitCell) (keys : CircuitKeys) (pad : Option (List ℕ)) → c.next_hop ≡ Absent → c.early ≡ 0 → IsMadeBy c rules →
+pub opened : (c : Circuit) (rules : Rules) (reply : CircuitCell) (keys : LayerKeys) (pad : Option (List ℕ)) → c.next_hop ≡ Absent → c.early ≡ 0 → IsMadeBy c rules →
     ((log : Log) → own log ≡ [] → (born_keys log).db ≡ keys.db → born_pad log ≡ pad → IsPackager c.packager log) → StandsFor c.windows fresh_window →
     c.places ≡ record { held = replicate 32 None; next_serial = 0; calls = 0 } → IsCircuit c rules (Born reply keys pad ∷ [])
 opened c rules reply keys pad hop early made packs stands free = record {

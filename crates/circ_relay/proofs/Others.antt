@@ -1,12 +1,14 @@
 -- What leaves places as they are: events that give no order for the edge and accept no stream's SENDME.
-use Rattle.std.proofs.Common.{◌≡◌, ◌≢◌, ℕ, ◌+◌, ◌%◌, ◌==◌, ◌&&◌, List, ◌∷◌, Bool, true, false, if◌then◌else◌, not, length, Option, Some, None, refl, ap, ◌∙◌, arith, nat_le}
+use Rattle.std.proofs.Common.{◌≡◌, ◌≢◌, ℕ, ◌+◌, ◌==◌, ◌&&◌, List, ◌∷◌, Bool, true, false, if◌then◌else◌, not, length, Option, Some, None, refl, ap, ◌∙◌, arith, nat_le}
 use Rattle.tor_spec.specs.RelayCell.{sendme_command, data_command, end_command, begin_command, truncate_command, drop_command, resolve_command, begin_dir_command, extend2_command}
 use Rattle.tor_spec.specs.Extend.{Address, Extend, handshake_reply}
 use Rattle.tor_spec.specs.CircuitWindow.{is_sendme_due}
 use Rattle.circuit_model.specs.Events.{Event, CircuitCell, Born, Forward, Backward, Connected, Data, Ended, Drained, Freed, Linked, Answered, Failed}
 use Rattle.circuit_model.specs.Rules.{Rules}
 use Rattle.circuit_model.specs.Log.{Entry, Log, Message, Effects, no_effects, closing, newest, is_closed}
-use Rattle.circuit_model.specs.NextHop.{NextHop, Absent, Dialling, Waiting, There, next_hop, is_absent}
+use Rattle.circuit_model.specs.declared.next_hop.NextHop.{NextHop}
+use Rattle.circuit_model.specs.declared.next_hop.NextHop.TheVariants.{Absent, Dialling, Waiting, There}
+use Rattle.circuit_model.specs.NextHop.{next_hop, is_absent}
 use Rattle.circuit_model.specs.Places.{place_of}
 use Rattle.circuit_model.specs.Windows.{is_accepted, is_serial, has_place, accepted_data}
 use Rattle.circuit_model.specs.SendmeProof.{is_right_sendme}

@@ -6,7 +6,9 @@ use Rattle.std.proofs.lemmas.Option.{slice_get_within}
 use Rattle.std.proofs.lemmas.List.Quantifiers.{position-Some}
 use Rattle.tor_spec.specs.StreamWindow.{stream_start, stream_step}
 use Rattle.circuit_model.specs.Log.{Log, StreamKey}
-use Rattle.circuit_model.specs.Places.{Place, Phase, Reaching, Joined, Ending, Free, places, place_at, phase, is_live, is_live_phase, live_place}
+use Rattle.circuit_model.specs.declared.places.Phase.{Phase}
+use Rattle.circuit_model.specs.declared.places.Phase.TheVariants.{Reaching, Joined, Ending, Free}
+use Rattle.circuit_model.specs.Places.{Place, places, place_at, phase, is_live, is_live_phase, live_place}
 use Rattle.circuit_model.specs.Windows.{stream_packaged, stream_grant, carried, drained, accept_grant as log_accept_grant}
 use Rattle.stream_edge.specs.declared.held.Held.{Held}
 use Rattle.stream_edge.specs.declared.held.Phase.{Phase as HeldPhase}

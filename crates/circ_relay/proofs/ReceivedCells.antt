@@ -9,8 +9,10 @@ use Rattle.tor_spec.specs.CellCommands.{relay_early_command}
 use Rattle.sendme_windows.specs.WindowsState.{KeepsLimits}
 use Rattle.circuit_model.specs.Events.{Event, CircuitCell, Forward}
 use Rattle.circuit_model.specs.Rules.{Rules}
-use Rattle.circuit_model.specs.Log.{Entry, Log, Effects, is_closed, closing}
-use Rattle.circuit_model.specs.NextHop.{NextHop, Absent, Dialling, Waiting, There, next_hop}
+use Rattle.circuit_model.specs.Log.{Log, Effects, is_closed, closing}
+use Rattle.circuit_model.specs.declared.next_hop.NextHop.{NextHop}
+use Rattle.circuit_model.specs.declared.next_hop.NextHop.TheVariants.{Absent, Dialling, Waiting, There}
+use Rattle.circuit_model.specs.NextHop.{next_hop}
 use Rattle.circuit_model.specs.Opened.{recognises, digest_with}
 use Rattle.circuit_model.specs.Places.{place_of}
 use Rattle.circuit_model.specs.Received.{message_of, Received, Unrecognised, TooLong, ForUs, received, received_plain, message_in_body, message_at, early_count, relay_early_limit}

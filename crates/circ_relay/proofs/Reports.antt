@@ -5,7 +5,8 @@ use Rattle.tor_spec.specs.RelayCell.{sendme_command}
 use Rattle.circuit_model.specs.Events.{Connected, Data, Ended, Drained, Freed}
 use Rattle.circuit_model.specs.Rules.{Rules}
 use Rattle.circuit_model.specs.Log.{Entry, Log, Message, Close, Effects, StreamKey, no_effects, is_closed}
-use Rattle.circuit_model.specs.Places.{Place, Free, place_of, place_at, connects, frees, closes_place}
+use Rattle.circuit_model.specs.declared.places.Phase.TheVariants.{Free}
+use Rattle.circuit_model.specs.Places.{Place, place_of, place_at, connects, frees, closes_place}
 use Rattle.circuit_model.specs.Windows.{is_data_of, is_accepted, has_place, carries, drains}
 use Rattle.circuit_model.specs.Streams.{connected_effects, edge_data_effects, drained_effects}
 use Rattle.circuit_model.specs.Effects.{open_effects, effects_after}

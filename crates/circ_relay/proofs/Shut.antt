@@ -1,5 +1,5 @@
 -- Which window keeps a stream's bytes, by the circuit's log.
-use Rattle.std.proofs.Common.{◌≡◌, ℕ, ◌+◌, ◌*◌, ◌<◌, ◌≤◌, ◌↔◌, List, Bool, true, false, Some, None, nat_lt, refl, sym, ap, ◌∙◌, arith}
+use Rattle.std.proofs.Common.{◌≡◌, ℕ, ◌<◌, ◌≤◌, ◌↔◌, List, Bool, true, false, Some, None, nat_lt, refl, sym, ap, ◌∙◌, arith}
 use Rattle.std.proofs.lemmas.Bool.{ltb-true, ltb-false}
 use Rattle.tr_io.specs.declared.answers.ShutWhy.TheVariants.{Stream, Circuit as CircuitShut}
 use Rattle.tr_io.specs.declared.names.StreamKey.{StreamKey}

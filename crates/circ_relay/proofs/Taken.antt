@@ -10,7 +10,9 @@ use Rattle.std.proofs.lemmas.Map.Keys.{IsDistinct-cons}
 use Rattle.std.proofs.lemmas.Map.Made.{length-from_same_keys}
 use Rattle.std.proofs.lemmas.List.Filters.{length-filter_both}
 use Rattle.circuit_model.specs.Log.{Log, StreamKey}
-use Rattle.circuit_model.specs.Places.{Place, Phase, Reaching, Joined, Ending, Free, places, phase, is_taken_phase, taken_places}
+use Rattle.circuit_model.specs.declared.places.Phase.{Phase}
+use Rattle.circuit_model.specs.declared.places.Phase.TheVariants.{Reaching, Joined, Ending, Free}
+use Rattle.circuit_model.specs.Places.{Place, places, phase, is_taken_phase, taken_places}
 use Rattle.circuit_model.specs.Streams.{place_limit}
 use Rattle.stream_edge.specs.declared.held.Held.{Held}
 use Rattle.stream_edge.specs.PlacesState.{PlacesState, held_at}

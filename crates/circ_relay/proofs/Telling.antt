@@ -3,7 +3,9 @@ use Rattle.std.proofs.Common.{Some, ◌≡◌, ◌≢◌, ℕ, ◌+◌, ◌&&◌
 use Rattle.std.specs.Prelude.{slice_get, is_none}
 use Rattle.tor_spec.specs.RelayCell.{sendme_command}
 use Rattle.circuit_model.specs.Log.{Entry, Log, Message}
-use Rattle.circuit_model.specs.Places.{Place, Phase, Reaching, Joined, Ending, Free, places, place_at, place_of, phase, connects, frees, closes_place, is_connected, is_ended, is_freed}
+use Rattle.circuit_model.specs.declared.places.Phase.{Phase}
+use Rattle.circuit_model.specs.declared.places.Phase.TheVariants.{Reaching, Joined, Ending, Free}
+use Rattle.circuit_model.specs.Places.{Place, places, place_at, place_of, phase, connects, frees, closes_place, is_connected, is_ended, is_freed}
 use Rattle.circuit_model.specs.Windows.{stream_packaged, stream_sendmes, carried, drained, is_data_of, is_accepted, has_command, has_place, carries, drains}
 use Rattle.stream_edge.specs.declared.held.Held.{Held}
 use Rattle.circ_relay.specs.PlacesOfLog.{IsOfLog, IsUntold, IsSilent}

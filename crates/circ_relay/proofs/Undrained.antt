@@ -1,5 +1,5 @@
 -- A stream that is live with a DATA undrained, by what the places hold of it.
-use Rattle.std.proofs.Common.{◌≡◌, ◌≢◌, ◌<◌, ◌↔◌, ℕ, Bool, true, false, Some, position, option_map, sym, ap, subst, ◌∙◌}
+use Rattle.std.proofs.Common.{◌≡◌, ◌≢◌, ℕ, Bool, true, Some, position, sym, ◌∙◌}
 use Rattle.std.proofs.lemmas.Bool.{ltb-true, lt-ltb}
 use Rattle.tr_io.specs.declared.names.StreamKey.{StreamKey}
 use Rattle.stream_edge.specs.declared.held.Held.{Held}
@@ -10,7 +10,6 @@ use Rattle.stream_edge.specs.Streams.{is_stream, may_drain}
 use Rattle.circ_relay.specs.declared.circuit.Circuit.{Circuit}
 use Rattle.circ_relay.specs.CircuitOfLog.{HasStream, HasUndrained}
 use Rattle.circ_relay.proofs.Edges.{at_found}
-use Rattle.circ_relay.proofs.Lists.{same_some}
 
 -- A stream of this name is in a phase, and stands at this place: what the place holds tells of it.
 pub undrained_by_test : (c : Circuit) (key : StreamKey) (phase : Phase) (place : ℕ) (result : Bool) → HasStream c key phase → phase ≢ Ending

@@ -1,10 +1,11 @@
 -- What one more entry makes of the window.
-use Rattle.std.proofs.Common.{◌≡◌, ℕ, ◌+◌, ◌%◌, ◌==◌, ◌&&◌, [], ◌∷◌, ◌++◌, List, Bool, true, false, Some, None, map, length, nat_lt, Option, refl, ap, ◌∙◌, is_none}
+use Rattle.std.proofs.Common.{◌≡◌, ℕ, ◌+◌, ◌&&◌, [], ◌∷◌, ◌++◌, List, Bool, true, false, Some, None, map, length, nat_lt, Option, refl, ap, ◌∙◌, is_none}
 use Rattle.std.proofs.lemmas.List.{map-append, length-map}
 use Rattle.tor_spec.specs.RelayCell.{sendme_command, data_command}
-use Rattle.tor_spec.specs.CircuitWindow.{CircuitWindow, fresh_window, may_package, after_packaging, after_acknowledging, after_accepting, is_sendme_due, circuit_step}
+use Rattle.tor_spec.specs.CircuitWindow.{CircuitWindow, fresh_window, may_package, after_packaging, after_acknowledging, after_accepting, is_sendme_due}
 use Rattle.crypto_spec.specs.RunningDigest.{running_digest}
-use Rattle.circuit_model.specs.Events.{Event, Born, CircuitCell, CircuitKeys}
+use Rattle.kdf_tor.specs.declared.LayerKeys.{LayerKeys}
+use Rattle.circuit_model.specs.Events.{Event, Born, CircuitCell}
 use Rattle.circuit_model.specs.Rules.{Rules}
 use Rattle.circuit_model.specs.Log.{Entry, Log}
 use Rattle.circuit_model.specs.Opened.{born_keys, keys_in}
@@ -36,7 +37,7 @@ event_leaves_keys rules log event none = keys_stay (entry_after rules log event)
 
 under_same_keys : (entry : Entry) (log : Log) (bodies : List (List (List ℕ))) → keys_in entry.event ≡ None
     → map (back_digest (entry ∷ log)) bodies ≡ map (back_digest log) bodies
-under_same_keys entry log bodies opened = ap (λ (keys : CircuitKeys). map (λ (b : List (List ℕ)). running_digest keys.db b) bodies) (keys_stay entry log opened)
+under_same_keys entry log bodies opened = ap (λ (keys : LayerKeys). map (λ (b : List (List ℕ)). running_digest keys.db b) bodies) (keys_stay entry log opened)
 
 pub more_digests : (entry : Entry) (log : Log) (body : List ℕ) → keys_in entry.event ≡ None
     → packaged_by entry.event entry.effects.back ≡ Some body → is_data_body (Some body) ≡ true
@@ -157,7 +158,7 @@ others_leave rules log event opened packs other_sendme other_data = entry_leaves
 
 -- The opening.
 
-pub opening_is_fresh : (rules : Rules) (reply : CircuitCell) (keys : CircuitKeys) (pad : Option (List ℕ)) → window_of (entry_after rules [] (Born reply keys pad) ∷ []) ≡ fresh_window
+pub opening_is_fresh : (rules : Rules) (reply : CircuitCell) (keys : LayerKeys) (pad : Option (List ℕ)) → window_of (entry_after rules [] (Born reply keys pad) ∷ []) ≡ fresh_window
 unfolding window_of open_effects
 opening_is_fresh rules reply keys pad = refl
 

@@ -13,23 +13,16 @@ use Rattle.circuit_model.specs.Events.{Event}
 use Rattle.circuit_model.specs.Rules.{Rules}
 use Rattle.circuit_model.specs.Log.{Log, Effects, is_closed, no_effects}
 use Rattle.circuit_model.specs.Extending.{linked_effects}
-use Rattle.circuit_model.specs.NextHop.{NextHop as ModelHop, Absent as absent, Dialling as dialling, Waiting as waiting, There as there, next_hop}
+use Rattle.circuit_model.specs.declared.next_hop.NextHop.TheVariants.{Dialling}
+use Rattle.circuit_model.specs.NextHop.{next_hop}
 use Rattle.circuit_model.specs.Places.{Place, place_at}
 use Rattle.circuit_model.specs.Received.{early_count}
 use Rattle.circuit_model.specs.Words.{log}
 use Rattle.circ_relay.specs.declared.circuit.Circuit.{Circuit}
-use Rattle.circ_relay.specs.declared.circuit.NextHop.{NextHop}
-use Rattle.circ_relay.specs.declared.circuit.NextHop.TheVariants.{Absent, Dialling, Waiting, There}
 use Rattle.circ_relay.specs.Packaging.{IsPackager}
 use Rattle.circ_relay.specs.PlacesOfLog.{ArePlaces}
 use Rattle.circ_relay.specs.Values.{address_of}
 use Rattle.circ_relay.specs.WindowOfLog.{window_of}
-
-abbrev pub hop_of : NextHop → ModelHop
-hop_of Absent = absent
-hop_of Dialling = dialling
-hop_of Waiting = waiting
-hop_of There = there
 
 -- What goes to the next hop when it is linked.
 abbrev pub sends_create2 : List ℕ → Effects
@@ -43,7 +36,7 @@ AreAddresses addresses state log =
 
 -- The parts of a circuit are those of its log, but for its count of RELAY_EARLY cells.
 pub record HasParts (c : Circuit) (log : Log) : Type 0 where
-  pub hop : hop_of c.next_hop ≡ next_hop log
+  pub hop : c.next_hop ≡ next_hop log
   pub asked : c.next_hop ≡ Dialling → linked_effects log ≡ sends_create2 c.create2
   pub packager : IsPackager c.packager log
   pub windows : StandsFor c.windows (window_of log)

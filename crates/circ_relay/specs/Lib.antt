@@ -8,4 +8,3 @@ pub mod EdgeEvents
 pub mod ShutWindows
 pub mod OpenedBodies
 pub mod BroughtMessages
-pub mod Created

@@ -9,7 +9,9 @@ use Rattle.stream_edge.specs.Streams.{is_free}
 use Rattle.circuit_model.specs.Events.{Event, Connected, Data, Ended, Drained, Freed}
 use Rattle.circuit_model.specs.Rules.{Rules}
 use Rattle.circuit_model.specs.Log.{Entry, Log, StreamKey}
-use Rattle.circuit_model.specs.Places.{Place, Phase, Reaching, Joined, Ending, Free, places, place_at, phase, is_live, connects, frees, closes_place}
+use Rattle.circuit_model.specs.declared.places.Phase.{Phase}
+use Rattle.circuit_model.specs.declared.places.Phase.TheVariants.{Reaching, Joined, Ending, Free}
+use Rattle.circuit_model.specs.Places.{Place, places, place_at, phase, is_live, connects, frees, closes_place}
 use Rattle.circuit_model.specs.Windows.{stream_packaged, stream_sendmes, carried, drained, is_data_of, is_accepted, has_place, carries, drains}
 use Rattle.circuit_model.specs.Words.{entry_after}
 

@@ -1,8 +1,7 @@
 -- What the program's values are in the definitions.
 use Rattle.std.specs.Prelude.{ℕ, List, map, option_map}
 use Rattle.tor_spec.specs.Extend.{Address}
-use Rattle.kdf_tor.specs.declared.LayerKeys.{LayerKeys}
-use Rattle.circuit_model.specs.Events.{CircuitCell, CircuitKeys}
+use Rattle.circuit_model.specs.Events.{CircuitCell}
 use Rattle.circuit_model.specs.Rules.{Allow as ModelAllow, Rules as ModelRules}
 use Rattle.circuit_model.specs.Log.{StreamKey as ModelKey, Order, Reach as reach, Carry as carry, Close as close_order, Effects as ModelEffects}
 use Rattle.tr_io.specs.declared.names.Dest.{Dest}
@@ -43,6 +42,3 @@ effects_of e = record {
   cut = e.cut;
   close = e.close;
 }
-
-abbrev pub keys_of : LayerKeys → CircuitKeys
-keys_of k = record { df = k.df; db = k.db; kf = k.kf; kb = k.kb }

@@ -9,7 +9,7 @@ ghost use Rattle.circuit_model.specs.Rules.{Rules as ModelRules};
 ghost use Rattle.circuit_model.specs.Words.{effects};
 ghost use Rattle.circ_relay.specs.CircuitOfLog.{HasStream, IsCircuit};
 ghost use Rattle.circ_relay.specs.Packaging.{IsPackager, Packages};
-ghost use Rattle.circ_relay.specs.Values.{effects_of, keys_of, rules_of};
+ghost use Rattle.circ_relay.specs.Values.{effects_of, rules_of};
 ghost use Rattle.stream_edge.specs.PlacesState.{held_at};
 ghost use Rattle.stream_edge.specs.Streams.{is_stream};
 ghost use Rattle.stream_edge.specs.declared.held.Held.{Held};
@@ -17,6 +17,7 @@ ghost use Rattle.stream_edge.specs.declared.held.Held.{Held};
 use crate::effects::Effects;
 use crate::packager::Packager;
 use crate::rules::Rules;
+use circuit_model::NextHop;
 use kdf_tor::LayerKeys;
 use sendme_windows::Windows;
 use stream_edge::{Phase, PlaceNo, Places};
@@ -24,19 +25,6 @@ use tr_io::names::{CircNo, Dest, StreamKey};
 
 /// The payload of a fixed cell, in bytes.
 pub type CellPayload = [u8; 509];
-
-/// The next hop of a circuit (tor-spec, "EXTEND and EXTENDED cells").
-#[derive(Clone, Copy, Debug, PartialEq, Eq)]
-pub enum NextHop {
-    /// There is none.
-    Absent,
-    /// A channel to it is wanted.
-    Dialling,
-    /// CREATE2 was sent to it, and CREATED2 is awaited.
-    Waiting,
-    /// It is there.
-    There,
-}
 
 /// One circuit at a relay.
 #[derive(Drop)]
@@ -57,7 +45,7 @@ pub struct Circuit {
 impl Circuit {
     /// A circuit that was just opened. Where `pad` is a key, its keystream pads what the circuit packages.
     pub fn new(number: CircNo, keys: &LayerKeys, pad: Option<[u8; 16]>, rules: &Rules) -> Circuit
-        ensures circuit { (reply : CircuitCell) → IsCircuit result (rules_of rules.now) (Born reply (keys_of keys.now) pad ∷ []) }
+        ensures circuit { (reply : CircuitCell) → IsCircuit result (rules_of rules.now) (Born reply keys.now pad ∷ []) }
         ensures number { result.number ≡ number }
         ensures windows { result.windows.calls ≡ 0 }
         ensures places { result.places.calls ≡ 0 }

@@ -1,26 +1,27 @@
 // EXTEND2 and TRUNCATE (tor-spec, "EXTEND and EXTENDED cells", "Tearing down circuits").
 
-ghost use Rattle.std.specs.Prelude.{◌≡◌, ℕ, ◌+◌, ◌-◌, ◌^◌, ◌<◌, ◌≤◌, [], ◌∷◌, ◌++◌, List, length, replicate, option_and_then, not, Some, None, IfSome, IfNone};
+ghost use Rattle.std.specs.Prelude.{◌≡◌, ℕ, ◌+◌, ◌^◌, ◌<◌, ◌≤◌, [], ◌∷◌, ◌++◌, List, length, option_and_then, not, Some, None, IfSome, IfNone};
+ghost use Rattle.std.specs.Int.{w16, to_be_bytes};
 ghost use Rattle.tor_spec.specs.CellCommands.{create2_command};
 ghost use Rattle.tor_spec.specs.Reasons.{destroy_requested};
 ghost use Rattle.tor_spec.specs.RelayCell.{relay_body, truncated_command, extend2_command};
-ghost use Rattle.tor_spec.specs.Extend.{Extend, extend_request};
+ghost use Rattle.tor_spec.specs.Extend.{Extend, extend_request, handshake_request_payload};
 ghost use Rattle.circuit_model.specs.Rules.{Rules as ModelRules};
 ghost use Rattle.circuit_model.specs.Log.{Log, Message as ModelMessage};
 ghost use Rattle.circuit_model.specs.NextHop.{next_hop, is_absent};
-ghost use Rattle.circuit_model.specs.Extending.{create2, extend_effects, truncate_effects};
+ghost use Rattle.circuit_model.specs.Extending.{create2, filled, extend_effects, truncate_effects};
 ghost use Rattle.circuit_model.specs.Words.{effects, log};
-ghost use Rattle.circ_relay.specs.declared.circuit.NextHop.{NextHop};
+ghost use Rattle.circuit_model.specs.declared.next_hop.NextHop.{NextHop};
 ghost use Rattle.circ_relay.specs.BroughtMessages.{IsBrought, after_cell};
 ghost use Rattle.circ_relay.specs.Packaging.{Packages};
-ghost use Rattle.circ_relay.specs.Created.{create2_front};
-ghost use Rattle.circ_relay.specs.CircuitOfLog.{HasParts, hop_of};
+ghost use Rattle.circ_relay.specs.CircuitOfLog.{HasParts};
 ghost use Rattle.circ_relay.specs.Values.{effects_of, address_of};
 
-use crate::circuit::{CellPayload, Circuit, NextHop};
+use crate::circuit::{CellPayload, Circuit};
 use crate::effects::Effects;
 use crate::message::Message;
 use cell_codec::destroy_reason;
+use circuit_model::NextHop;
 use relay_cell::{read_extend2, truncated_body};
 use tr_io::names::Dest;
 
@@ -71,7 +72,7 @@ impl Circuit {
     }
 
     fn has_next_hop(&self) -> bool
-        ensures { result ≡ not (is_absent (hop_of self.now.next_hop)) }
+        ensures { result ≡ not (is_absent self.now.next_hop) }
     {
         self.next_hop != NextHop::Absent
     }
@@ -91,9 +92,8 @@ fn asked(payload: &[u8]) -> Option<(Dest, CellPayload)>
 }
 
 // HTYPE and HLEN.
-#[tactic(auto, unfolding(crate::specs::Created::create2_front))]
 fn create2_head(htype: u16, length: u16) -> [u8; 4]
-    ensures { result ≡ create2_front htype length }
+    ensures { result ≡ to_be_bytes w16 htype ++ to_be_bytes w16 length }
 {
     let [type_high, type_low] = htype.to_be_bytes();
     let [length_high, length_low] = length.to_be_bytes();
@@ -103,7 +103,7 @@ fn create2_head(htype: u16, length: u16) -> [u8; 4]
 // The payload of CREATE2: HTYPE, HLEN and HDATA; the rest is zero.
 fn create2_body(htype: u16, hdata: &[u8]) -> CellPayload
     requires { length hdata.now ≤ 498 }
-    ensures { result ≡ create2_front htype (length hdata.now) ++ hdata.now ++ replicate (505 - length hdata.now) 0 }
+    ensures { result ≡ filled (handshake_request_payload htype hdata.now) }
 {
     let mut body = [0; 509];
     let end = 4 + hdata.len();

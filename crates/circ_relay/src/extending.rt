@@ -6,11 +6,12 @@ ghost use Rattle.circuit_model.specs.Rules.{Rules};
 ghost use Rattle.circuit_model.specs.Words.{effects};
 ghost use Rattle.circ_relay.specs.CircuitOfLog.{HasCalls, IsCircuit};
 ghost use Rattle.circ_relay.specs.Values.{effects_of};
-ghost use Rattle.circ_relay.specs.declared.circuit.NextHop.{NextHop};
+ghost use Rattle.circuit_model.specs.declared.next_hop.NextHop.{NextHop};
 
-use crate::circuit::{Circuit, NextHop};
+use crate::circuit::Circuit;
 use crate::effects::Effects;
 use cell_codec::{command, destroy_reason};
+use circuit_model::NextHop;
 use relay_cell::{extended2_body, read_handshake_reply};
 
 /// EXTENDED2 has room for so many bytes of HDATA behind HLEN.

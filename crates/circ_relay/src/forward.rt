@@ -18,11 +18,12 @@ ghost use Rattle.circ_relay.specs.CircuitOfLog.{IsCircuit, IsMadeBy, HasCalls, H
 ghost use Rattle.circ_relay.specs.OpenedBodies.{IsOpened};
 ghost use Rattle.circ_relay.specs.Values.{effects_of, rules_of};
 
-use crate::circuit::{Circuit, NextHop};
+use crate::circuit::Circuit;
 use crate::effects::Effects;
 use crate::message::Message;
 use crate::rules::Rules;
 use cell_codec::{Bytes, command as cell_command, destroy_reason};
+use circuit_model::NextHop;
 use relay_cell::{Opened, command, payload_of, read_head, stream_end};
 use std::alloc::{AllocError, Global};
 

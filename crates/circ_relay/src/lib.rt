@@ -30,6 +30,7 @@ mod tests;
 pub mod window_after_events;
 pub mod windows_of_a_log;
 
-pub use circuit::{Circuit, NextHop};
+pub use circuit::Circuit;
+pub use circuit_model::NextHop;
 pub use effects::Effects;
 pub use rules::{Allow, Rules};

@@ -4,7 +4,8 @@
 ghost use Rattle.std.specs.Prelude.{◌≡◌, ℕ, ◌↔◌, ◌+◌, ◌*◌, ◌<◌, ◌≤◌, ◌&&◌, Option, nat_lt, List, [], ◌∷◌, ◌++◌, length, Some, None, IsTrue, IsFalse};
 ghost use Rattle.tor_spec.specs.RelayCell.{data_command, sendme_command};
 ghost use Rattle.tor_spec.specs.CircuitWindow.{circuit_step, may_package, fresh_window, after_packaging, after_acknowledging, after_accepting, is_sendme_due, next_owed};
-ghost use Rattle.circuit_model.specs.Events.{Event, Born, CircuitCell, CircuitKeys};
+ghost use Rattle.kdf_tor.specs.declared.LayerKeys.{LayerKeys};
+ghost use Rattle.circuit_model.specs.Events.{Event, Born, CircuitCell};
 ghost use Rattle.circuit_model.specs.Rules.{Rules};
 ghost use Rattle.circuit_model.specs.Log.{Log};
 ghost use Rattle.circuit_model.specs.Opened.{born_keys, keys_in};
@@ -28,7 +29,7 @@ pub fn window_has_the_counts_of_the_log()
 /// A circuit that was just opened has packaged, accepted and acknowledged nothing.
 #[tactic(auto, using(crate::proofs::WindowMoves::opening_is_fresh))]
 pub fn opening_has_a_fresh_window()
-    ensures { (rules : Rules) (reply : CircuitCell) (keys : CircuitKeys) (pad : Option (List ℕ)) →
+    ensures { (rules : Rules) (reply : CircuitCell) (keys : LayerKeys) (pad : Option (List ℕ)) →
         window_of (entry_after rules [] (Born reply keys pad) ∷ []) ≡ fresh_window }
 {}
 

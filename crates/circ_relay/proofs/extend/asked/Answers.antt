@@ -1,6 +1,6 @@
 use Rattle.std.proofs.Common.{arith, ap, option_map}
 use Rattle.relay_cell.specs.Extend.{address_of as pair_of, extend_of}
-use Rattle.circ_relay.proofs.Handshakes.{extend_handshake_short}
+use Rattle.circuit_model.proofs.Handshakes.{extend_handshake_short}
 use Rattle.circ_relay.proofs.HopMessages.{asked_create2}
 use Rattle.circ_relay.proofs.extend.asked.Goals as goal
 
@@ -17,5 +17,5 @@ returns-clause-some c = (
   extend_of c.in_ok-request.request,
   c.in_ok-request.ensures.some,
   ap (λ to. option_map pair_of to) c.in_ok-ip.was,
-  asked_create2 c.args.payload.now (extend_of c.in_ok-request.request) c.create2_body-create2.result c.in_ok-request.ensures.some c.requires c.create2_body-create2.ensures,
+  asked_create2 (extend_of c.in_ok-request.request) c.create2_body-create2.result c.create2_body-create2.ensures,
 )
