@@ -2,8 +2,8 @@
 
 use crate::tests::driver::CIRCUIT;
 use circ_relay::Effects;
-use plain_circuit::effects::{Address, Effects as PlainEffects, Order, StreamKey as PlainKey};
-use plain_circuit::event::CircuitCell;
+use circuit_model::{CircuitCell, StreamKey as PlainKey};
+use plain_circuit::effects::{Address, Effects as PlainEffects, Order};
 use tr_io::edges::EdgeOrder;
 use tr_io::names::{Dest, StreamKey};
 

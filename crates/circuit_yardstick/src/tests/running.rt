@@ -7,11 +7,12 @@ use crate::tests::faults::Fault;
 use crate::tests::history::{Begun, History};
 use crate::tests::outcomes::Seen;
 use crate::tests::rules::{fast_rules, plain_rules};
-use circ_relay::{NextHop, Rules};
+use circ_relay::Rules;
+use circuit_model::Phase as PlainPhase;
 use plain_circuit::event::{Event, Piece};
 use plain_circuit::log::Entry;
-use plain_circuit::next_hop::{NextHop as PlainHop, next_hop};
-use plain_circuit::places::{Phase as PlainPhase, phase_at};
+use plain_circuit::next_hop::next_hop;
+use plain_circuit::places::phase_at;
 use plain_circuit::relay::log_of;
 use plain_circuit::rules::Rules as PlainRules;
 use plain_circuit::windows::{is_circuit_shut, is_stream_shut, packed, packed_for};
@@ -140,10 +141,7 @@ pub fn compare(
     let Some(driver) = &history.circuit else {
         return Ok(());
     };
-    assert!(rt;
-        is_same_hop(driver.next_hop(), next_hop(&log)),
-        "seed {seed}"
-    );
+    assert_eq!(rt; driver.next_hop(), next_hop(&log), "seed {seed}");
     for stream in history.streams.iter() {
         let serial = stream.key.serial;
         assert!(rt;
@@ -152,16 +150,6 @@ pub fn compare(
         );
     }
     Ok(())
-}
-
-fn is_same_hop(hop: NextHop, plain: PlainHop) -> bool {
-    matches!(
-        (hop, plain),
-        (NextHop::Absent, PlainHop::Absent)
-            | (NextHop::Dialling, PlainHop::Dialling)
-            | (NextHop::Waiting, PlainHop::Waiting)
-            | (NextHop::There, PlainHop::There)
-    )
 }
 
 /// Both programs have the stream in one phase, and its bytes may be packaged in both or in none.
