@@ -1,0 +1,178 @@
+//! What a circuit does with its cells, again and again.
+
+ghost use Rattle.std.specs.Prelude.{◌+◌, ◌<◌, ◌≤◌, ◌^◌, length};
+
+use crate::cells::{KEYS, RELAY, Report, first_of, recognised};
+use crate::circuits::{extend, fresh, join, rules};
+use aes_ctr::Stream;
+use cell_codec::Bytes;
+use circ_relay::{Circuit, Effects, Rules};
+use hop_crypto::Opener;
+use relay_cell::{Opened, command, data_body, put_digest};
+use run_digest::Running;
+use std::alloc::{AllocError, Global};
+use stream_edge::Phase;
+use tr_io::edges::EdgeEvent;
+use tr_io::names::StreamKey;
+
+/// Takes the relay's layer off a body that is meant for another hop, and has a circuit pass it on: what it
+/// passes on is its next body.
+pub fn pass_on(alloc: Global, count: u32) -> Result<Report, AllocError> {
+    let rules = rules(alloc)?;
+    let mut circuit = fresh(None, &rules);
+    extend(&mut circuit, alloc, &rules)?;
+    let mut opener = Opener::of(&KEYS);
+    let mut body = [0; 509];
+    let mut cells = 0u64;
+    for _passed in 0..count {
+        let recognised = opener.take_off(&mut body);
+        let opened = Opened { body, recognised };
+        let effects = circuit.forward(alloc, &rules, &opened, RELAY)?;
+        if let Some(passed) = passed_on(&effects) {
+            body.copy_from_slice(passed);
+            cells = cells.saturating_add(1);
+        }
+    }
+    Ok(Report {
+        cells,
+        last: first_of(&body),
+    })
+}
+
+/// The body that goes on to the next hop.
+fn passed_on(effects: &Effects) -> Option<&[u8; 509]> {
+    let forth = effects.forth.as_ref()?;
+    Some(&forth.1)
+}
+
+/// As many cells as one circuit takes in.
+const HUNDRED: usize = 100;
+
+/// DATA cells of stream 1, as the client seals them for the relay alone.
+fn sealed() -> [[u8; 509]; HUNDRED] {
+    let mut stream = Stream::of(&KEYS.kf);
+    let mut running = Running::seeded(&KEYS.df);
+    let mut bodies = [[0; 509]; HUNDRED];
+    for number in 0..HUNDRED {
+        let mut body = data_body(1, &[7; 498]);
+        running.absorb(&body);
+        let [a, b, c, d, ..] = running.digest();
+        put_digest(&mut body, [a, b, c, d]);
+        stream.apply(&mut body);
+        bodies[number] = body;
+    }
+    bodies
+}
+
+/// Takes the relay's layer off DATA cells that are meant for it, and has a circuit bring their bytes to
+/// the stream: by hundreds, each in a circuit of its own.
+pub fn accept(alloc: Global, count: u32) -> Result<Report, AllocError> {
+    let rules = rules(alloc)?;
+    let bodies = sealed();
+    let mut cells = 0u64;
+    let mut last = [0; 20];
+    for _hundred in 0..count / 100 {
+        let accepted = accept_all(alloc, &rules, &bodies)?;
+        cells = cells.saturating_add(accepted.cells);
+        last = accepted.last;
+    }
+    Ok(Report { cells, last })
+}
+
+fn accept_all(
+    alloc: Global,
+    rules: &Rules,
+    bodies: &[[u8; 509]; HUNDRED],
+) -> Result<Report, AllocError> {
+    let mut circuit = fresh(None, rules);
+    let _stream = join(&mut circuit, alloc, rules)?;
+    let mut opener = Opener::of(&KEYS);
+    let mut report = Report {
+        cells: 0,
+        last: [0; 20],
+    };
+    for number in 0..HUNDRED {
+        let mut opened = Opened {
+            body: bodies[number],
+            recognised: None,
+        };
+        opened.recognised = opener.take_off(&mut opened.body);
+        let effects = circuit.forward(alloc, rules, &opened, RELAY)?;
+        if effects.edge.is_some() {
+            report.cells = report.cells.saturating_add(1);
+            report.last = first_of(&opened.body);
+        }
+    }
+    Ok(report)
+}
+
+/// Has a circuit with this pad key package DATA of 498 bytes, by hundreds: SENDMEs come behind each.
+pub fn package(alloc: Global, pad: Option<[u8; 16]>, count: u32) -> Result<Report, AllocError> {
+    let rules = rules(alloc)?;
+    let mut circuit = fresh(pad, &rules);
+    let mut cells = 0u64;
+    let mut last = [0; 20];
+    if let Some(key) = join(&mut circuit, alloc, &rules)? {
+        for _hundred in 0..count / 100 {
+            let packaged = package_all(&mut circuit, alloc, key, &[7; 498])?;
+            acknowledge(&mut circuit, alloc, &rules)?;
+            cells = cells.saturating_add(packaged.cells);
+            last = packaged.last;
+        }
+    }
+    Ok(Report { cells, last })
+}
+
+/// As many DATA with these bytes as a SENDME of the circuit is for, where the windows allow them. Each has
+/// its bytes in room of its own, as an edge connection reports them.
+fn package_all(
+    circuit: &mut Circuit,
+    alloc: Global,
+    key: StreamKey,
+    bytes: &[u8],
+) -> Result<Report, AllocError>
+    requires some { 1 ≤ length bytes.now }
+    requires most { length bytes.now ≤ 498 }
+    requires windows { circuit.old.windows.calls < 2 ^ 62 }
+    requires places { circuit.old.places.calls < 2 ^ 62 }
+    requires packaged { circuit.old.packager.padding.count < 2 ^ 62 }
+    ensures windows { circuit.new.windows.calls ≤ circuit.old.windows.calls + 100 }
+    ensures places { circuit.new.places.calls ≤ circuit.old.places.calls + 100 }
+    ensures packaged { circuit.new.packager.padding.count ≤ circuit.old.packager.padding.count + 100 }
+{
+    let mut report = Report {
+        cells: 0,
+        last: [0; 20],
+    };
+    for number in 0..HUNDRED {
+        let data = EdgeEvent::Data(Bytes::of(alloc, bytes)?);
+        let Some(Phase::Joined) = circuit.phase(key) else {
+            return Ok(report);
+        };
+        let None = circuit.shut(key) else {
+            return Ok(report);
+        };
+        if let Some(body) = circuit.edge(key, &data).back {
+            report.cells = report.cells.saturating_add(1);
+            report.last.copy_from_slice(&body[5..25]);
+        }
+    }
+    Ok(report)
+}
+
+/// The SENDMEs for a hundred DATA of stream 1: two of the stream and one of the circuit.
+fn acknowledge(circuit: &mut Circuit, alloc: Global, rules: &Rules) -> Result<(), AllocError>
+    requires windows { circuit.old.windows.calls < 2 ^ 62 }
+    requires places { circuit.old.places.calls < 2 ^ 62 }
+    requires packaged { circuit.old.packager.padding.count < 2 ^ 62 }
+    ensures windows { circuit.new.windows.calls ≤ circuit.old.windows.calls + 3 }
+    ensures places { circuit.new.places.calls ≤ circuit.old.places.calls + 3 }
+    ensures packaged { circuit.new.packager.padding.count ≤ circuit.old.packager.padding.count + 3 }
+{
+    let of_stream = recognised(command::SENDME, 1, &[]);
+    let _first = circuit.forward(alloc, rules, &of_stream, RELAY)?;
+    let _second = circuit.forward(alloc, rules, &of_stream, RELAY)?;
+    let of_circuit = recognised(command::SENDME, 0, &[]);
+    let _raised = circuit.forward(alloc, rules, &of_circuit, RELAY)?;
+    Ok(())
+}
