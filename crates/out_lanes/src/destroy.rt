@@ -3,10 +3,8 @@ ghost use Rattle.std.specs.Prelude.{◌≡◌};
 ghost use Rattle.cell_codec.specs.Cells.{IsWellFormed};
 ghost use Rattle.out_lanes.specs.Destroys.{destroy_cell};
 
+use cell_codec::command::DESTROY;
 use cell_codec::{Body, Cell};
-
-/// The command of DESTROY (tor-spec, "Cell packet format").
-const DESTROY: u8 = 4;
 
 /// A DESTROY that waits to leave on a channel.
 #[derive(Clone, Copy, Debug, PartialEq, Eq)]
