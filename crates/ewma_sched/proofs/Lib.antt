@@ -1,0 +1,12 @@
+pub mod Cases
+pub mod Halving
+pub mod InOrder
+pub mod Keeping
+pub mod RosterSteps
+pub mod Maps
+pub mod Names
+pub mod NextLeg
+pub mod Picks
+pub mod States
+pub mod TableSteps
+pub mod Views
