@@ -16,7 +16,7 @@ use Rattle.turn_lock.specs.Shares.{times_in, once_below}
 use Rattle.turn_lock.specs.Views.{opening_view, one_part_less, new_part, joined, longer, shorter, settled, closed, witness, spent_view, caught_up, with_turn, released, IsPlaced, HasAllParts, StandsFor, IsLegal}
 use Rattle.turn_lock.specs.Plays.{Met, TookIf, Gave, Settled, Closed}
 use Rattle.turn_lock.specs.Rule.{Phase, free, out, shut, held_bit, IsHome, IsStored, IsView, IsOneHistory}
-use Rattle.turn_lock.proofs.Sums.{set-here, times-above, times_in-append, times_in-with_place, once_below-suc, once_below-le, once_below-zero, sum_by-one, length-snoc, prefix-self, prefix-length, prefix-through, prefix-both, prefix-whole}
+use Rattle.turn_lock.proofs.Sums.{set-here, times-above, times_in-append, times_in-to_first, once_below-suc, once_below-le, once_below-zero, sum_by-one, length-snoc, prefix-self, prefix-length, prefix-through, prefix-both, prefix-whole}
 use Rattle.turn_lock.proofs.Views.{out-free, out-shut, shut-free, carried, renewed, partless, spent_is, change, add, still_turning, whole_here, still_whole, places_alone, seen_alone, not_out_alone}
 
 module _ {E : Type 0} where
@@ -62,8 +62,8 @@ module _ {T E : Type 0} where
     turn = refl;
     seen = (e ∷ [], refl);
     shorter = refl;
-    places = λ p. let a = times_in-with_place p (length v.seen) v.shares in let b = once_below-suc p (length v.seen) in let c : once_below p (length (v.seen ++ e ∷ [])) ≡ once_below p (suc (length v.seen)) = ap (once_below p) n in omega arith;
-    placed = λ low p l. let z = low p (omega arith) in let a = times_in-with_place p (length v.seen) v.shares in let b = times-above p (length v.seen) (omega arith) in omega arith;
+    places = λ p. let a = times_in-to_first p (length v.seen) v.shares in let b = once_below-suc p (length v.seen) in let c : once_below p (length (v.seen ++ e ∷ [])) ≡ once_below p (suc (length v.seen)) = ap (once_below p) n in omega arith;
+    placed = λ low p l. let z = low p (omega arith) in let a = times_in-to_first p (length v.seen) v.shares in let b = times-above p (length v.seen) (omega arith) in omega arith;
   }
 
 module _ {T E B : Type 0} (stands : T → B → List E → Type 0) (legal : B → List E → Type 0) (begun : Maybe T) (seats : ℕ) where
@@ -342,12 +342,12 @@ module _ {T E B : Type 0} (stands : T → B → List E → Type 0) (legal : B �
       subst (λ (x : T × List E × Maybe T). StandsFor stands legal x.2 x.0 x.1) (λ i. (same i, sym k.1 i, sym k.2 i)) h.2
 
   -- a new lock
-  pub opens : (t : T) → begun ≡ Some t → 0 < seats → Fits t [] → IsLegal stands legal begun [] → Rule (opening (0 ∷ 0 ∷ 0 ∷ 0 ∷ []) (t ∷ []) (opening_view t seats))
+  pub opens : (t : T) → begun ≡ Some t → 0 < seats → Fits t [] → IsLegal stands legal begun [] → Rule (opening (0 ∷ 0 ∷ 0 ∷ 0 ∷ 0 ∷ []) (t ∷ []) (opening_view t seats))
   opens t is some_part fit lg = let v : V = opening_view t seats in record {
     log = [];
     phase = free;
     holder = 0;
-    stored = record { legal_is = lg; others = 0 ∷ 0 ∷ 0 ∷ []; count = refl; small = omega arith; room = λ h. absurd (out-free (sym h)); home = (t, refl, fit) };
+    stored = record { legal_is = lg; others = 0 ∷ 0 ∷ 0 ∷ 0 ∷ []; count = refl; small = omega arith; room = λ h. absurd (out-free (sym h)); home = (t, refl, fit) };
     viewed = record {
       each = first t is some_part;
       holding = λ h. absurd (out-free (sym h));

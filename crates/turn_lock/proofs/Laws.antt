@@ -1,11 +1,12 @@
 -- Which steps a pass has: after more steps of others, after one of its own, after a join, and with every place.
 use Rattle.std.proofs.Common.{◌≡◌, inl, inr, ℕ, zero, suc, ◌+◌, ◌<◌, ◌≤◌, List, [], ◌∷◌, ◌++◌, length, append-nil, sym, refl, ap, ◌∙◌, subst, ⊎_elim, arith}
 use Rattle.std.specs.Prelude.{flat_map}
-use mathlib.Core.List.{IsPrefix}
+use mathlib.Core.List.{IsPrefix, map-append}
+use Rattle.std.proofs.lemmas.List.Sums.{sum_by-cons}
 use Rattle.turn_lock.specs.declared.view.View.{View}
-use Rattle.turn_lock.specs.Shares.{times_in, with_place, once_below, add_unless_zero, steps_at, Interleaves}
-use Rattle.turn_lock.specs.Views.{HasAllSteps}
-use Rattle.turn_lock.proofs.Sums.{times_in-append, times_in-with_place, times-same, times-below, once_below-one}
+use Rattle.turn_lock.specs.Shares.{times_in, to_first, once_below, add_unless_zero, steps_at, steps_of_each, Interleaves, times}
+use Rattle.turn_lock.specs.Views.{HasAllSteps, own_steps, steps_by_share, new_part}
+use Rattle.turn_lock.proofs.Sums.{times_in-append, times_in-to_first, times-same, times-below, once_below-one}
 
 module _ {E : Type 0} where
   add-append : (n : ℕ) (x : E) (xs ys : List E) → add_unless_zero n x (xs ++ ys) ≡ add_unless_zero n x xs ++ ys
@@ -35,12 +36,31 @@ module _ {E : Type 0} where
       ∙ (ap (λ (l : List E). steps_at ss 0 seen ++ l) (steps_at-none ss (0 + length seen) more.0 (λ p l. low p (omega arith))) ∙ append-nil (steps_at ss 0 seen)))
 
   -- one own step more
-  pub steps_at-own : (ss : List (List ℕ)) (log : List E) (e : E) → steps_at (with_place ss (length log)) 0 (log ++ e ∷ []) ≡ steps_at ss 0 log ++ e ∷ []
-  steps_at-own ss log e = let ts = with_place ss (length log) in let n : ℕ = times_in (0 + length log) ss in
-      let here : times_in (0 + length log) ts ≡ suc n = let a = times_in-with_place (0 + length log) (length log) ss in let b = times-same (0 + length log) (length log) (omega arith) in omega arith in
+  pub steps_at-own : (ss : List (List ℕ)) (log : List E) (e : E) → steps_at (to_first ss (length log)) 0 (log ++ e ∷ []) ≡ steps_at ss 0 log ++ e ∷ []
+  steps_at-own ss log e = let ts = to_first ss (length log) in let n : ℕ = times_in (0 + length log) ss in
+      let here : times_in (0 + length log) ts ≡ suc n = let a = times_in-to_first (0 + length log) (length log) ss in let b = times-same (0 + length log) (length log) (omega arith) in omega arith in
       steps_at-append ts 0 log (e ∷ [])
       ∙ (ap (λ (k : ℕ). steps_at ts 0 log ++ add_unless_zero k e []) here
-      ∙ ap (λ (l : List E). l ++ e ∷ []) (steps_at-same ts ss 0 log (λ p l. let a = times_in-with_place p (length log) ss in let b = times-below p (length log) (omega arith) in omega arith)))
+      ∙ ap (λ (l : List E). l ++ e ∷ []) (steps_at-same ts ss 0 log (λ p l. let a = times_in-to_first p (length log) ss in let b = times-below p (length log) (omega arith) in omega arith)))
+
+  -- the same share by share: steps that others made
+  pub steps_of_each-more : (ss : List (List ℕ)) (seen log : List E) → ((p : ℕ) → length seen ≤ p → times_in p ss ≡ 0) → IsPrefix seen log → steps_of_each ss log ≡ steps_of_each ss seen
+  steps_of_each-more [] seen log low more = refl
+  steps_of_each-more (s ∷ ss) seen log low more =
+      ap (λ (l : List E). l ∷ steps_of_each ss log) (steps_at-more (s ∷ []) seen log (λ p l. let z = low p l in let a = sum_by-cons (times p) s ss in let b = sum_by-cons (times p) s [] in omega arith) more)
+      ∙ ap (λ (ls : List (List E)). steps_at (s ∷ []) 0 seen ∷ ls) (steps_of_each-more ss seen log (λ p l. let z = low p l in let a = sum_by-cons (times p) s ss in omega arith) more)
+
+  -- one own step more
+  pub steps_of_each-own : (ss : List (List ℕ)) (log : List E) (e : E) → ((p : ℕ) → length log ≤ p → times_in p ss ≡ 0) → steps_of_each (to_first ss (length log)) (log ++ e ∷ []) ≡ to_first (steps_of_each ss log) e
+  steps_of_each-own [] log e low = ap (λ (l : List E). l ∷ []) (steps_at-own [] log e ∙ ap (λ (l : List E). l ++ e ∷ []) (steps_at-none [] 0 log (λ p l. refl)))
+  steps_of_each-own (s ∷ ss) log e low = ap (λ (l : List E). l ∷ steps_of_each ss (log ++ e ∷ [])) (steps_at-own (s ∷ []) log e)
+      ∙ ap (λ (ls : List (List E)). (steps_at (s ∷ []) 0 log ++ e ∷ []) ∷ ls) (steps_of_each-more ss log (log ++ e ∷ []) (λ p l. let z = low p l in let a = sum_by-cons (times p) s ss in omega arith) (e ∷ [], refl))
+
+  -- two passes that saw less
+  pub steps_of_each-both : (ss ts : List (List ℕ)) (xs ys log : List E) → ((p : ℕ) → length xs ≤ p → times_in p ss ≡ 0) → ((p : ℕ) → length ys ≤ p → times_in p ts ≡ 0) → IsPrefix xs log → IsPrefix ys log
+      → steps_of_each (ss ++ ts) log ≡ steps_of_each ss xs ++ steps_of_each ts ys
+  steps_of_each-both ss ts xs ys log low low' more more' = map-append (λ (s : List ℕ). steps_at (s ∷ []) 0 log) ss ts
+      ∙ (ap (λ (ls : List (List E)). ls ++ steps_of_each ts log) (steps_of_each-more ss xs log low more) ∙ ap (λ (ls : List (List E)). steps_of_each ss xs ++ ls) (steps_of_each-more ts ys log low' more'))
 
   steps_at-all : (ss : List (List ℕ)) (k : ℕ) (xs : List E) → ((p : ℕ) → k ≤ p → p < k + length xs → times_in p ss ≡ 1) → steps_at ss k xs ≡ xs
   steps_at-all ss k [] all = refl
@@ -89,3 +109,7 @@ module _ {T E : Type 0} where
     places = all;
     steps = steps_at-all v.shares 0 v.seen (λ p _ l. all p ∙ once_below-one p (length v.seen) (omega arith));
   }
+
+  -- a new pass has no steps
+  pub no_steps : (v : View T E) → (own_steps (new_part v) ≡ []) × (steps_by_share (new_part v) ≡ [] ∷ [])
+  no_steps v = let none : steps_at ([] ∷ []) 0 v.seen ≡ [] = steps_at-none ([] ∷ []) 0 v.seen (λ p l. refl) in (none, ap (λ (l : List E). l ∷ []) none)

@@ -1,6 +1,8 @@
 -- Sums over views, how often a place stands in shares, and beginnings of lists.
-use Rattle.std.proofs.Common.{◌≡◌, ℕ, zero, suc, ◌+◌, ◌<◌, ◌≤◌, ◌≢◌, List, [], ◌∷◌, ◌++◌, length, set, sum_by, append-nil, append_assoc, length-append, sym, refl, ap, ◌∙◌, arith}
-use Rattle.std.specs.Prelude.{cond, ◌==◌}
+use Rattle.std.proofs.Common.{◌≡◌, ℕ, zero, suc, ◌+◌, ◌<◌, ◌≤◌, ◌≢◌, List, [], ◌∷◌, ◌++◌, length, set, sum_by, append-nil, append_assoc, length-append, sym, refl, ap, ◌∙◌, subst, arith}
+use Rattle.std.specs.Prelude.{cond, ◌==◌, nat_lt, Bool, true, false, All, slice_index}
+use Rattle.std.specs.List.Sorted.{IsStrictlyIncreasing}
+use Rattle.std.proofs.lemmas.List.Elements.{All-nil, All-cons, All-head, All-tail}
 use Rattle.std.proofs.lemmas.Bool.Decides.{nat_tests}
 use Rattle.std.proofs.lemmas.Grind.{common_steps}
 use Rattle.std.proofs.lemmas.List.{nil_from_length}
@@ -8,7 +10,7 @@ use Rattle.std.proofs.lemmas.List.Sums.{sum_by-append, sum_by-cons}
 use mathlib.Core.Option.{some, some-injective, some-ne-none}
 use mathlib.Core.List.{IsPrefix}
 use lib.ListN.{get_elem?}
-use Rattle.turn_lock.specs.Shares.{times, times_in, with_place, once_below}
+use Rattle.turn_lock.specs.Shares.{times, times_in, to_first, once_below}
 
 module _ {A : Type 0} (f : A → ℕ) where
   pub sum_by-changed : (l : List A) (i : ℕ) (v w : A) → get_elem? l i ≡ some v → sum_by f (set l i w) + f v ≡ sum_by f l + f w
@@ -43,9 +45,9 @@ pub times_in-append : (p : ℕ) (xs ys : List (List ℕ)) → times_in p (xs ++ 
 times_in-append p xs ys = sum_by-append (times p) xs ys
 
 -- a place more in the first share
-pub times_in-with_place : (p q : ℕ) (ss : List (List ℕ)) → times_in p (with_place ss q) ≡ times_in p ss + times p (q ∷ [])
-times_in-with_place p q [] = let b = sum_by-cons (times p) (q ∷ []) [] in omega arith
-times_in-with_place p q (s ∷ ss) = let r : times p (s ++ q ∷ []) ≡ times p s + times p (q ∷ []) = sum_by-append (λ (x : ℕ). cond (x == p) 1 0) s (q ∷ []) in
+pub times_in-to_first : (p q : ℕ) (ss : List (List ℕ)) → times_in p (to_first ss q) ≡ times_in p ss + times p (q ∷ [])
+times_in-to_first p q [] = let b = sum_by-cons (times p) (q ∷ []) [] in omega arith
+times_in-to_first p q (s ∷ ss) = let r : times p (s ++ q ∷ []) ≡ times p s + times p (q ∷ []) = sum_by-append (λ (x : ℕ). cond (x == p) 1 0) s (q ∷ []) in
     let a = sum_by-cons (times p) (s ++ q ∷ []) ss in let b = sum_by-cons (times p) s ss in omega arith
 
 pub once_below-suc : (p n : ℕ) → once_below p (suc n) ≡ once_below p n + times p (n ∷ [])
@@ -68,6 +70,34 @@ times-below p n l = grind (arith, nat_tests, common_steps)
 
 pub times-above : (p n : ℕ) → n < p → times p (n ∷ []) ≡ 0
 times-above p n l = grind (arith, nat_tests, common_steps)
+
+-- a place that stands in a list lies below n, where no place from n on does
+below_by : (b : Bool) (p n : ℕ) (ps : List ℕ) → nat_lt p n ≡ b → ((q : ℕ) → n ≤ q → times q (p ∷ ps) ≡ 0) → p < n
+below_by true p n ps e low = grind (arith, nat_tests)
+below_by false p n ps e low = let l : n ≤ p = grind (arith, nat_tests) in let z = low p l in let o = times-same p p refl in let a = sum_by-cons (λ (x : ℕ). cond (x == p) 1 0) p ps in
+    let b = sum_by-cons (λ (x : ℕ). cond (x == p) 1 0) p [] in absurd (omega arith)
+
+none_after : (p n : ℕ) (ps : List ℕ) → ((q : ℕ) → n ≤ q → times q (p ∷ ps) ≡ 0) → (q : ℕ) → n ≤ q → times q ps ≡ 0
+none_after p n ps low q l = let z = low q l in let a = sum_by-cons (λ (x : ℕ). cond (x == q) 1 0) p ps in omega arith
+
+increasing-tail : (p : ℕ) (ps : List ℕ) → IsStrictlyIncreasing (p ∷ ps) → IsStrictlyIncreasing ps
+increasing-tail p ps up k l = let e : suc k + 1 ≡ suc (k + 1) = omega arith in subst (λ (m : ℕ). slice_index (p ∷ ps) (suc k) < slice_index (p ∷ ps) m) e (up (suc k) (omega arith))
+
+increasing-snoc : (ps : List ℕ) (n : ℕ) → IsStrictlyIncreasing ps → ((q : ℕ) → n ≤ q → times q ps ≡ 0) → IsStrictlyIncreasing (ps ++ n ∷ [])
+increasing-snoc [] n up low k l = absurd (omega arith)
+increasing-snoc (p ∷ []) n up low zero l = below_by (nat_lt p n) p n [] refl low
+increasing-snoc (p ∷ []) n up low (suc k) l = absurd (omega arith)
+increasing-snoc (p ∷ q ∷ qs) n up low zero l = up 0 (omega arith)
+increasing-snoc (p ∷ q ∷ qs) n up low (suc k) l = let e : suc k + 1 ≡ suc (k + 1) = omega arith in
+    let r = increasing-snoc (q ∷ qs) n (increasing-tail p (q ∷ qs) up) (none_after p n (q ∷ qs) low) k (omega arith) in
+    subst (λ (m : ℕ). slice_index (p ∷ q ∷ (qs ++ n ∷ [])) (suc k) < slice_index (p ∷ q ∷ (qs ++ n ∷ [])) m) (sym e) r
+
+-- a place above all others goes to the first share
+pub rising-to_first : (ss : List (List ℕ)) (n : ℕ) → ((p : ℕ) → n ≤ p → times_in p ss ≡ 0) → All IsStrictlyIncreasing ss → All IsStrictlyIncreasing (to_first ss n)
+rising-to_first [] n low up = All-cons IsStrictlyIncreasing (n ∷ []) [] (λ k l. absurd (omega arith)) (All-nil IsStrictlyIncreasing)
+rising-to_first (s ∷ ss) n low up = All-cons IsStrictlyIncreasing (s ++ n ∷ []) ss
+    (increasing-snoc s n (All-head IsStrictlyIncreasing s ss up) (λ p l. let z = low p l in let a = sum_by-cons (times p) s ss in omega arith))
+    (All-tail IsStrictlyIncreasing s ss up)
 
 module _ {A : Type 0} where
   pub set-here : (l : List A) (i : ℕ) (v w : A) → get_elem? l i ≡ some v → get_elem? (set l i w) i ≡ some w

@@ -1,13 +1,15 @@
 -- How a pass's views in one call follow from one another.
 use Rattle.std.proofs.Common.{◌≡◌, ℕ, ◌^◌, ◌<◌, ◌≤◌, false, max, List, [], ◌∷◌, ◌++◌, length, sym, refl, ap, ◌∙◌, subst, append-nil, Option, Some, None, option_to_list, arith}
+use Rattle.std.specs.List.Sorted.{IsStrictlyIncreasing}
+use Rattle.std.proofs.lemmas.List.Elements.{All-append}
 use mathlib.Core.List.{IsPrefix}
 use Rattle.atomic_table.specs.Table.{Me}
 use Rattle.turn_lock.specs.declared.view.View.{View}
-use Rattle.turn_lock.specs.Shares.{times_in, Interleaves}
-use Rattle.turn_lock.specs.Views.{caught_up, with_turn, IsPlaced, own_steps, longer, shorter, joined, settled, released, Turned, CaughtUp, BeginsFrom, StandsFor, IsLegal}
+use Rattle.turn_lock.specs.Shares.{times_in, to_first, Interleaves}
+use Rattle.turn_lock.specs.Views.{caught_up, with_turn, IsPlaced, IsRising, own_steps, steps_by_share, with_step, longer, shorter, joined, settled, released, Turned, CaughtUp, BeginsFrom, StandsFor, IsLegal}
 use Rattle.turn_lock.specs.Plays.{Looked, Met, CaughtUpFull, Took, Ran, Settled}
-use Rattle.turn_lock.proofs.Sums.{times_in-append, prefix-length, prefix-through, prefix-self}
-use Rattle.turn_lock.proofs.Laws.{steps_at-more, steps_at-own, steps_at-both}
+use Rattle.turn_lock.proofs.Sums.{times_in-append, prefix-length, prefix-through, prefix-self, rising-to_first}
+use Rattle.turn_lock.proofs.Laws.{steps_at-more, steps_at-own, steps_at-both, steps_of_each-more, steps_of_each-own, steps_of_each-both}
 use Rattle.turn_lock.proofs.Keeps.{Releases, releases, by_longer}
 
 abbrev M : Type 0 → Type 0 → Type 0
@@ -16,6 +18,10 @@ M T E = Me T (View T E)
 module _ {T E : Type 0} where
   pub look_start : (m : M T E) → Looked m m
   look_start m = record { log = m.0.seen; after = refl; older = prefix-self m.0.seen }
+
+  rising_released : (v : View T E) (st : Option E) → IsPlaced v → IsRising v → IsRising (released v st)
+  rising_released v None low up = up
+  rising_released v (Some e) low up = rising-to_first v.shares (length v.seen) low up
 
   -- a seat that may have looked is the same but for what it saw
   pub look_turn : (m n : M T E) → Looked m n → m.0.has_turn ≡ false → n.0.has_turn ≡ false
@@ -64,11 +70,16 @@ module _ {T E B : Type 0} (stands : T → B → List E → Type 0) (legal : B �
     after = is;
     legal_is = subst (λ (x : View T E). IsLegal stands legal v.opening x.seen) (sym is) lg;
     mine = ap own_steps is ∙ steps_at-more v.shares v.seen log low more;
+    by_share = ap steps_by_share is ∙ steps_of_each-more v.shares v.seen log low more;
   }
 
   own_on : (v : View T E) (log : List E) (st : Option E) → IsPlaced v → IsPrefix v.seen log → own_steps (released (with_turn v log) st) ≡ own_steps v ++ option_to_list st
   own_on v log None low more = steps_at-more v.shares v.seen log low more ∙ sym (append-nil (own_steps v))
   own_on v log (Some e) low more = steps_at-own v.shares log e ∙ ap (λ (l : List E). l ++ e ∷ []) (steps_at-more v.shares v.seen log low more)
+
+  each_on : (v : View T E) (log : List E) (st : Option E) → IsPlaced v → IsPrefix v.seen log → steps_by_share (released (with_turn v log) st) ≡ with_step (steps_by_share v) st
+  each_on v log None low more = steps_of_each-more v.shares v.seen log low more
+  each_on v log (Some e) low more = steps_of_each-own v.shares log e (λ p l. low p (let n = prefix-length v.seen log more in omega arith)) ∙ ap (λ (ls : List (List E)). to_first ls e) (steps_of_each-more v.shares v.seen log low more)
 
   -- a whole turn: taken from m to n, the step made to o, given back to p
   module _ (only : (s : T) (b : B) (h : List E) → stands s b h → legal b h) (m n o p : M T E) (st : Option E) (word : ℕ)
@@ -91,10 +102,14 @@ module _ {T E B : Type 0} (stands : T → B → List E → Type 0) (legal : B �
       legal_is = λ b begins. only r.state b p.0.seen (subst (λ (x : View T E). stands r.state b x.seen) (sym kept)
           (r.stands_is.1 b (subst (λ (x : Option T). BeginsFrom stands legal x b) (ap (λ (x : M T E). x.0.opening) (sym t.after)) begins)));
       mine = ap own_steps after ∙ own_on m.0 t.log st low t.older;
+      by_share = ap steps_by_share after ∙ each_on m.0 t.log st low t.older;
     }
 
     pub rests_on : 0 < m.0.parts → (p.1 ≡ []) × (p.0.has_turn ≡ false) × (0 < p.0.parts)
     rests_on some_part = (ap (λ (x : M T E). x.1) last, release.turn, let e = release.parts in omega arith)
+
+    pub rising_on : IsRising m.0 → IsRising p.0
+    rising_on up = subst IsRising (sym after) (rising_released (with_turn m.0 t.log) st (λ q l. low q (let n = prefix-length m.0.seen t.log t.older in omega arith)) up)
 
     pub placed_on : IsPlaced p.0
     placed_on = release.placed (λ q l. low q (let n = prefix-length m.0.seen t.log t.older in omega arith))
@@ -111,11 +126,15 @@ module _ {T E : Type 0} where
   pub joined_placed : (v w : View T E) → IsPlaced v → IsPlaced w → IsPlaced (settled (joined v w))
   joined_placed v w a b p l = let n = length-longer v.seen w.seen in let i = n.0 in let j = n.1 in let x = a p (omega arith) in let y = b p (omega arith) in let t = times_in-append p v.shares w.shares in omega arith
 
+  pub joined_rising : (v w : View T E) → IsRising v → IsRising w → IsRising (settled (joined v w))
+  joined_rising v w = All-append IsStrictlyIncreasing v.shares w.shares
+
   -- what a join tells
   pub record Joins (v w k : View T E) : Type 0 where
     pub older : IsPrefix v.seen k.seen × IsPrefix w.seen k.seen
     pub once : (p : ℕ) → times_in p k.shares ≤ 1
     pub mine : Interleaves (own_steps v) (own_steps w) (own_steps k)
+    pub by_share : steps_by_share k ≡ steps_by_share v ++ steps_by_share w
 
   pub joins_on : (v w : View T E) (m n : Me T (View T E)) → IsPlaced v → IsPlaced w → m.0 ≡ joined v w → Settled m n → Joins v w n.0
   joins_on v w m n a b is s = subst (Joins v w) (sym (ap (λ (x : Me T (View T E)). x.0) s.after ∙ ap settled is)) (
@@ -125,4 +144,5 @@ module _ {T E : Type 0} where
         once = once;
         mine = subst (λ (x : List E × List E). Interleaves x.0 x.1 (own_steps (settled (joined v w)))) (λ i. (steps_at-more v.shares v.seen log a older.0 i, steps_at-more w.shares w.seen log b older.1 i))
             (steps_at-both v.shares w.shares 0 log once);
+        by_share = steps_of_each-both v.shares w.shares v.seen w.seen log a b older.0 older.1;
       })

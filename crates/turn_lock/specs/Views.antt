@@ -1,14 +1,20 @@
 -- What a pass knows of its lock, and how it changes.
-use Rattle.std.specs.Prelude.{◌≡◌, ℕ, ◌-◌, ◌+◌, ◌^◌, ◌<◌, ◌≤◌, nat_lt, Bool, true, false, if◌then◌else◌, List, [], ◌∷◌, ◌++◌, length, Option, Some, None, option_to_list}
+use Rattle.std.specs.Prelude.{◌≡◌, ℕ, ◌-◌, ◌+◌, ◌^◌, ◌<◌, ◌≤◌, nat_lt, Bool, true, false, if◌then◌else◌, List, [], ◌∷◌, ◌++◌, length, All, Option, Some, None, option_to_list}
+use Rattle.std.specs.List.Sorted.{IsStrictlyIncreasing}
 use mathlib.Core.List.{IsPrefix}
 use Rattle.turn_lock.specs.declared.view.View.{View}
-use Rattle.turn_lock.specs.Shares.{times_in, once_below, steps_at, with_place}
+use Rattle.turn_lock.specs.Shares.{times_in, once_below, steps_at, steps_of_each, to_first}
 
 module _ {E : Type 0} where
   -- the step of an answer that counts
   abbrev pub step_if : Bool → E → Option E
   step_if true e = Some e
   step_if false e = None
+
+  -- the steps of each share after a step of the pass, where it counts: the first share has it too
+  abbrev pub with_step : List (List E) → Option E → List (List E)
+  with_step steps None = steps
+  with_step steps (Some e) = to_first steps e
 
   abbrev pub longer : List E → List E → List E
   longer xs ys = if nat_lt (length xs) (length ys) then ys else xs
@@ -21,9 +27,17 @@ module _ {T E : Type 0} where
   abbrev pub own_steps : View T E → List E
   own_steps v = steps_at v.shares 0 v.seen
 
+  -- the steps of each of its shares
+  abbrev pub steps_by_share : View T E → List (List E)
+  steps_by_share v = steps_of_each v.shares v.seen
+
   -- the places of its steps lie in what it saw
   abbrev pub IsPlaced : View T E → Type 0
   IsPlaced v = (p : ℕ) → length v.seen ≤ p → times_in p v.shares ≡ 0
+
+  -- and the places of each share rise
+  abbrev pub IsRising : View T E → Type 0
+  IsRising v = All IsStrictlyIncreasing v.shares
 
   abbrev pub HasAllParts : View T E → Type 0
   HasAllParts v = v.parts ≡ v.seats
@@ -48,7 +62,7 @@ module _ {T E : Type 0} where
   -- the turn is given back, after a step that counted or after none
   abbrev pub released : View T E → Option E → View T E
   released v None = record v { has_turn = false }
-  released v (Some e) = record v { seen = v.seen ++ e ∷ []; shares = with_place v.shares (length v.seen); has_turn = false }
+  released v (Some e) = record v { seen = v.seen ++ e ∷ []; shares = to_first v.shares (length v.seen); has_turn = false }
 
   -- one part goes to a new pass, which has seen as much and made no step
   abbrev pub one_part_less : View T E → View T E
@@ -97,6 +111,7 @@ module _ {T E B : Type 0} (stands : T → B → List E → Type 0) (legal : B �
     pub after : w ≡ released (with_turn v log) step
     pub legal_is : IsLegal v.opening w.seen
     pub mine : own_steps w ≡ own_steps v ++ option_to_list step
+    pub by_share : steps_by_share w ≡ with_step (steps_by_share v) step
 
   -- what a look at the history does to a pass
   pub record CaughtUp (v w : View T E) : Type 0 where
@@ -105,3 +120,4 @@ module _ {T E B : Type 0} (stands : T → B → List E → Type 0) (legal : B �
     pub after : w ≡ caught_up v log
     pub legal_is : IsLegal v.opening w.seen
     pub mine : own_steps w ≡ own_steps v
+    pub by_share : steps_by_share w ≡ steps_by_share v

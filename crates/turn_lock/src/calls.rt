@@ -1,8 +1,8 @@
 //! The calls that don't wait: a new lock, passes split and joined, a look at the history, the close.
-ghost use Rattle.std.specs.Prelude.{◌≡◌, ℕ, ◌<◌, ◌≤◌, [], IfOk};
+ghost use Rattle.std.specs.Prelude.{◌≡◌, ℕ, ◌<◌, ◌≤◌, [], ◌∷◌, ◌++◌, IfOk};
 ghost use mathlib.Core.List.{IsPrefix};
 ghost use Rattle.turn_lock.specs.Shares.{Interleaves, times_in};
-ghost use Rattle.turn_lock.specs.Views.{StandsFor, IsLegal, CaughtUp, HasAllParts, HasAllSteps, opening_view, one_part_less, new_part, joined, settled, closed, own_steps};
+ghost use Rattle.turn_lock.specs.Views.{StandsFor, IsLegal, CaughtUp, HasAllParts, HasAllSteps, opening_view, one_part_less, new_part, joined, settled, closed, own_steps, steps_by_share};
 ghost use Rattle.turn_lock.specs.Passes.{lock_of, id_of, known, IsSamePass};
 
 use crate::lock::{COUNT, TurnLock};
@@ -34,7 +34,7 @@ impl<T: Kept> TurnLock<T> {
         };
         let mut slots = Vec::new(alloc);
         slots.push(state)?;
-        match Table::new(alloc, &[0, 0, 0, 0], slots, &opening) {
+        match Table::new(alloc, &[0, 0, 0, 0, 0], slots, &opening) {
             Ok((table, seat)) => Ok((TurnLock { table }, Pass { seat, count: 0 })),
             Err(refused) => {
                 drop(refused);
@@ -50,6 +50,7 @@ impl<T: Kept> TurnLock<T> {
         ensures own { (lock_of pass.new ≡ lock_of pass.old) × (lock_of result ≡ lock_of pass.old) }
         ensures left { known pass.new ≡ one_part_less (known pass.old) }
         ensures right { known result ≡ new_part (known pass.old) }
+        ensures fresh { (own_steps (known result) ≡ []) × (steps_by_share (known result) ≡ [] ∷ []) }
     {
         let seat = self.table.shared.split_seat::<OnePart>(&mut pass.seat);
         Pass {
@@ -67,6 +68,7 @@ impl<T: Kept> TurnLock<T> {
         ensures older { IsPrefix (known pass.old).seen (known pass.new).seen × IsPrefix (known other).seen (known pass.new).seen }
         ensures once { (p : ℕ) → times_in p (known pass.new).shares ≤ 1 }
         ensures mine { Interleaves (own_steps (known pass.old)) (own_steps (known other)) (own_steps (known pass.new)) }
+        ensures by_share { steps_by_share (known pass.new) ≡ steps_by_share (known pass.old) ++ steps_by_share (known other) }
     {
         let Pass { seat, count } = other;
         self.table

@@ -9,16 +9,18 @@ use tr_io::stepping::Kept;
 
 /// The word that is twice the number of steps, and one more while a pass has the turn.
 pub(crate) const COUNT: usize = 0;
-/// The word that counts the threads that may sleep until the turn is free. They sleep on `COUNT`.
+/// The word that counts the threads that may sleep until the turn is free and weren't woken yet.
 pub(crate) const WAITING: usize = 1;
-/// The word that changes when a step gave work while threads were parked. They sleep on it.
-pub(crate) const BELL: usize = 2;
-/// The word that counts the threads that are parked.
+/// The word on which they sleep. It changes when one of them is woken.
+pub(crate) const WAITING_BELL: usize = 2;
+/// The word that counts the threads that may be parked and weren't woken yet.
 pub(crate) const PARKED: usize = 3;
+/// The word on which they sleep. It changes when they are woken, since a step gave work.
+pub(crate) const PARKED_BELL: usize = 4;
 
 /// A lock round a state.
 #[derive(Drop)]
 pub struct TurnLock<T: Kept> {
     pub(crate) table: Table<T, View<T, T::Step>, Opening<T>, OneHistory, Global>,
-    ghost sized: { (table.shared.table_id.words ≡ 4) × (table.shared.table_id.slots ≡ 1) },
+    ghost sized: { (table.shared.table_id.words ≡ 5) × (table.shared.table_id.slots ≡ 1) },
 }

@@ -1,6 +1,6 @@
 //! The right to make steps on a lock.
 ghost use Rattle.std.specs.Prelude.{◌≡◌, ◌<◌, ◌≤◌, ◌^◌, false, [], length};
-ghost use Rattle.turn_lock.specs.Views.{IsPlaced};
+ghost use Rattle.turn_lock.specs.Views.{IsPlaced, IsRising};
 
 use crate::view::View;
 use atomic_table::Seat;
@@ -16,4 +16,5 @@ pub struct Pass<T: Kept> {
     ghost counted: { count ≡ length seat.me.0.seen },
     ghost low: { count ≤ 2 ^ 62 },
     ghost placed: { IsPlaced seat.me.0 },
+    ghost rising: { IsRising seat.me.0 },
 }

@@ -8,7 +8,7 @@
 //! | split | split of a seat | [`OnePart`] |
 //! | join, and a load that tells what the joined pass now knows | join of seats, load of the count | [`Together`], [`Settles`] |
 //! | close: the held bit stays on | store of the count, split of a seat | [`Closes`], [`Witness`] |
-//! | asleep or awake | a new seat, an add on another word | [`Enters`], [`Stays`] |
+//! | asleep or awake | a new seat, a change of another word | [`Enters`], [`Stays`] |
 use crate::view::{Opening, View};
 use atomic_table::{Join, Play, Split, TableRule};
 use std::marker::{Brand, PhantomData};

@@ -1,12 +1,18 @@
 //! How threads sleep and are woken. No proof sees it: no clause says that a thread is woken.
 //!
-//! A thread counts itself among the sleepers before it looks a last time at what it waits for, and
-//! who changes that looks at the count afterwards. Each step is sequentially consistent, so one of
-//! the two sees the other: a thread that is passed by finds the change, and does not sleep.
+//! A thread that is to sleep looks at a bell, counts itself among the sleepers, looks a last time at
+//! what it waits for, and sleeps for as long as the bell stays as it was. Who changes what it waits
+//! for looks at the count afterwards. Each step is sequentially consistent, so one of the two sees the
+//! other: a thread that is passed by finds the change, and doesn't sleep.
+//!
+//! Who wakes takes those that it wakes off the count, before it rings: a thread that it took off and
+//! that doesn't sleep yet finds the bell changed. So nobody is woken twice for one sleep, and a turn
+//! costs two looks where nobody sleeps. A thread that counted itself and didn't sleep is left in the
+//! count, which costs one wake of nobody.
 ghost use Rattle.std.specs.Prelude.{◌≡◌};
 ghost use Rattle.turn_lock.specs.Passes.{lock_of, id_of};
 
-use crate::lock::{BELL, COUNT, PARKED, TurnLock, WAITING};
+use crate::lock::{COUNT, PARKED, PARKED_BELL, TurnLock, WAITING, WAITING_BELL};
 use crate::pass::Pass;
 use crate::rule::{Enters, Stays};
 use crate::view::View;
@@ -25,39 +31,57 @@ impl<T: Kept> TurnLock<T> {
         requires own { lock_of pass.now ≡ id_of self.now }
     {
         let shared = &self.table.shared;
+        let bell = shared.peek(PARKED_BELL);
         let mut seat = shared.load_new_seat::<Enters>(PARKED).1;
         shared.fetch_add::<Stays>(&mut seat, PARKED, 1);
-        let bell = shared.peek(BELL);
         if shared.peek(COUNT) / 2 == pass.count {
-            shared.park(rt, BELL, low_half(bell));
+            shared.park(rt, PARKED_BELL, low_half(bell));
         }
-        shared.fetch_sub::<Stays>(&mut seat, PARKED, 1);
     }
 
-    // Lets a moment pass, and tells how often it did: it sleeps where the turn lasts.
-    pub(crate) fn pause<R: Wait>(&self, rt: &R, word: u64, looks: u32) -> u32 {
-        if looks < LOOKS {
+    // Lets a moment pass, and tells how often it did: it sleeps where the turn lasts or others sleep.
+    pub(crate) fn pause<R: Wait>(&self, rt: &R, looks: u32) -> u32 {
+        if looks < LOOKS && self.table.shared.peek(WAITING) == 0 {
             spin_loop();
             return looks + 1;
         }
-        self.sleep(rt, word);
+        self.sleep(rt);
         0
     }
 
-    // Sleeps while the count stays as it is.
-    fn sleep<R: Wait>(&self, rt: &R, word: u64) {
+    // Sleeps while another has the turn.
+    fn sleep<R: Wait>(&self, rt: &R) {
         let shared = &self.table.shared;
+        let bell = shared.peek(WAITING_BELL);
         let mut seat = shared.load_new_seat::<Enters>(WAITING).1;
         shared.fetch_add::<Stays>(&mut seat, WAITING, 1);
-        shared.park(rt, COUNT, low_half(word));
-        shared.fetch_sub::<Stays>(&mut seat, WAITING, 1);
+        if shared.peek(COUNT) % 2 == 1 {
+            shared.park(rt, WAITING_BELL, low_half(bell));
+        }
     }
 
     // Wakes one thread that waits for the turn, if some do. It takes the turn, or waits again.
-    pub(crate) fn wake_next(&self) {
-        if self.table.shared.peek(WAITING) != 0 {
-            self.table.shared.wake_one(COUNT);
+    pub(crate) fn wake_next(&self, seat: &mut Seat<T, View<T, T::Step>>)
+        requires own { seat.old.table_id ≡ self.now.table.shared.table_id }
+        ensures same { (seat.new.table_id ≡ seat.old.table_id) × (seat.new.id ≡ seat.old.id) × (seat.new.me ≡ seat.old.me) }
+    {
+        let shared = &self.table.shared;
+        let waiting = shared.peek(WAITING);
+        // Where another changed the count, it counted itself and then finds the turn free, or it wakes one.
+        if waiting != 0
+            && shared.compare_exchange::<Stays>(seat, WAITING, waiting, waiting - 1) == waiting
+        {
+            shared.fetch_add::<Stays>(seat, WAITING_BELL, 1);
+            shared.wake_one(WAITING_BELL);
         }
+    }
+
+    // Wakes all that wait for the turn, as nobody is to have it any more.
+    pub(crate) fn wake_waiting(&self) {
+        let shared = &self.table.shared;
+        let mut seat = shared.load_new_seat::<Enters>(WAITING).1;
+        shared.fetch_add::<Stays>(&mut seat, WAITING_BELL, 1);
+        shared.wake_all(WAITING_BELL);
     }
 
     // Wakes all that are parked, if a step counted that may give them work.
@@ -71,9 +95,11 @@ impl<T: Kept> TurnLock<T> {
         requires own { seat.old.table_id ≡ self.now.table.shared.table_id }
         ensures same { (seat.new.table_id ≡ seat.old.table_id) × (seat.new.id ≡ seat.old.id) × (seat.new.me ≡ seat.old.me) }
     {
-        if counted && self.table.shared.peek(PARKED) != 0 && step.gives_work(answer) {
-            self.table.shared.fetch_add::<Stays>(seat, BELL, 1);
-            self.table.shared.wake_all(BELL);
+        let shared = &self.table.shared;
+        if counted && shared.peek(PARKED) != 0 && step.gives_work(answer) {
+            shared.store::<Stays>(seat, PARKED, 0);
+            shared.fetch_add::<Stays>(seat, PARKED_BELL, 1);
+            shared.wake_all(PARKED_BELL);
         }
     }
 }

@@ -43,6 +43,7 @@ impl<T: Kept> TurnLock<T> {
         let (counted, answer) = self.run(&mut pass.seat, step);
         let next = if counted { word + 2 } else { word };
         self.release::<Brand, S>(&mut pass.seat, next, &before, &answer);
+        self.wake_next(&mut pass.seat);
         self.wake_parked(&mut pass.seat, counted, step, &answer);
         pass.count = next / 2;
         Turn::Did(answer)
@@ -59,13 +60,13 @@ impl<T: Kept> TurnLock<T> {
         for _ in rt.forever() {
             let word = self.table.shared.load::<Meets>(seat, COUNT);
             if word >= FULL {
-                self.wake_next();
+                self.wake_waiting();
                 return None;
             }
             if self.seize(seat, word) {
                 return Some(word);
             }
-            looks = self.pause(rt, word, looks);
+            looks = self.pause(rt, looks);
         }
         unreachable!()
     }
@@ -101,8 +102,8 @@ impl<T: Kept> TurnLock<T> {
         step.apply(state)
     }
 
-    // Puts the state back and gives the turn away, and wakes one thread that waits for it. The
-    // proof of a call picks the step of the history by the last two arguments.
+    // Puts the state back and gives the turn away. The proof of a call picks the step of the history
+    // by the last two arguments.
     fn release<J: Adding<T::Step>, S: Stepping<T>>(
         &self,
         seat: &mut Place<T>,
@@ -118,6 +119,5 @@ impl<T: Kept> TurnLock<T> {
         ensures word { (word ≡ 2 * length seat.new.me.0.seen) × (word ≤ 2 ^ 63) }
     {
         self.table.shared.store::<Gives<J>>(seat, COUNT, word);
-        self.wake_next();
     }
 }

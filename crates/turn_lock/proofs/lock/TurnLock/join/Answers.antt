@@ -1,7 +1,7 @@
 use Rattle.std.proofs.Common.{◌≡◌, ◌+◌, ◌∙◌, rules, arith, ap, sym, subst, length}
-use Rattle.turn_lock.specs.Views.{IsPlaced, longer, joined, settled}
+use Rattle.turn_lock.specs.Views.{IsPlaced, IsRising, longer, joined, settled}
 use Rattle.turn_lock.proofs.Keeps.{joins, settles}
-use Rattle.turn_lock.proofs.Turns.{length-longer, joined_placed, joins_on}
+use Rattle.turn_lock.proofs.Turns.{length-longer, joined_placed, joined_rising, joins_on}
 use Rattle.turn_lock.proofs.lock.TurnLock.join.Goals as goal
 
 pub join_seat-requires : goal.join_seat-requires
@@ -23,6 +23,7 @@ invariant_of-pass g c = let v = c.args.pass.now in let w = c.args.other in let x
       counted = let a = v.counted in let b = w.counted in let r = c.max-pass.ensures in let e : length x.0.seen ≡ length (longer v.seat.me.0.seen w.seat.me.0.seen) = ap (λ y. length y.seen) is in let m = n.2 in omega arith;
       low = let a = v.low in let b = w.low in let r = c.max-pass.ensures in omega arith;
       placed = subst IsPlaced (sym is) (joined_placed v.seat.me.0 w.seat.me.0 v.placed w.placed);
+      rising = subst IsRising (sym is) (joined_rising v.seat.me.0 w.seat.me.0 v.rising w.rising);
     }
 
 pub returns : goal.returns
@@ -33,4 +34,5 @@ returns g c = let v = c.args.pass.now in let w = c.args.other in let m = c.join_
       older = j.older;
       once = j.once;
       mine = j.mine;
+      by_share = j.by_share;
     }

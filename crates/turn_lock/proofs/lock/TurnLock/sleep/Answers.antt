@@ -1,4 +1,4 @@
-use Rattle.std.proofs.Common.{rules, ℕ, ◌+◌, ◌-◌, ◌%◌, ◌^◌}
+use Rattle.std.proofs.Common.{rules, ℕ, ◌+◌, ◌%◌, ◌^◌}
 use Rattle.turn_lock.proofs.Keeps.{sleeps, enters}
 use Rattle.turn_lock.proofs.lock.TurnLock.sleep.Goals as goal
 
@@ -7,6 +7,3 @@ load_new_seat-requires g c = (search rules, enters g.T.Kept.stands g.T.Kept.is_l
 
 pub fetch_add-requires : goal.fetch_add-requires
 fetch_add-requires g c = (search rules, search rules, sleeps g.T.Kept.stands g.T.Kept.is_legal _ _ _ _ _ c.load_new_seat.result.1.me (λ (n : ℕ). (n + 1) % 2 ^ 64))
-
-pub fetch_sub-requires : goal.fetch_sub-requires
-fetch_sub-requires g c = (search rules, search rules, sleeps g.T.Kept.stands g.T.Kept.is_legal _ _ _ _ _ c.fetch_add.new.seat.me (λ (n : ℕ). (n + (2 ^ 64 - 1)) % 2 ^ 64))
