@@ -6,10 +6,10 @@ use Rattle.std.proofs.Math.Pow.{pow-add}
 use Rattle.tr_io.specs.declared.step.Step.{Step}
 use Rattle.switch_model.specs.Start.{Start}
 use Rattle.switch_model.specs.Names.{Leg}
-use Rattle.switch_model.specs.Counts.{tick, halved, leg_count, count_at, lesser, least_of, pick}
+use Rattle.switch_model.specs.Counts.{tick, halved, cell_count, count_at, lesser, least_of, pick}
 use Rattle.switch_model.specs.State.{LegState, State}
 use Rattle.switch_model.specs.Machine.{leg_in}
-use Rattle.switch_model.specs.NextCellCall.{count_of, count_of_found, waits_on, leg_count_in, waiting_on, picked_leg}
+use Rattle.switch_model.specs.NextCellCall.{count_of, count_of_found, waits_on, cell_count_in, waiting_on, picked_leg}
 use Rattle.switch_model.specs.Stands.{CountAt, CountStands, Stands}
 use Rattle.switch_model.proofs.Waiting.{Waits, all-waiting, waiting-said}
 
@@ -69,18 +69,18 @@ counted-by None chan n now given waits own = cc
 counted-by (Some leg) chan n now given waits own = later-by leg n now given own
 
 agree-on : (start : Start) (s : State) (h : List Step) → Stands start s h → (chan given : ℕ) (legs : List Leg) → AllByRecursion (Waits s chan) legs →
-    AllByRecursion (Agree (count_at start.rules h given) (leg_count_in s given)) legs
+    AllByRecursion (Agree (count_at start.rules h given) (cell_count_in s given)) legs
 agree-on start s h st chan given [] all = tt
 agree-on start s h st chan given (leg ∷ legs) all =
-    (rw st.tick (counted-by (leg_in s leg) chan (leg_count start.rules h leg.circ leg.number) (tick h) given all.0 (st.counts leg)), agree-on start s h st chan given legs all.1)
+    (rw st.tick (counted-by (leg_in s leg) chan (cell_count start.rules h leg.circ leg.number) (tick h) given all.0 (st.counts leg)), agree-on start s h st chan given legs all.1)
 
 pub picked-said : (start : Start) (s : State) (h : List Step) → Stands start s h → (chan given : ℕ) → picked_leg s chan given ≡ pick start.rules h chan given
 picked-said start s h st chan given =
     rw (waiting-said start s h st chan)
-    (sym (least-same (count_at start.rules h given) (leg_count_in s given) (waiting_on s chan) (agree-on start s h st chan given (waiting_on s chan) (all-waiting s chan))))
+    (sym (least-same (count_at start.rules h given) (cell_count_in s given) (waiting_on s chan) (agree-on start s h st chan given (waiting_on s chan) (all-waiting s chan))))
 
 pub picked-waits : (s : State) (chan given : ℕ) (leg : Leg) → picked_leg s chan given ≡ Some leg → Waits s chan leg
-picked-waits s chan given leg found = least-has (Waits s chan) (leg_count_in s given) (waiting_on s chan) (all-waiting s chan) leg found
+picked-waits s chan given leg found = least-has (Waits s chan) (cell_count_in s given) (waiting_on s chan) (all-waiting s chan) leg found
 
 -- where no leg that waits was counted, the first is picked
 abbrev pub Uncounted : (Leg → ℕ) → Leg → Type 0

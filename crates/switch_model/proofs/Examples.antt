@@ -4,39 +4,69 @@ use Rattle.cell_codec.specs.declared.cell.Cell.{Cell}
 use Rattle.kdf_tor.specs.declared.LayerKeys.{LayerKeys}
 use Rattle.circuit_model.specs.Effects.{open_effects}
 use Rattle.circuit_model.specs.Rules.{Rules}
+use Rattle.tor_spec.specs.CellCommands.{relay_command, destroy_command, created_fast_command}
+use Rattle.switch_model.specs.SendAnswers.{cell_at}
 use Rattle.switch_model.specs.Start.{Start}
 use Rattle.switch_model.specs.Legal.{IsLegal}
 use Rattle.switch_model.specs.Counts.{count_at, least_of}
 use Rattle.switch_model.proofs.Common.{self_eq}
-use Rattle.switch_model.specs.Examples.{ended_channel, quiet_switch, one_circuit, bad_id, torn_while_claimed, crossing_destroys, three_circuits, three_legs, leg_0, more_cells}
+use Rattle.cell_codec.specs.Cells.{IsWellFormed}
+use Rattle.std.specs.Prelude.{◌≤◌, length}
+use Rattle.std.proofs.Common.{arith}
+use Rattle.switch_model.specs.Conditions.{IsReply}
+use Rattle.switch_model.specs.Examples.{ended_channel, quiet_switch, one_circuit, bad_id, torn_while_claimed, two_claimed, crossing_destroys, three_circuits, three_legs, leg_0, more_cells, cell_of, id_of}
+
+-- the answer to an opening may be a reply
+is-reply : (keys : LayerKeys) (id : ℕ) (reply : List ℕ) → IsReply (cell_at id (record { command = created_fast_command; body = reply })) (Some keys)
+is-reply keys id reply = record { fixed = refl; command = refl }
+
+-- a cell of a circuit is well formed, if it isn't too long
+fits : (c : ℕ) (body : List ℕ) → length body ≤ 65535 → IsWellFormed (cell_of c relay_command body)
+fits c body short = record { kind = refl; size = short }
+
+fits-destroy : (c : ℕ) (body : List ℕ) → length body ≤ 65535 → IsWellFormed (cell_of c destroy_command body)
+fits-destroy c body short = record { kind = refl; size = short }
 
 pub one_circuit-legal : (start : Start) (keys : LayerKeys) (reply : List ℕ) → IsLegal start (one_circuit keys reply)
 unfolding open_effects
-one_circuit-legal start keys reply = (refl, (refl, (refl, tt)))
+one_circuit-legal start keys reply = ((tt, refl), ((is-reply keys (id_of 0) reply, refl), ((tt, refl), tt)))
 
-pub bad_id-legal : (start : Start) (keys : LayerKeys) (reply : Cell) → IsLegal start (bad_id keys reply)
+pub bad_id-legal : (start : Start) (keys : LayerKeys) (reply : List ℕ) → IsLegal start (bad_id keys reply)
 unfolding open_effects
-bad_id-legal start keys reply = (refl, (refl, (refl, tt)))
+bad_id-legal start keys reply = ((tt, refl), ((is-reply keys 1 reply, refl), ((tt, refl), tt)))
 
-pub crossing_destroys-legal : (start : Start) (keys : LayerKeys) (refused : Cell) (reply reason : List ℕ) → IsLegal start (crossing_destroys keys refused reply reason)
+pub crossing_destroys-legal : (start : Start) (keys : LayerKeys) (refused reply reason : List ℕ) → length reason ≤ 65535 → IsLegal start (crossing_destroys keys refused reply reason)
 unfolding open_effects
-crossing_destroys-legal start keys refused reply reason = (refl, (refl, (refl, (refl, (refl, (refl, (refl, tt)))))))
+crossing_destroys-legal start keys refused reply reason short = (
+  (is-reply keys (id_of 0) reply, refl),
+  ((tt, refl), ((fits-destroy 0 reason short, refl), ((is-reply keys (id_of 0) refused, refl), ((tt, refl), ((is-reply keys (id_of 0) reply, refl), ((tt, refl), tt)))))),
+)
 
 pub three_circuits-legal : (start : Start) (keys : LayerKeys) (reply : List ℕ) → IsLegal start (three_circuits keys reply)
 unfolding open_effects
-three_circuits-legal start keys reply = (refl, (refl, (refl, (refl, one_circuit-legal start keys reply))))
+three_circuits-legal start keys reply =
+    ((tt, refl), ((tt, refl), ((is-reply keys (id_of 2) reply, refl), ((is-reply keys (id_of 1) reply, refl), one_circuit-legal start keys reply))))
 
-pub torn_while_claimed-legal : (start : Start) (keys : LayerKeys) (reply body : List ℕ) → IsLegal start (torn_while_claimed start keys reply body)
+pub torn_while_claimed-legal : (start : Start) (keys : LayerKeys) (reply body : List ℕ) → length body ≤ 65535 → IsLegal start (torn_while_claimed start keys reply body)
 unfolding open_effects
-torn_while_claimed-legal start keys reply body =
-    (refl, (refl, (rw (self_eq start.name) refl, (refl, (refl, (refl, (refl, (refl, tt))))))))
+torn_while_claimed-legal start keys reply body short = (
+  (tt, refl),
+  ((tt, refl), ((tt, rw (self_eq start.name) refl), ((tt, refl), ((omega arith, refl), ((fits 0 body short, refl), ((is-reply keys (id_of 0) reply, refl), ((tt, refl), tt))))))),
+)
 
-pub ended_channel-legal : (start : Start) (keys : LayerKeys) (reply : List ℕ) (late : Cell) → IsLegal start (ended_channel keys reply late)
+pub two_claimed-legal : (start : Start) (keys : LayerKeys) (reply first second : List ℕ) → length first ≤ 65535 → length second ≤ 65535 → IsLegal start (two_claimed start keys reply first second)
 unfolding open_effects
-ended_channel-legal start keys reply late = (refl, (refl, (refl, (refl, (refl, (refl, (refl, tt)))))))
+two_claimed-legal start keys reply first second short shorter =
+    ((omega arith, refl), ((fits 0 second shorter, refl), ((fits 0 first short, refl), ((is-reply keys (id_of 0) reply, refl), ((tt, refl), tt)))))
+
+pub ended_channel-legal : (start : Start) (keys : LayerKeys) (reply : List ℕ) (late : Cell) → IsWellFormed late → IsLegal start (ended_channel keys reply late)
+unfolding open_effects
+ended_channel-legal start keys reply late formed =
+    ((tt, refl), ((tt, refl), ((formed, refl), ((tt, refl), ((tt, refl), ((is-reply keys (id_of 0) reply, refl), ((tt, refl), tt)))))))
 
 pub quiet_switch-legal : (start : Start) → IsLegal start quiet_switch
-quiet_switch-legal start = (refl, (tt, (refl, (refl, (refl, (refl, (refl, (refl, tt))))))))
+quiet_switch-legal start =
+    ((tt, refl), ((tt, tt), ((tt, refl), ((tt, refl), ((tt, refl), ((tt, refl), ((omega arith, refl), ((tt, refl), tt))))))))
 
 -- At tick 17 the counts are 0, 65536 and 65536.
 pub counts_at_17 : (rules : Rules) (keys : LayerKeys) (reply : List ℕ) →

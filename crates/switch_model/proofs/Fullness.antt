@@ -16,7 +16,7 @@ use Rattle.switch_model.specs.Start.{Start}
 use Rattle.switch_model.specs.Names.{circ_no}
 use Rattle.switch_model.specs.Channels.{channel_at, is_live_channel, live_channels}
 use Rattle.switch_model.specs.Legs.{at}
-use Rattle.switch_model.specs.History.{is_live}
+use Rattle.switch_model.specs.History.{is_live_circuit}
 use Rattle.switch_model.specs.Queues.{circuit_log, held}
 use Rattle.tr_io.specs.declared.answers.EdgeAnswer.TheVariants.{Shut}
 use Rattle.tr_io.specs.declared.answers.ShutWhy.{ShutWhy}
@@ -24,7 +24,7 @@ use Rattle.tr_io.specs.declared.names.StreamKey.{StreamKey}
 use Rattle.tr_io.specs.declared.step.EventStep.{EventStep}
 use Rattle.tr_io.specs.declared.step.Octets.{Octets}
 use Rattle.circuit_model.specs.Log.{Log}
-use Rattle.circuit_model.specs.Places.{Joined}
+use Rattle.circuit_model.specs.declared.places.Phase.TheVariants.{Joined}
 use Rattle.circuit_model.specs.Windows.{circuit_packaged, circuit_grant, stream_packaged, stream_grant}
 use Rattle.switch_model.specs.EdgeAnswers.{phase_of, edge_in_answer}
 use Rattle.switch_model.specs.ChannelAnswers.{channel_up_answer}
@@ -44,11 +44,11 @@ pub foreign_claim : (start : Start) (h : List Step) (note : ClaimNote) (place : 
 foreign_claim start h note place other = rw other refl
 
 pub direction_full : (rules : Rules) (h : List Step) (chan : ℕ) (cell : Cell) (c : ℕ) → is_live_channel h chan ≡ true → cell.command ≡ 3 →
-    at h chan cell.circ ≡ Some (record { circ = c; number = 0 }) → is_live rules h c ≡ true → held rules h c Forth ≡ 1500 →
+    at h chan cell.circ ≡ Some (record { circ = c; number = 0 }) → is_live_circuit rules h c ≡ true → held rules h c Forth ≡ 1500 →
     take_answer rules h chan cell ≡ TakeAnswer.Down (circ_no c) 5
 direction_full rules h chan cell c up relay found is_open full = rw (up, relay, found, is_open, full) refl
 
-pub stream_shut : (rules : Rules) (h : List Step) (key : StreamKey) (octets : Octets) → is_live rules h key.circ.0 ≡ true →
+pub stream_shut : (rules : Rules) (h : List Step) (key : StreamKey) (octets : Octets) → is_live_circuit rules h key.circ.0 ≡ true →
     phase_of (circuit_log rules h key.circ.0) key ≡ Joined →
     stream_grant (circuit_log rules h key.circ.0) key.serial ≤ stream_packaged (circuit_log rules h key.circ.0) key.serial →
     edge_in_answer rules h key (EventStep.Data octets) ≡ Shut ShutWhy.Stream (stream_packaged (circuit_log rules h key.circ.0) key.serial)
@@ -57,7 +57,7 @@ stream_shut rules h key octets live joined used =
     let shut : nat_le (stream_grant l key.serial) (stream_packaged l key.serial) ≡ true = grind arith in
     rw (live, joined, shut) refl
 
-pub circuit_shut : (rules : Rules) (h : List Step) (key : StreamKey) (octets : Octets) → is_live rules h key.circ.0 ≡ true →
+pub circuit_shut : (rules : Rules) (h : List Step) (key : StreamKey) (octets : Octets) → is_live_circuit rules h key.circ.0 ≡ true →
     phase_of (circuit_log rules h key.circ.0) key ≡ Joined →
     stream_packaged (circuit_log rules h key.circ.0) key.serial < stream_grant (circuit_log rules h key.circ.0) key.serial →
     circuit_grant rules (circuit_log rules h key.circ.0) ≤ circuit_packaged (circuit_log rules h key.circ.0) →

@@ -1,7 +1,8 @@
 -- What each call adds to the history, in the form in which contracts cite it.
-use Rattle.std.proofs.Common.{◌≡◌, ℕ, ◌+◌, Bool, true, false, if◌then◌else◌, nat_le, List, [], ◌∷◌, ◌++◌, max, Option, Some, None, refl, sym, subst}
+use Rattle.std.proofs.Common.{◌≡◌, ℕ, ◌+◌, Bool, true, false, if◌then◌else◌, nat_le, List, [], ◌∷◌, ◌++◌, max, Option, Some, None, refl, sym, subst, arith}
 use Rattle.cell_codec.specs.declared.cell.Cell.{Cell}
 use Rattle.kdf_tor.specs.declared.LayerKeys.{LayerKeys}
+use Rattle.circuit_model.specs.Rules.{Rules}
 use Rattle.circuit_model.specs.Words.{in_order}
 use Rattle.tr_io.specs.declared.answers.OpenAnswer.{OpenAnswer}
 use Rattle.tr_io.specs.declared.answers.OpenAnswer.TheVariants.{Opened, Refused}
@@ -11,6 +12,7 @@ use Rattle.tr_io.specs.declared.names.Side.{Side}
 use Rattle.tr_io.specs.declared.step.Step.{Step}
 use Rattle.tr_io.specs.declared.step.Step.TheVariants.{ChannelUp, OpenCircuit, NextCell}
 use Rattle.switch_model.specs.Start.{Start}
+use Rattle.switch_model.specs.Conditions.{IsReply}
 use Rattle.switch_model.specs.Limits.{channel_limit}
 use Rattle.switch_model.specs.Names.{Leg}
 use Rattle.switch_model.specs.Lanes.{Destroy}
@@ -20,13 +22,21 @@ use Rattle.switch_model.specs.Machine.{new_state, counted, filled_slots, leg_in}
 use Rattle.switch_model.specs.ChannelUpCall.{channel_up_result, channel_up_state}
 use Rattle.switch_model.specs.OpenCircuitCall.{open_result, open_state_by, open_state}
 use Rattle.switch_model.specs.NextCellCall.{ticked, picked_leg, with_leg, sent_from, next_state_on, lane_of, next_cell_result, next_cell_state}
-use Rattle.switch_model.specs.Past.{past}
-use Rattle.switch_model.specs.CircuitStands.{released_by}
+use Rattle.switch_model.specs.Queues.{circuit_log, sendable}
+use Rattle.switch_model.specs.Relayed.{IsRelayed}
 use Rattle.switch_model.specs.Stands.{Stands}
 use Rattle.switch_model.specs.Adds.{Adds, StandsForSome, StandsFor}
 use Rattle.switch_model.proofs.Up.{channel_up_kept}
 use Rattle.switch_model.proofs.Open.{open_kept}
 use Rattle.switch_model.proofs.Next.{next_cell_kept}
+
+-- a circuit without events relayed nothing
+relayed_nothing : (rules : Rules) → IsRelayed rules [] [] []
+relayed_nothing rules = record {
+  forth_begins = record { rest = []; cells = refl };
+  back_is = refl;
+  windows = record { circuit = omega arith; stream = λ serial. omega arith };
+}
 
 -- a new switch stands for no steps
 pub stands_empty : (start : Start) → Stands start new_state []
@@ -41,11 +51,16 @@ stands_empty start = record {
   dial_orders = refl;
   channel = λ chan. record { channel = refl; lane = refl };
   no_channel = λ chan beyond. refl;
-  circuit = λ c. record { live = refl; begins = λ k. record { rest = released_by start.rules (past start.rules [] c) k; cells = refl }; left = λ serial. refl };
+  circuit = λ c. record { live = refl; relayed = relayed_nothing start.rules; begins = λ k. record { rest = sendable (circuit_log start.rules [] c) 0 k; cells = refl }; left = λ serial. refl };
   fresh = λ c beyond. record { past = refl; waiting = λ serial. refl; left = λ serial. refl; numbers = λ dir. refl };
   used = λ chan id. tt;
   apart = λ chan. tt;
   no_leg = λ c k chan id beyond. refl;
+  lie = λ leg. tt;
+  last = λ leg. tt;
+  whole = λ c k alive holds ends. cc;
+  again = record { are_out = tt; once = tt };
+  never = λ order beyond. refl;
   counts = λ leg. tt;
   no_count = λ c k beyond. refl;
   tick = refl;
@@ -96,12 +111,12 @@ channel_up_adds start old new slot side a e f = rw (e, f) (record {
   stands = λ h st. channel_up_kept start old h slot side st;
 })
 
-pub open_adds : (start : Start) (old new : State) (chan : ChanNo) (id : ℕ) (reply : Cell) (keys : Option LayerKeys) (pad : Option (List ℕ)) (a : OpenAnswer) → new ≡ open_state old chan.0 id reply keys pad → a ≡ open_result old chan.0 id keys →
+pub open_adds : (start : Start) (old new : State) (chan : ChanNo) (id : ℕ) (reply : Cell) (keys : Option LayerKeys) (pad : Option (List ℕ)) (a : OpenAnswer) → IsReply reply keys → new ≡ open_state old chan.0 id reply keys pad → a ≡ open_result old chan.0 id keys →
     Adds start old new (OpenCircuit chan id reply keys pad a)
 unfolding Adds
-open_adds start old new chan id reply keys pad a e f = rw (e, f) (record {
+open_adds start old new chan id reply keys pad a asked e f = rw (e, f) (record {
   steps = open-steps old chan.0 id reply keys pad (slot_at old.channels chan.0) (open_result old chan.0 id keys);
-  stands = λ h st. open_kept start old h chan.0 id reply keys pad st;
+  stands = λ h st. open_kept start old h chan.0 id reply keys pad asked st;
 })
 
 pub next_cell_adds : (start : Start) (old new : State) (chan : ChanNo) (given : ℕ) (a : Option Cell) → new ≡ next_cell_state old chan.0 given → a ≡ next_cell_result old chan.0 given →

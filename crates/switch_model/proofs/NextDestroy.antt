@@ -10,10 +10,10 @@ use Rattle.tr_io.specs.declared.step.Step.{Step}
 use Rattle.tr_io.specs.declared.step.Step.TheVariants.{NextCell}
 use Rattle.switch_model.specs.Start.{Start}
 use Rattle.switch_model.specs.Names.{Leg, is_leg, chan_no}
-use Rattle.switch_model.specs.Legs.{Port, port, at, destroys, holds_id, holds_port}
-use Rattle.switch_model.specs.History.{is_live}
+use Rattle.switch_model.specs.Legs.{Port, port, at, is_destroy_for, holds_id, holds_port}
+use Rattle.switch_model.specs.History.{is_live_circuit}
 use Rattle.switch_model.specs.Lanes.{Destroy, lane}
-use Rattle.switch_model.specs.Counts.{tick, leg_count}
+use Rattle.switch_model.specs.Counts.{tick, cell_count}
 use Rattle.switch_model.specs.Past.{past}
 use Rattle.switch_model.specs.EdgePast.{edge_past}
 use Rattle.switch_model.specs.EdgeAnswers.{Ordered}
@@ -22,9 +22,10 @@ use Rattle.switch_model.specs.State.{ChannelState, CircuitState, State, slot_at}
 use Rattle.switch_model.specs.Machine.{leg_in}
 use Rattle.switch_model.specs.NextCellCall.{ticked, next_state_on}
 use Rattle.switch_model.specs.CircuitStands.{CircuitAt, CircuitStands}
-use Rattle.switch_model.specs.Stands.{channel_past, ChannelAt, ChannelStands, IsUsed, IsApart, Stands}
+use Rattle.switch_model.specs.Stands.{channel_past, ChannelAt, ChannelStands, IsUsed, IsApart, IsSentWhole, Stands}
 use Rattle.switch_model.proofs.Common.{self_eq, not_equal}
 use Rattle.switch_model.proofs.Slots.{slot_at-with, length-with, slot_at-inside}
+use Rattle.switch_model.proofs.Lying.{lies-with}
 use Rattle.switch_model.proofs.Ids.{and-first, and-second, same-number}
 use Rattle.switch_model.proofs.Counting.{count-later, halved-none}
 
@@ -32,7 +33,7 @@ use Rattle.switch_model.proofs.Counting.{count-later, halved-none}
 pub nothing-left : (start : Start) (s : State) (h : List Step) (chan given : ℕ) → Stands start s h → None ≡ next_cell_answer start.rules h chan given →
     Stands start (ticked s given) (NextCell (chan_no chan) given None ∷ h)
 nothing-left start s h chan given st said = record {
-  legal = (said, st.legal);
+  legal = ((tt, said), st.legal);
   steps = omega (arith, st.steps);
   channels = st.channels;
   circuits = st.circuits;
@@ -46,7 +47,12 @@ nothing-left start s h chan given st said = record {
   used = st.used;
   apart = st.apart;
   no_leg = st.no_leg;
-  counts = λ leg. count-later (leg_in s leg) (leg_count start.rules h leg.circ leg.number) (tick h) given (st.counts leg);
+  lie = st.lie;
+  last = st.last;
+  whole = st.whole;
+  again = st.again;
+  never = st.never;
+  counts = λ leg. count-later (leg_in s leg) (cell_count start.rules h leg.circ leg.number) (tick h) given (st.counts leg);
   no_count = λ c k beyond. rw (st.no_count c k beyond) (halved-none (given - tick h));
   tick = ap (λ t. max t given) st.tick;
   slots = st.slots;
@@ -67,13 +73,13 @@ pub all-apart : (rules : Rules) (h : List Step) (chan given : ℕ) (cell : Cell)
     AllByRecursion (IsApart rules (NextCell (chan_no chan) given (Some cell) ∷ h) m) waits
 all-apart rules h chan given cell m [] apart = tt
 all-apart rules h chan given cell m (d ∷ waits) apart =
-    (λ c k. leg-less c k (destroys (chan_no chan) cell m d.id) (is_live rules h c) (at h m d.id) (apart.0 c k), all-apart rules h chan given cell m waits apart.1)
+    (λ c k. leg-less c k (is_destroy_for (chan_no chan) cell m d.id) (is_live_circuit rules h c) (at h m d.id) (apart.0 c k), all-apart rules h chan given cell m waits apart.1)
 
 holds-when : (d k : ℕ) (b : Bool) (x y : Option Leg) → (b ≡ true → x ≡ y) → is_leg d k y ≡ false → is_leg d k (if b then None else x) ≡ is_leg d k x
 holds-when d k true x y same none = rw (same refl) (sym none)
 holds-when d k false x y same none = refl
 
-freed-at : (h : List Step) (chan : ℕ) (cell : Cell) (m i : ℕ) → destroys (chan_no chan) cell m i ≡ true → at h m i ≡ at h chan cell.circ
+freed-at : (h : List Step) (chan : ℕ) (cell : Cell) (m i : ℕ) → is_destroy_for (chan_no chan) cell m i ≡ true → at h m i ≡ at h chan cell.circ
 freed-at h chan cell m i frees =
     let same_chan = same-number chan m (and-first (chan == m) _ frees) in
     let same_id = same-number cell.circ i (and-first (cell.circ == i) _ (and-second (chan == m) _ frees)) in
@@ -84,14 +90,14 @@ holds-by : (h : List Step) (chan given : ℕ) (cell : Cell) (d k : ℕ) (p : Opt
     holds_port (NextCell (chan_no chan) given (Some cell) ∷ h) d k p ≡ holds_port h d k p
 holds-by h chan given cell d k None none = refl
 holds-by h chan given cell d k (Some place) none =
-    holds-when d k (destroys (chan_no chan) cell place.chan place.id) (at h place.chan place.id) (at h chan cell.circ) (freed-at h chan cell place.chan place.id) none
+    holds-when d k (is_destroy_for (chan_no chan) cell place.chan place.id) (at h place.chan place.id) (at h chan cell.circ) (freed-at h chan cell place.chan place.id) none
 
 pub holds-on : (h : List Step) (chan given : ℕ) (cell : Cell) (d k : ℕ) → is_leg d k (at h chan cell.circ) ≡ false →
     holds_id (NextCell (chan_no chan) given (Some cell) ∷ h) d k ≡ holds_id h d k
 holds-on h chan given cell d k none = holds-by h chan given cell d k (port h d k) none
 
 -- a circuit none of whose legs is named by the cell
-pub past-on : (rules : Rules) (h : List Step) (chan given : ℕ) (cell : Cell) (d : ℕ) → ((k : ℕ) → (is_leg d k (at h chan cell.circ) && is_live rules h d) ≡ false) →
+pub past-on : (rules : Rules) (h : List Step) (chan given : ℕ) (cell : Cell) (d : ℕ) → ((k : ℕ) → (is_leg d k (at h chan cell.circ) && is_live_circuit rules h d) ≡ false) →
     past rules (NextCell (chan_no chan) given (Some cell) ∷ h) d ≡ past rules h d
 past-on rules h chan given cell d none = simp none
 
@@ -100,16 +106,23 @@ not-live true e = e
 not-live false e = refl
 
 pub circuit-on : (rules : Rules) (closes : List Ordered) (h : List Step) (chan given : ℕ) (cell : Cell) (d : ℕ) (x : Option CircuitState) →
-    ((k : ℕ) → (is_leg d k (at h chan cell.circ) && is_live rules h d) ≡ false) →
+    ((k : ℕ) → (is_leg d k (at h chan cell.circ) && is_live_circuit rules h d) ≡ false) →
     CircuitAt rules closes x d (past rules h d) (λ k. holds_id h d k) (edge_past rules h d) →
     CircuitAt rules closes x d (past rules (NextCell (chan_no chan) given (Some cell) ∷ h) d) (λ k. holds_id (NextCell (chan_no chan) given (Some cell) ∷ h) d k)
     (edge_past rules (NextCell (chan_no chan) given (Some cell) ∷ h) d)
 circuit-on rules closes h chan given cell d None none own = rw (past-on rules h chan given cell d none) own
 circuit-on rules closes h chan given cell d (Some x) none own =
-    let alive : is_live rules h d ≡ true = own.live in
+    let alive : is_live_circuit rules h d ≡ true = own.live in
     let no_leg : (k : ℕ) → is_leg d k (at h chan cell.circ) ≡ false = λ k. not-live _ (rw alive at (none k)) in
     rw (past-on rules h chan given cell d none)
     (subst (λ f. CircuitStands rules closes x d (past rules h d) f (edge_past rules h d)) (sym (fun_ext (λ k. holds-on h chan given cell d k (no_leg k)))) own)
+
+-- a leg that the cell doesn't name
+pub whole-on : (rules : Rules) (h : List Step) (chan given : ℕ) (cell : Cell) (d k : ℕ) → (is_leg d k (at h chan cell.circ) && is_live_circuit rules h d) ≡ false →
+    IsSentWhole rules h d k → IsSentWhole rules (NextCell (chan_no chan) given (Some cell) ∷ h) d k
+whole-on rules h chan given cell d k none whole alive lost ends =
+    let no_leg : is_leg d k (at h chan cell.circ) ≡ false = not-live _ (rw alive at none) in
+    rw none (whole alive (sym (holds-on h chan given cell d k no_leg) ∙ lost) ends)
 
 -- the lane has one fewer
 pub used-less : (s : State) (t : State) (waits less : List Destroy) (m i : ℕ) (b : Bool) (x : Option Leg) → ((leg : Leg) → leg_in t leg ≡ leg_in s leg) →
@@ -135,9 +148,9 @@ destroy-left start s h chan given channel d waits st found first said =
     let inside = slot_at-inside s.channels chan channel found in
     let waiting : lane rules h chan ≡ d ∷ waits = sym own.lane ∙ first in
     let apart : AllByRecursion (IsApart rules h chan) (d ∷ waits) = subst (λ l. AllByRecursion (IsApart rules h chan) l) waiting (st.apart chan) in
-    let none : (c k : ℕ) → (is_leg c k (at h chan d.id) && is_live rules h c) ≡ false = apart.0 in
+    let none : (c k : ℕ) → (is_leg c k (at h chan d.id) && is_live_circuit rules h c) ≡ false = apart.0 in
     record {
-      legal = (said, st.legal);
+      legal = ((tt, said), st.legal);
       steps = omega (arith, st.steps);
       channels = length-with s.channels chan _ ∙ st.channels;
       circuits = st.circuits;
@@ -163,8 +176,13 @@ destroy-left start s h chan given channel d waits st found first said =
         | inl (is_here, same) ↦ subst (λ n. AllByRecursion (IsApart rules (step ∷ h) n) (lane rules (step ∷ h) n)) (sym same) (rw (self_eq chan, waiting) (all-apart rules h chan given cell chan waits apart.1))
         | inr (is_here, other) ↦ rw (not_equal chan m other) (all-apart rules h chan given cell m (lane rules h m) (st.apart m))
       ];
-      no_leg = λ c k m i beyond. leg-fewer c k (destroys (chan_no chan) cell m i) (at h m i) (st.no_leg c k m i beyond);
-      counts = λ leg. rw (none leg.circ leg.number) (count-later (leg_in s leg) (leg_count rules h leg.circ leg.number) (tick h) given (st.counts leg));
+      no_leg = λ c k m i beyond. leg-fewer c k (is_destroy_for (chan_no chan) cell m i) (at h m i) (st.no_leg c k m i beyond);
+      lie = λ leg. lies-with s.channels chan (record channel { lane = waits }) (leg_in s leg) inside (st.lie leg);
+      last = st.last;
+      whole = λ c k. whole-on rules h chan given cell c k (none c k) (st.whole c k);
+      again = st.again;
+      never = st.never;
+      counts = λ leg. rw (none leg.circ leg.number) (count-later (leg_in s leg) (cell_count rules h leg.circ leg.number) (tick h) given (st.counts leg));
       no_count = λ c k beyond. rw (none c k, st.no_count c k beyond) (halved-none (given - tick h));
       tick = ap (λ n. max n given) st.tick;
       slots = st.slots;

@@ -1,6 +1,7 @@
 -- next_cell that gives the first cell of a leg keeps what a state stands for.
-use Rattle.std.proofs.Common.{◌≡◌, ℕ, ◌==◌, ◌&&◌, Bool, true, false, if◌then◌else◌, List, [], ◌∷◌, ◌++◌, Option, Some, None, refl, sym, ◌∙◌, subst, inl, inr, append_assoc, zero, suc}
+use Rattle.std.proofs.Common.{◌≡◌, ℕ, ◌==◌, ◌&&◌, Bool, true, false, if◌then◌else◌, List, [], ◌∷◌, ◌++◌, Option, Some, None, refl, sym, ap, ◌∙◌, subst, inl, inr, append_assoc}
 use Rattle.std.proofs.lemmas.Bool.Decides.{eqb_tells}
+use Rattle.std.proofs.lemmas.List.{append-nil}
 use Rattle.cell_codec.specs.declared.cell.Cell.{Cell}
 use Rattle.circuit_model.specs.Events.{CircuitCell}
 use Rattle.circuit_model.specs.Rules.{Rules}
@@ -8,7 +9,8 @@ use Rattle.tr_io.specs.declared.step.Step.{Step}
 use Rattle.tr_io.specs.declared.step.Step.TheVariants.{NextCell}
 use Rattle.switch_model.specs.Names.{Leg, is_leg, chan_no}
 use Rattle.switch_model.specs.Legs.{at, holds_id}
-use Rattle.switch_model.specs.History.{is_live, sent}
+use Rattle.switch_model.specs.History.{is_live_circuit, sent}
+use Rattle.switch_model.specs.Queues.{circuit_log, sealed_count, sendable}
 use Rattle.switch_model.specs.Counts.{charged}
 use Rattle.switch_model.specs.Past.{past}
 use Rattle.switch_model.specs.EdgePast.{edge_past}
@@ -16,7 +18,7 @@ use Rattle.switch_model.specs.EdgeAnswers.{Ordered}
 use Rattle.switch_model.specs.SendAnswers.{cell_at}
 use Rattle.switch_model.specs.State.{LegState, CircuitState, slot_at, with_slot}
 use Rattle.switch_model.specs.NextCellCall.{count_of, sent_first}
-use Rattle.switch_model.specs.CircuitStands.{released_by, LegAt, LegStands, CircuitStands}
+use Rattle.switch_model.specs.CircuitStands.{LegAt, LegStands, CircuitStands}
 use Rattle.switch_model.proofs.Common.{self_eq, not_equal}
 use Rattle.switch_model.proofs.Slots.{slot_at-with, length-with, slot_at-inside}
 use Rattle.switch_model.proofs.Ids.{and-first, and-second, same-number}
@@ -31,22 +33,22 @@ leg-named c k d j (Some leg) named =
     rw (same_circ, same_leg) refl
 
 -- what may leave stays the same
-released-next : (rules : Rules) (h : List Step) (chan given : ℕ) (cell : Cell) (c k : ℕ) →
-    released_by rules (past rules (NextCell (chan_no chan) given (Some cell) ∷ h) c) k ≡ released_by rules (past rules h c) k
-released-next rules h chan given cell c zero = refl
-released-next rules h chan given cell c (suc k) = refl
+sendable-next : (rules : Rules) (h : List Step) (chan given : ℕ) (cell : Cell) (c k : ℕ) →
+    sendable (circuit_log rules (NextCell (chan_no chan) given (Some cell) ∷ h) c) (sealed_count (NextCell (chan_no chan) given (Some cell) ∷ h) c) k
+    ≡ sendable (circuit_log rules h c) (sealed_count h c) k
+sendable-next rules h chan given cell c k = refl
 
 -- the leg after its first cell left
 
 sent-one : (rules : Rules) (h : List Step) (given : ℕ) (c k : ℕ) (leg : LegState) (cell : CircuitCell) (cells : List CircuitCell) →
-    is_live rules h c ≡ true → leg.queue ≡ cell ∷ cells → is_leg c k (at h leg.chan leg.id) ≡ true → LegStands rules leg k (past rules h c) (holds_id h c k) →
-    sent rules (NextCell (chan_no leg.chan) given (Some (cell_at leg.id cell)) ∷ h) c k ++ cells ≡ released_by rules (past rules (NextCell (chan_no leg.chan) given (Some (cell_at leg.id cell)) ∷ h) c) k
+    is_live_circuit rules h c ≡ true → leg.queue ≡ cell ∷ cells → is_leg c k (at h leg.chan leg.id) ≡ true → LegStands rules leg k (past rules h c) (holds_id h c k) →
+    sent rules (NextCell (chan_no leg.chan) given (Some (cell_at leg.id cell)) ∷ h) c k ++ cells ≡ sendable (circuit_log rules (NextCell (chan_no leg.chan) given (Some (cell_at leg.id cell)) ∷ h) c) (sealed_count (NextCell (chan_no leg.chan) given (Some (cell_at leg.id cell)) ∷ h) c) k
 sent-one rules h given c k leg cell cells alive queued named own =
-    rw (named, alive, released-next rules h leg.chan given (cell_at leg.id cell) c k)
+    rw (named, alive, sendable-next rules h leg.chan given (cell_at leg.id cell) c k)
     (append_assoc (sent rules h c k) (cell ∷ []) cells ∙ rw queued at own.cells)
 
 leg-kept : (rules : Rules) (h : List Step) (given : ℕ) (c k now : ℕ) (leg : LegState) (cell : CircuitCell) (cells : List CircuitCell) (b : Bool) → (cell.command == 4) ≡ b →
-    is_live rules h c ≡ true → leg.queue ≡ cell ∷ cells → is_leg c k (at h leg.chan leg.id) ≡ true → LegStands rules leg k (past rules h c) (holds_id h c k) →
+    is_live_circuit rules h c ≡ true → leg.queue ≡ cell ∷ cells → is_leg c k (at h leg.chan leg.id) ≡ true → LegStands rules leg k (past rules h c) (holds_id h c k) →
     LegAt rules (if b then None else Some (record leg { queue = cells; count = charged (count_of now leg); counted_at = now })) k
     (past rules (NextCell (chan_no leg.chan) given (Some (cell_at leg.id cell)) ∷ h) c) (holds_id (NextCell (chan_no leg.chan) given (Some (cell_at leg.id cell)) ∷ h) c k)
 leg-kept rules h given c k now leg cell cells true is_destroy alive queued named own = record {
@@ -65,12 +67,12 @@ leg-other : (rules : Rules) (h : List Step) (chan given : ℕ) (cell : Cell) (c 
     LegAt rules y j (past rules (NextCell (chan_no chan) given (Some cell) ∷ h) c) (holds_id (NextCell (chan_no chan) given (Some cell) ∷ h) c j)
 leg-other rules h chan given cell c j None none own = record {
   holds = holds-on h chan given cell c j none ∙ own.holds;
-  begins = record { rest = own.begins.rest; cells = rw (none, released-next rules h chan given cell c j) own.begins.cells };
+  begins = record { rest = own.begins.rest; cells = rw (none, sendable-next rules h chan given cell c j) own.begins.cells };
 }
 leg-other rules h chan given cell c j (Some leg) none own = record {
   holds = holds-on h chan given cell c j none ∙ own.holds;
   port = own.port;
-  cells = rw (none, released-next rules h chan given cell c j) own.cells;
+  cells = rw (none, sendable-next rules h chan given cell c j) own.cells;
 }
 
 -- the circuit after a leg's first cell left
@@ -99,5 +101,18 @@ circuit-sent rules closes h given now c k x leg cell cells found queued named ow
       back = own.back;
       orders = own.orders;
       no_left = own.no_left;
+      relayed = own.relayed;
       dial = own.dial;
     }
+
+-- a leg whose DESTROY left was sent all
+pub whole-kept : (rules : Rules) (h : List Step) (given : ℕ) (c k : ℕ) (leg : LegState) (cell : CircuitCell) (cells : List CircuitCell) (b : Bool) → (cell.command == 4) ≡ b →
+    is_live_circuit rules h c ≡ true → leg.queue ≡ cell ∷ cells → is_leg c k (at h leg.chan leg.id) ≡ true → LegStands rules leg k (past rules h c) (holds_id h c k) → (b ≡ true → cells ≡ []) →
+    holds_id (NextCell (chan_no leg.chan) given (Some (cell_at leg.id cell)) ∷ h) c k ≡ false →
+    sent rules (NextCell (chan_no leg.chan) given (Some (cell_at leg.id cell)) ∷ h) c k ≡ sendable (circuit_log rules (NextCell (chan_no leg.chan) given (Some (cell_at leg.id cell)) ∷ h) c) (sealed_count (NextCell (chan_no leg.chan) given (Some (cell_at leg.id cell)) ∷ h) c) k
+whole-kept rules h given c k leg cell cells true is_destroy alive queued named own none lost =
+    sym (append-nil _) ∙ ap (λ l. sent rules (NextCell (chan_no leg.chan) given (Some (cell_at leg.id cell)) ∷ h) c k ++ l) (sym (none refl)) ∙ sent-one rules h given c k leg cell cells alive queued named own
+whole-kept rules h given c k leg cell cells false is_destroy alive queued named own none lost =
+    let holds : holds_id (NextCell (chan_no leg.chan) given (Some (cell_at leg.id cell)) ∷ h) c k ≡ true = rw (own.port, self_eq leg.chan, self_eq leg.id, is_destroy) named in
+    let both : true ≡ false = sym holds ∙ lost in
+    cc

@@ -6,24 +6,26 @@ use Rattle.tr_io.specs.declared.step.Step.{Step}
 use Rattle.tr_io.specs.declared.step.Step.TheVariants.{NextCell}
 use Rattle.switch_model.specs.Start.{Start}
 use Rattle.switch_model.specs.Names.{Leg, is_leg, chan_no}
-use Rattle.switch_model.specs.Legs.{at, destroys, holds_id}
-use Rattle.switch_model.specs.History.{is_live}
+use Rattle.switch_model.specs.Legs.{at, is_destroy_for, holds_id}
+use Rattle.switch_model.specs.History.{is_live_circuit, sent}
+use Rattle.switch_model.specs.Queues.{circuit_log, sealed_count, sendable}
 use Rattle.switch_model.specs.Lanes.{Destroy, lane}
-use Rattle.switch_model.specs.Counts.{tick, leg_count, halved, charged}
+use Rattle.switch_model.specs.Counts.{tick, cell_count, halved, charged}
 use Rattle.switch_model.specs.Past.{past}
 use Rattle.switch_model.specs.EdgePast.{edge_past}
 use Rattle.switch_model.specs.SendAnswers.{cell_at, next_cell_answer}
-use Rattle.switch_model.specs.State.{LegState, CircuitState, State, slot_at, with_slot}
+use Rattle.switch_model.specs.State.{ChannelState, LegState, CircuitState, State, slot_at, with_slot}
 use Rattle.switch_model.specs.Machine.{has_port, leg_at, leg_in}
 use Rattle.switch_model.specs.NextCellCall.{count_of, ticked, sent_first}
-use Rattle.switch_model.specs.CircuitStands.{CircuitAt, CircuitStands}
-use Rattle.switch_model.specs.Stands.{CountAt, CountStands, IsUsed, Stands}
-use Rattle.switch_model.proofs.Common.{not_equal}
+use Rattle.switch_model.specs.CircuitStands.{LegAt, LegStands, CircuitAt, CircuitStands}
+use Rattle.switch_model.specs.Stands.{CountAt, CountStands, IsUsed, LiesOn, IsDestroyLast, EndsWithDestroy, IsSentWhole, Stands}
+use Rattle.switch_model.proofs.Common.{self_eq, not_equal}
+use Rattle.switch_model.proofs.Lying.{lies-first, last-first}
 use Rattle.switch_model.proofs.Slots.{slot_at-with, length-with, slot_at-inside}
 use Rattle.switch_model.proofs.Ids.{and-first, and-second, same-number, leg-has_id}
 use Rattle.switch_model.proofs.Counting.{count-later, later-by, halved-none, halved-never}
-use Rattle.switch_model.proofs.NextDestroy.{leg-fewer, all-apart, circuit-on, past-on}
-use Rattle.switch_model.proofs.NextLeg.{leg-named, circuit-sent}
+use Rattle.switch_model.proofs.NextDestroy.{leg-fewer, all-apart, circuit-on, past-on, whole-on}
+use Rattle.switch_model.proofs.NextLeg.{leg-named, circuit-sent, whole-kept}
 
 -- the state after the leg's first cell left
 abbrev pub sent_state : State → ℕ → ℕ → ℕ → CircuitState → LegState → List CircuitCell → State
@@ -72,6 +74,17 @@ used-sent s t waits m i false None keeps used = tt
 used-sent s t waits m i false (Some other) keeps (inl has) = inl (keeps other refl has)
 used-sent s t waits m i false (Some other) keeps (inr waiting) = inr waiting
 
+-- the leg lies where it lay, and what waits ends as before
+pub lies-sent : (slots : List (Option ChannelState)) (b : Bool) (now : ℕ) (leg : LegState) (z : Option LegState) (cell : CircuitCell) (cells : List CircuitCell) → LiesOn slots (Some leg) → LiesOn slots z →
+    LiesOn slots (if b then sent_first now leg (cell ∷ cells) else z)
+lies-sent slots true now leg z cell cells own other = lies-first slots now leg cell cells (cell.command == 4) refl own
+lies-sent slots false now leg z cell cells own other = other
+
+last-sent : (b : Bool) (now : ℕ) (leg : LegState) (z : Option LegState) (cell : CircuitCell) (cells : List CircuitCell) → EndsWithDestroy z → IsDestroyLast (cell ∷ cells) →
+    EndsWithDestroy (if b then sent_first now leg (cell ∷ cells) else z)
+last-sent true now leg z cell cells other own = last-first now leg cell cells (cell.command == 4) refl own.1
+last-sent false now leg z cell cells other own = other
+
 -- the lane of the leg's channel was empty
 drop-none : (b : Bool) (waits : List Destroy) → (b ≡ true → waits ≡ []) → (if b then drop 1 waits else waits) ≡ waits
 drop-none true waits none = rw (none refl) refl
@@ -108,12 +121,20 @@ leg-left start s h given c k x leg cell cells st found_circuit found_leg queued 
     let found : leg_at (slot_at s.circuits c) k ≡ Some leg = rw found_circuit found_leg in
     let named : is_leg c k (at h leg.chan leg.id) ≡ true = leg-has_id start s h st c k leg found in
     let others : (d j : ℕ) → is_leg d j (at h leg.chan leg.id) ≡ ((c == d) && (k == j)) = λ d j. leg-named c k d j (at h leg.chan leg.id) named in
-    let none : (d : ℕ) → (c == d) ≡ false → (j : ℕ) → (is_leg d j (at h leg.chan leg.id) && is_live rules h d) ≡ false = λ d unlike j. rw (others d j, unlike) refl in
+    let none : (d : ℕ) → (c == d) ≡ false → (j : ℕ) → (is_leg d j (at h leg.chan leg.id) && is_live_circuit rules h d) ≡ false = λ d unlike j. rw (others d j, unlike) refl in
     let same_lane : (n : ℕ) → lane rules (step ∷ h) n ≡ lane rules h n = λ n. drop-none (leg.chan == n) (lane rules h n) (λ here. subst (λ a. lane rules h a ≡ []) (same-number leg.chan n here) no_destroy) in
     let is_it : Leg → Bool = λ other. (other.circ == c) && (other.number == k) in
     let leg_of : (other : Leg) → leg_in t other ≡ (if is_it other then y else leg_in s other) = leg_in-sent s c k x y leg found_circuit found_leg in
+    let behind : IsDestroyLast (cell ∷ cells) = subst IsDestroyLast queued (subst EndsWithDestroy found (st.last (record { circ = c; number = k }))) in
+    let leg_own : LegStands rules leg k (past rules h c) (holds_id h c k) = subst (λ z. LegAt rules z k (past rules h c) (holds_id h c k)) found_leg (own.legs k) in
+    let whole-here : (j : ℕ) → IsSentWhole rules (step ∷ h) c j = λ j. elim (eqb_tells j k) [
+      | inl (is, same) ↦ λ alive lost ends. subst (λ i. sent rules (step ∷ h) c i ≡ sendable (circuit_log rules (step ∷ h) c) (sealed_count (step ∷ h) c) i) (sym same)
+          (whole-kept rules h given c k leg cell cells (cell.command == 4) refl own.live queued named leg_own behind.0 (subst (λ i. holds_id (step ∷ h) c i ≡ false) same lost))
+      | inr (is, other) ↦ whole-on rules h leg.chan given (cell_at leg.id cell) c j (rw (others c j, self_eq c, not_equal k j other) refl) (st.whole c j)
+    ] in
+    let whole-of : (d j : ℕ) → d ≡ c → IsSentWhole rules (step ∷ h) d j = λ d j same. subst (λ e. IsSentWhole rules (step ∷ h) e j) (sym same) (whole-here j) in
     record {
-      legal = (said, st.legal);
+      legal = ((tt, said), st.legal);
       steps = omega (arith, st.steps);
       channels = st.channels;
       circuits = length-with s.circuits c _ ∙ st.circuits;
@@ -132,19 +153,27 @@ leg-left start s h given c k x leg cell cells st found_circuit found_leg queued 
       fresh = λ d beyond.
           let past_end : length s.circuits ≤ d = omega (arith, length-with s.circuits c (Some (record x { legs = with_slot x.legs k y }))) in
           rw (past-on rules h leg.chan given (cell_at leg.id cell) d (none d (not_equal c d (λ same. absurd (omega arith))))) (st.fresh d past_end);
-      used = λ m i. rw (same_lane m) (used-sent s t (lane rules h m) m i (destroys (chan_no leg.chan) (cell_at leg.id cell) m i) (at h m i)
+      used = λ m i. rw (same_lane m) (used-sent s t (lane rules h m) m i (is_destroy_for (chan_no leg.chan) (cell_at leg.id cell) m i) (at h m i)
           (λ other unlike has. rw (leg_of other) (port-by m i (is_it other) y (leg_in s other)
           (λ it. port-when m i leg now cell cells (cell.command == 4) refl unlike (rw (leg-is s c k leg found other it) at has)) has)) (st.used m i));
       apart = λ m. rw (same_lane m) (all-apart rules h leg.chan given (cell_at leg.id cell) m (lane rules h m) (st.apart m));
       no_leg = λ d j m i beyond.
-          leg-fewer d j (destroys (chan_no leg.chan) (cell_at leg.id cell) m i) (at h m i)
+          leg-fewer d j (is_destroy_for (chan_no leg.chan) (cell_at leg.id cell) m i) (at h m i)
           (st.no_leg d j m i (omega (arith, length-with s.circuits c (Some (record x { legs = with_slot x.legs k y })))));
+      lie = λ other. rw (leg_of other) (lies-sent s.channels (is_it other) now leg (leg_in s other) cell cells (subst (λ z. LiesOn s.channels z) found (st.lie (record { circ = c; number = k }))) (st.lie other));
+      last = λ other. rw (leg_of other) (last-sent (is_it other) now leg (leg_in s other) cell cells (st.last other) behind);
+      whole = λ d j. elim (eqb_tells d c) [
+        | inl (is, same) ↦ whole-of d j same
+        | inr (is, other) ↦ whole-on rules h leg.chan given (cell_at leg.id cell) d j (none d (not_equal c d other) j) (st.whole d j)
+      ];
+      again = st.again;
+      never = st.never;
       counts = λ other. rw (leg_of other, others other.circ other.number, turned c other.circ, turned k other.number)
-          (count-by (is_it other) (is_live rules h other.circ) y (leg_in s other) _ _ (max (tick h) given)
+          (count-by (is_it other) (is_live_circuit rules h other.circ) y (leg_in s other) _ _ (max (tick h) given)
           (λ it. rw (same-number other.circ c (and-first (other.circ == c) _ it)) own.live)
-          (λ it. count-first leg (leg_count rules h other.circ other.number) (tick h) s.tick given cell cells (cell.command == 4) st.tick
-          (subst (λ z. CountAt z (leg_count rules h other.circ other.number) (tick h)) (leg-is s c k leg found other it) (st.counts other)))
-          (count-later (leg_in s other) (leg_count rules h other.circ other.number) (tick h) given (st.counts other)));
+          (λ it. count-first leg (cell_count rules h other.circ other.number) (tick h) s.tick given cell cells (cell.command == 4) st.tick
+          (subst (λ z. CountAt z (cell_count rules h other.circ other.number) (tick h)) (leg-is s c k leg found other it) (st.counts other)))
+          (count-later (leg_in s other) (cell_count rules h other.circ other.number) (tick h) given (st.counts other)));
       no_count = λ d j beyond.
           let past_end : length s.circuits ≤ d = omega (arith, length-with s.circuits c (Some (record x { legs = with_slot x.legs k y }))) in
           rw (none d (not_equal c d (λ same. absurd (omega arith))) j, st.no_count d j past_end) (halved-none (given - tick h));

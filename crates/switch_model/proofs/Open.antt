@@ -12,10 +12,11 @@ use Rattle.tr_io.specs.declared.step.Step.{Step}
 use Rattle.tr_io.specs.declared.step.Step.TheVariants.{OpenCircuit}
 use Rattle.switch_model.specs.Limits.{circuit_limit}
 use Rattle.switch_model.specs.Start.{Start}
+use Rattle.switch_model.specs.Conditions.{IsReply}
 use Rattle.switch_model.specs.Names.{Leg, chan_no, circ_no}
 use Rattle.switch_model.specs.Channels.{is_ours, count_below}
 use Rattle.switch_model.specs.Legs.{at, holds_id}
-use Rattle.switch_model.specs.History.{is_live}
+use Rattle.switch_model.specs.History.{is_live_circuit}
 use Rattle.switch_model.specs.Lanes.{lane, refusal_reason}
 use Rattle.switch_model.specs.CircuitAnswers.{live_circuits, is_in_use, open_answer}
 use Rattle.switch_model.specs.Past.{Past, past}
@@ -39,9 +40,9 @@ circuit-live rules closes (Some x) c p has_id e at = sym at.live
 
 pub filled-circuits : (start : Start) (s : State) (h : List Step) → Stands start s h → filled_slots s.circuits ≡ live_circuits start.rules h
 filled-circuits start s h st =
-    count_below-same (λ c. is_some (slot_at s.circuits c)) (is_live start.rules h)
+    count_below-same (λ c. is_some (slot_at s.circuits c)) (is_live_circuit start.rules h)
     (λ c. circuit-live start.rules s.last_closes (slot_at s.circuits c) c (past start.rules h c) (λ k. holds_id h c k) (edge_past start.rules h c) (st.circuit c)) (length s.circuits)
-    ∙ ap (count_below (is_live start.rules h)) st.circuits
+    ∙ ap (count_below (is_live_circuit start.rules h)) st.circuits
 
 -- the answer
 open-said_by : (start : Start) (s : State) (h : List Step) (chan id : ℕ) (keys : Option LayerKeys) (x : Option ChannelState) → Stands start s h → ChannelAt x (channel_past start.rules h chan) →
@@ -58,14 +59,14 @@ if-both : {A : Type 0} (b : Bool) (x : A) → (if b then x else x) ≡ x
 if-both true x = refl
 if-both false x = refl
 
-unknown-channel : (start : Start) (s : State) (h : List Step) (chan id : ℕ) (reply : Cell) (keys : Option LayerKeys) (pad : Option (List ℕ)) → Stands start s h →
+unknown-channel : (start : Start) (s : State) (h : List Step) (chan id : ℕ) (reply : Cell) (keys : Option LayerKeys) (pad : Option (List ℕ)) → Stands start s h → IsReply reply keys →
     Refused OpenRefusal.NoChannel ≡ open_answer start.rules h chan id keys →
     Stands start (counted s) (OpenCircuit (chan_no chan) id reply keys pad (Refused OpenRefusal.NoChannel) ∷ h)
-unknown-channel start s h chan id reply keys pad st said =
+unknown-channel start s h chan id reply keys pad st asked said =
     let rules = start.rules in
     let same : (n : ℕ) → (if chan == n then lane rules h n else lane rules h n) ≡ lane rules h n = λ n. if-both (chan == n) (lane rules h n) in
     record {
-      legal = (said, st.legal);
+      legal = ((asked, said), st.legal);
       steps = omega (arith, st.steps);
       channels = st.channels;
       circuits = st.circuits;
@@ -79,6 +80,11 @@ unknown-channel start s h chan id reply keys pad st said =
       used = λ n i. rw (same n) (st.used n i);
       apart = λ n. rw (same n) (st.apart n);
       no_leg = st.no_leg;
+      lie = st.lie;
+      last = st.last;
+      whole = st.whole;
+      again = st.again;
+      never = st.never;
       counts = st.counts;
       no_count = st.no_count;
       tick = st.tick;
@@ -109,34 +115,34 @@ judged zero taken peers keys full n =
     else Opened (circ_no n)
 
 open-by : (start : Start) (s : State) (h : List Step) (chan id : ℕ) (reply : Cell) (pad : Option (List ℕ)) (channel : ChannelState) (zero taken peers : Bool) (keys : Option LayerKeys) (full : Bool) →
-    Stands start s h → slot_at s.channels chan ≡ Some channel → (id == 0) ≡ zero → is_in_use start.rules h chan id ≡ taken →
+    Stands start s h → IsReply reply keys → slot_at s.channels chan ≡ Some channel → (id == 0) ≡ zero → is_in_use start.rules h chan id ≡ taken →
     judged zero taken peers keys full (length s.circuits) ≡ open_answer start.rules h chan id keys →
     Stands start (open_state_by s chan id reply keys pad (Some channel) (judged zero taken peers keys full (length s.circuits)))
     (OpenCircuit (chan_no chan) id reply keys pad (judged zero taken peers keys full (length s.circuits)) ∷ h)
 unfolding judged
-open-by start s h chan id reply pad channel true taken peers keys full st found is_zero is_taken said =
-    refused-kept start s h chan id reply keys pad OpenRefusal.BadId channel st found said (λ r owed. absurd (not-none _ r (none-owed channel.side id is_zero) owed))
-open-by start s h chan id reply pad channel false true peers keys full st found is_zero is_taken said =
-    refused-kept start s h chan id reply keys pad OpenRefusal.InUse channel st found said (λ r owed. absurd (not-none _ r refl owed))
-open-by start s h chan id reply pad channel false false false keys full st found is_zero is_taken said =
-    refused-kept start s h chan id reply keys pad OpenRefusal.BadId channel st found said (λ r owed. unused (at h chan id) (or-first _ _ is_taken))
-open-by start s h chan id reply pad channel false false true None full st found is_zero is_taken said =
-    refused-kept start s h chan id reply None pad OpenRefusal.BadHandshake channel st found said (λ r owed. unused (at h chan id) (or-first _ _ is_taken))
-open-by start s h chan id reply pad channel false false true (Some keys) true st found is_zero is_taken said =
-    refused-kept start s h chan id reply (Some keys) pad (OpenRefusal.Full circuit_limit) channel st found said (λ r owed. unused (at h chan id) (or-first _ _ is_taken))
-open-by start s h chan id reply pad channel false false true (Some keys) false st found is_zero is_taken said =
-    opened-kept start s h chan id reply keys pad st said (unused (at h chan id) (or-first _ _ is_taken)) (or-second _ _ is_taken)
+open-by start s h chan id reply pad channel true taken peers keys full st asked found is_zero is_taken said =
+    refused-kept start s h chan id reply keys pad OpenRefusal.BadId channel st found (asked, said) (λ r owed. absurd (not-none _ r (none-owed channel.side id is_zero) owed))
+open-by start s h chan id reply pad channel false true peers keys full st asked found is_zero is_taken said =
+    refused-kept start s h chan id reply keys pad OpenRefusal.InUse channel st found (asked, said) (λ r owed. absurd (not-none _ r refl owed))
+open-by start s h chan id reply pad channel false false false keys full st asked found is_zero is_taken said =
+    refused-kept start s h chan id reply keys pad OpenRefusal.BadId channel st found (asked, said) (λ r owed. unused (at h chan id) (or-first _ _ is_taken))
+open-by start s h chan id reply pad channel false false true None full st asked found is_zero is_taken said =
+    refused-kept start s h chan id reply None pad OpenRefusal.BadHandshake channel st found (asked, said) (λ r owed. unused (at h chan id) (or-first _ _ is_taken))
+open-by start s h chan id reply pad channel false false true (Some keys) true st asked found is_zero is_taken said =
+    refused-kept start s h chan id reply (Some keys) pad (OpenRefusal.Full circuit_limit) channel st found (asked, said) (λ r owed. unused (at h chan id) (or-first _ _ is_taken))
+open-by start s h chan id reply pad channel false false true (Some keys) false st asked found is_zero is_taken said =
+    opened-kept start s h chan id reply keys pad st (asked, said) (rw found refl) (unused (at h chan id) (or-first _ _ is_taken)) (or-second _ _ is_taken)
 
-open-on : (start : Start) (s : State) (h : List Step) (chan id : ℕ) (reply : Cell) (keys : Option LayerKeys) (pad : Option (List ℕ)) (x : Option ChannelState) → Stands start s h → slot_at s.channels chan ≡ x →
+open-on : (start : Start) (s : State) (h : List Step) (chan id : ℕ) (reply : Cell) (keys : Option LayerKeys) (pad : Option (List ℕ)) (x : Option ChannelState) → Stands start s h → IsReply reply keys → slot_at s.channels chan ≡ x →
     open_result_on s chan id keys x ≡ open_answer start.rules h chan id keys →
     Stands start (open_state_by s chan id reply keys pad x (open_result_on s chan id keys x)) (OpenCircuit (chan_no chan) id reply keys pad (open_result_on s chan id keys x) ∷ h)
 unfolding judged
-open-on start s h chan id reply keys pad None st found said = unknown-channel start s h chan id reply keys pad st said
-open-on start s h chan id reply keys pad (Some channel) st found said =
+open-on start s h chan id reply keys pad None st asked found said = unknown-channel start s h chan id reply keys pad st asked said
+open-on start s h chan id reply keys pad (Some channel) st asked found said =
     let own : ChannelStands channel (channel_past start.rules h chan) = subst (λ x. ChannelAt x (channel_past start.rules h chan)) found (st.channel chan) in
-    open-by start s h chan id reply pad channel (id == 0) (is_id_taken s chan channel id) (has_peers_bit channel.side id) keys (nat_le circuit_limit (filled_slots s.circuits)) st found refl
+    open-by start s h chan id reply pad channel (id == 0) (is_id_taken s chan channel id) (has_peers_bit channel.side id) keys (nat_le circuit_limit (filled_slots s.circuits)) st asked found refl
     (sym (taken-said start s h st chan id channel own.lane)) said
 
-pub open_kept : (start : Start) (s : State) (h : List Step) (chan id : ℕ) (reply : Cell) (keys : Option LayerKeys) (pad : Option (List ℕ)) → Stands start s h →
+pub open_kept : (start : Start) (s : State) (h : List Step) (chan id : ℕ) (reply : Cell) (keys : Option LayerKeys) (pad : Option (List ℕ)) → IsReply reply keys → Stands start s h →
     Stands start (open_state s chan id reply keys pad) (OpenCircuit (chan_no chan) id reply keys pad (open_result s chan id keys) ∷ h)
-open_kept start s h chan id reply keys pad st = open-on start s h chan id reply keys pad (slot_at s.channels chan) st refl (open-said start s h chan id keys st)
+open_kept start s h chan id reply keys pad asked st = open-on start s h chan id reply keys pad (slot_at s.channels chan) st asked refl (open-said start s h chan id keys st)

@@ -1,5 +1,5 @@
 -- open_circuit that opens a circuit keeps what a state stands for.
-use Rattle.std.proofs.Common.{◌≡◌, ℕ, ◌+◌, ◌-◌, ◌^◌, ◌≤◌, ◌==◌, ◌&&◌, Bool, true, false, if◌then◌else◌, List, [], ◌∷◌, ◌++◌, length, Option, Some, None, refl, sym, ◌∙◌, subst, arith, inl, inr, zero, suc}
+use Rattle.std.proofs.Common.{◌≡◌, ℕ, ◌+◌, ◌-◌, ◌^◌, ◌≤◌, ◌==◌, ◌&&◌, Bool, true, false, if◌then◌else◌, is_some, List, [], ◌∷◌, ◌++◌, length, Option, Some, None, refl, sym, ◌∙◌, subst, arith, inl, inr, zero, suc}
 use Rattle.std.specs.List.{AllByRecursion, list_any}
 use Rattle.std.proofs.Math.Nat.{zero-div}
 use Rattle.std.proofs.Math.Path.{fun_ext}
@@ -12,19 +12,19 @@ use Rattle.switch_model.specs.Start.{Start}
 use Rattle.switch_model.specs.Names.{Leg, is_leg}
 use Rattle.switch_model.specs.Legs.{at, holds_id}
 use Rattle.switch_model.specs.Lanes.{Destroy, lane}
-use Rattle.switch_model.specs.Counts.{leg_count, tick}
-use Rattle.switch_model.specs.Legal.{IsAnswered}
+use Rattle.switch_model.specs.Counts.{cell_count, tick}
+use Rattle.switch_model.specs.Legal.{IsRightStep}
 use Rattle.switch_model.specs.Past.{past}
 use Rattle.switch_model.specs.EdgePast.{edge_past}
-use Rattle.switch_model.specs.State.{CircuitState, State, slot_at}
+use Rattle.switch_model.specs.State.{ChannelState, CircuitState, State, slot_at}
 use Rattle.switch_model.specs.Machine.{leg_at, leg_in, has_port}
 use Rattle.switch_model.specs.OpenCircuitCall.{new_circuit, with_circuit}
 use Rattle.switch_model.specs.CircuitStands.{CircuitAt, left_at}
-use Rattle.switch_model.specs.Stands.{CountAt, IsUsed, IsApart, Stands}
+use Rattle.switch_model.specs.Stands.{CountAt, IsUsed, IsApart, LiesOn, EndsWithDestroy, IsSentWhole, Stands}
 use Rattle.switch_model.proofs.Common.{self_eq, not_equal, or-first, or-second}
 use Rattle.switch_model.proofs.Slots.{slot_at-push, slot_at-past}
 use Rattle.switch_model.proofs.Ids.{same-number}
-use Rattle.switch_model.proofs.OpenPast.{opening, past-other, edge-other, holds-other, circuit-opened}
+use Rattle.switch_model.proofs.OpenPast.{opening, past-other, edge-other, holds-other, circuit-opened, whole-new, whole-other, out-opened}
 
 -- a number that no circuit had leaves no orders
 no-left : (start : Start) (s : State) (h : List Step) → Stands start s h → (n serial : ℕ) → n ≡ length s.circuits → left_at s.last_closes n serial ≡ []
@@ -97,17 +97,51 @@ count-new chan id reply keys pad zero n now none = record { since = omega arith;
 count-new chan id reply keys pad (suc k) n now none = tt
 
 counts-push : (start : Start) (s : State) (h : List Step) → Stands start s h → (chan id : ℕ) (reply : Cell) (keys : LayerKeys) (pad : Option (List ℕ)) (leg : Leg) →
-    CountAt (leg_at (slot_at (s.circuits ++ Some (new_circuit chan id reply keys pad) ∷ []) leg.circ) leg.number) (leg_count start.rules h leg.circ leg.number) (tick h)
+    CountAt (leg_at (slot_at (s.circuits ++ Some (new_circuit chan id reply keys pad) ∷ []) leg.circ) leg.number) (cell_count start.rules h leg.circ leg.number) (tick h)
 counts-push start s h st chan id reply keys pad leg = elim (eqb_tells leg.circ (length s.circuits)) [
   | inl (is, same) ↦ rw (slot_at-push s.circuits (Some (new_circuit chan id reply keys pad)) leg.circ, is)
-      (count-new chan id reply keys pad leg.number (leg_count start.rules h leg.circ leg.number) (tick h) (st.no_count leg.circ leg.number (omega arith)))
+      (count-new chan id reply keys pad leg.number (cell_count start.rules h leg.circ leg.number) (tick h) (st.no_count leg.circ leg.number (omega arith)))
   | inr (is, other) ↦ rw (leg_in-other s (Some (new_circuit chan id reply keys pad)) leg other) (st.counts leg)
 ]
 
+-- the new leg lies on the live channel, and the reply alone waits on it
+new-lies : (slots : List (Option ChannelState)) (chan id : ℕ) (reply : Cell) (keys : LayerKeys) (pad : Option (List ℕ)) (k : ℕ) → is_some (slot_at slots chan) ≡ true → LiesOn slots (leg_at (Some (new_circuit chan id reply keys pad)) k)
+unfolding slot_at
+new-lies slots chan id reply keys pad zero on_live = on_live
+new-lies slots chan id reply keys pad (suc k) on_live = tt
+
+lies-opened : (s : State) (chan id : ℕ) (reply : Cell) (keys : LayerKeys) (pad : Option (List ℕ)) (leg : Leg) → is_some (slot_at s.channels chan) ≡ true → LiesOn s.channels (leg_in s leg) →
+    LiesOn s.channels (leg_at (slot_at (s.circuits ++ Some (new_circuit chan id reply keys pad) ∷ []) leg.circ) leg.number)
+lies-opened s chan id reply keys pad leg on_live lies = elim (eqb_tells leg.circ (length s.circuits)) [
+  | inl (is, same) ↦ rw (slot_at-push s.circuits (Some (new_circuit chan id reply keys pad)) leg.circ, is) (new-lies s.channels chan id reply keys pad leg.number on_live)
+  | inr (is, other) ↦ rw (leg_in-other s (Some (new_circuit chan id reply keys pad)) leg other) lies
+]
+
+new-last : (chan id : ℕ) (reply : Cell) (keys : LayerKeys) (pad : Option (List ℕ)) (k : ℕ) → EndsWithDestroy (leg_at (Some (new_circuit chan id reply keys pad)) k)
+unfolding slot_at
+new-last chan id reply keys pad zero = (λ is_destroy. refl, tt)
+new-last chan id reply keys pad (suc k) = tt
+
+last-opened : (s : State) (chan id : ℕ) (reply : Cell) (keys : LayerKeys) (pad : Option (List ℕ)) (leg : Leg) → EndsWithDestroy (leg_in s leg) →
+    EndsWithDestroy (leg_at (slot_at (s.circuits ++ Some (new_circuit chan id reply keys pad) ∷ []) leg.circ) leg.number)
+last-opened s chan id reply keys pad leg last = elim (eqb_tells leg.circ (length s.circuits)) [
+  | inl (is, same) ↦ rw (slot_at-push s.circuits (Some (new_circuit chan id reply keys pad)) leg.circ, is) (new-last chan id reply keys pad leg.number)
+  | inr (is, other) ↦ rw (leg_in-other s (Some (new_circuit chan id reply keys pad)) leg other) last
+]
+
+-- legs of the other circuits, and the new one's
+whole-opened : (start : Start) (s : State) (h : List Step) (chan id : ℕ) (reply : Cell) (keys : LayerKeys) (pad : Option (List ℕ)) → Stands start s h → at h chan id ≡ None →
+    (c k : ℕ) → IsSentWhole start.rules (opening chan id reply keys pad (length s.circuits) ∷ h) c k
+whole-opened start s h chan id reply keys pad st free c k = elim (eqb_tells c (length s.circuits)) [
+  | inl (is, same) ↦ subst (λ n. IsSentWhole start.rules (opening chan id reply keys pad (length s.circuits) ∷ h) n k) (sym same)
+      (whole-new start.rules h chan id reply keys pad (length s.circuits) (st.fresh (length s.circuits) (omega arith)).past k)
+  | inr (is, other) ↦ whole-other start.rules h chan id reply keys pad (length s.circuits) c k free (not_equal (length s.circuits) c other) (st.whole c k)
+]
+
 pub opened-kept : (start : Start) (s : State) (h : List Step) (chan id : ℕ) (reply : Cell) (keys : LayerKeys) (pad : Option (List ℕ)) → Stands start s h →
-    IsAnswered start h (opening chan id reply keys pad (length s.circuits)) → at h chan id ≡ None → list_any (λ d. d.id == id) (lane start.rules h chan) ≡ false →
+    IsRightStep start h (opening chan id reply keys pad (length s.circuits)) → is_some (slot_at s.channels chan) ≡ true → at h chan id ≡ None → list_any (λ d. d.id == id) (lane start.rules h chan) ≡ false →
     Stands start (with_circuit s chan id reply (Some keys) pad) (opening chan id reply keys pad (length s.circuits) ∷ h)
-opened-kept start s h chan id reply keys pad st answered free unlike =
+opened-kept start s h chan id reply keys pad st answered on_live free unlike =
     let rules = start.rules in
     let n = length s.circuits in
     let new = new_circuit chan id reply keys pad in
@@ -141,6 +175,11 @@ opened-kept start s h chan id reply keys pad st answered free unlike =
       no_leg = λ c k m i beyond.
           let past_end : n + 1 ≤ c = grind (arith, common_steps) in
           leg-no n k ((chan == m) && (id == i)) (at h m i) c (not_equal n c (λ same. absurd (omega arith))) (st.no_leg c k m i (omega arith));
+      lie = λ leg. lies-opened s chan id reply keys pad leg on_live (st.lie leg);
+      last = λ leg. last-opened s chan id reply keys pad leg (st.last leg);
+      whole = whole-opened start s h chan id reply keys pad st free;
+      again = rw (out-opened rules h chan id reply keys pad n (st.fresh n (omega arith)).past) st.again;
+      never = st.never;
       counts = counts-push start s h st chan id reply keys pad;
       no_count = λ c k beyond. st.no_count c k (grind (arith, common_steps));
       tick = st.tick;

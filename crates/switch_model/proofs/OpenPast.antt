@@ -1,11 +1,14 @@
 -- What an opening adds to the history of its circuit, and leaves of the others.
-use Rattle.std.proofs.Common.{◌≡◌, ℕ, ◌==◌, ◌&&◌, Bool, true, false, if◌then◌else◌, List, [], ◌∷◌, ◌++◌, drop, Option, Some, None, refl, sym, ◌∙◌, ap, subst, zero, suc}
+use Rattle.std.proofs.Common.{◌≡◌, ℕ, ◌==◌, ◌&&◌, Bool, true, false, if◌then◌else◌, List, [], ◌∷◌, ◌++◌, drop, Option, Some, None, refl, sym, ◌∙◌, ap, subst, zero, suc, inl, inr, arith}
+use Rattle.std.specs.List.{filter}
 use Rattle.std.specs.Option.{option_or}
+use Rattle.std.proofs.lemmas.Bool.Decides.{nat_tests, eqb_tells}
 use Rattle.std.proofs.Math.Dec.{eqb-suc-zero}
 use Rattle.cell_codec.specs.declared.cell.Cell.{Cell}
 use Rattle.circuit_model.specs.Effects.{open_effects}
-use Rattle.circuit_model.specs.Events.{Event, Born}
+use Rattle.circuit_model.specs.Events.{CircuitCell, Event, Born}
 use Rattle.circuit_model.specs.Log.{Log, Order}
+use Rattle.circuit_model.specs.NextHop.{next_hop}
 use Rattle.circuit_model.specs.Rules.{Rules}
 use Rattle.circuit_model.specs.Words.{log, orders_of}
 use Rattle.kdf_tor.specs.declared.LayerKeys.{LayerKeys}
@@ -13,18 +16,21 @@ use Rattle.tr_io.specs.declared.answers.OpenAnswer.TheVariants.{Opened}
 use Rattle.tr_io.specs.declared.names.Dir.TheVariants.{Forth, Back}
 use Rattle.tr_io.specs.declared.step.Step.{Step}
 use Rattle.tr_io.specs.declared.step.Step.TheVariants.{OpenCircuit}
-use Rattle.switch_model.specs.Names.{Leg, is_leg, chan_no, circ_no, circuit_cell, circuit_keys}
+use Rattle.switch_model.specs.Names.{Leg, is_leg, chan_no, circ_no, circuit_cell}
 use Rattle.switch_model.specs.Legs.{Port, port, at, holds_id, holds_port}
-use Rattle.switch_model.specs.History.{events}
-use Rattle.switch_model.specs.Queues.{circuit_log}
+use Rattle.switch_model.specs.History.{is_live_circuit, events}
+use Rattle.switch_model.specs.Queues.{circuit_log, sendable}
 use Rattle.switch_model.specs.Orders.{waiting_orders, is_reached, carried_out, is_closed_out, is_ended_by_edge}
+use Rattle.switch_model.specs.Dials.{Dial, is_dialling, is_open, dials_made, dials_out, was_handed_out}
+use Rattle.switch_model.specs.Relayed.{IsRelayed}
 use Rattle.switch_model.specs.Past.{Past, past}
 use Rattle.switch_model.specs.EdgePast.{edge_past}
 use Rattle.switch_model.specs.State.{slot_at}
 use Rattle.switch_model.specs.OpenCircuitCall.{first_leg, new_circuit}
 use Rattle.switch_model.specs.EdgeAnswers.{Ordered}
-use Rattle.switch_model.specs.CircuitStands.{LegAt, CircuitStands, IsFresh, no_past, left_at, released_by}
-use Rattle.switch_model.proofs.Common.{self_eq}
+use Rattle.switch_model.specs.CircuitStands.{LegAt, CircuitStands, IsFresh, no_past, left_at}
+use Rattle.switch_model.specs.Stands.{IsSentWhole}
+use Rattle.switch_model.proofs.Common.{self_eq, not_equal}
 use Rattle.switch_model.proofs.Ids.{and-first, and-second, same-number}
 use Rattle.switch_model.proofs.Others.{other_pasts}
 
@@ -32,7 +38,7 @@ abbrev pub opening : ℕ → ℕ → Cell → LayerKeys → Option (List ℕ) �
 opening chan id reply keys pad n = OpenCircuit (chan_no chan) id reply (Some keys) pad (Opened (circ_no n))
 
 abbrev pub born_event : Cell → LayerKeys → Option (List ℕ) → Event
-born_event reply keys pad = Born (circuit_cell reply) (circuit_keys keys) pad
+born_event reply keys pad = Born (circuit_cell reply) keys pad
 
 -- the past of the new circuit
 abbrev opened_past : Past → ℕ → ℕ → Cell → LayerKeys → Option (List ℕ) → Past
@@ -123,12 +129,21 @@ new-legs rules h chan id reply keys pad n fresh zero = record {
 }
 new-legs rules h chan id reply keys pad n fresh (suc k) = record {
   holds = holds-later h chan id reply keys pad n k (ap (λ (p : Past). p.port (suc k)) fresh);
-  begins = record { rest = released_by rules (opened_past no_past chan id reply keys pad) (suc k); cells = refl };
+  begins = record { rest = sendable (log rules (opened_past no_past chan id reply keys pad).events) 0 (suc k); cells = refl };
 }
 
 or-none : {A : Type 0} (o : Option A) → o ≡ option_or o None
 or-none None = refl
 or-none (Some x) = refl
+
+-- being opened relays nothing
+born-relayed : (rules : Rules) (reply : CircuitCell) (keys : LayerKeys) (pad : Option (List ℕ)) → IsRelayed rules (Born reply keys pad ∷ []) [] []
+unfolding open_effects
+born-relayed rules reply keys pad = record {
+  forth_begins = record { rest = []; cells = refl };
+  back_is = refl;
+  windows = (record { circuit = omega arith; stream = λ serial. omega arith }, record { circuit = omega arith; stream = λ serial. omega arith });
+}
 
 new-circuit : (rules : Rules) (closes : List Ordered) (h : List Step) (chan id : ℕ) (reply : Cell) (keys : LayerKeys) (pad : Option (List ℕ)) (n : ℕ) →
     IsFresh (past rules h n) (edge_past rules h n) → ((serial : ℕ) → left_at closes n serial ≡ []) →
@@ -139,10 +154,11 @@ new-circuit rules closes h chan id reply keys pad n fresh none = record {
   relay = record { keys = refl; pad = or-none pad };
   hops = refl;
   legs = new-legs rules h chan id reply keys pad n fresh.past;
-  forth = record { claimed = refl; kept = refl; cells = refl; numbers = sym (fresh.numbers Forth) };
-  back = record { claimed = refl; kept = refl; cells = refl; numbers = sym (fresh.numbers Back) };
+  forth = record { claimed = refl; out = refl; kept = refl; noted = tt; cells = refl; numbers = sym (fresh.numbers Forth) };
+  back = record { claimed = refl; out = refl; kept = refl; noted = tt; cells = refl; numbers = sym (fresh.numbers Back) };
   orders = λ serial. sym (new-waiting rules h chan id reply keys pad n serial fresh.past);
   no_left = none;
+  relayed = born-relayed rules (circuit_cell reply) keys pad;
   dial = refl;
 }
 
@@ -154,3 +170,60 @@ circuit-opened rules closes h chan id reply keys pad n fresh none =
     subst (λ p. CircuitStands rules closes (new_circuit chan id reply keys pad) n p (λ k. holds_id (step ∷ h) n k) (edge_past rules (step ∷ h) n))
     (sym (past-opened rules h chan id reply keys pad n ∙ ap (λ p. opened_past p chan id reply keys pad) fresh.past))
     (new-circuit rules closes h chan id reply keys pad n fresh none)
+
+eqb-zero-suc : (k : ℕ) → (0 == suc k) ≡ false
+eqb-zero-suc k = grind (arith, nat_tests)
+
+-- what was sent on its legs, and on those of the others
+pub whole-new : (rules : Rules) (h : List Step) (chan id : ℕ) (reply : Cell) (keys : LayerKeys) (pad : Option (List ℕ)) (n : ℕ) → past rules h n ≡ no_past → (k : ℕ) →
+    IsSentWhole rules (opening chan id reply keys pad n ∷ h) n k
+unfolding open_effects
+whole-new rules h chan id reply keys pad n fresh zero alive lost ends =
+    let both : true ≡ false = sym (holds-first h chan id reply keys pad n) ∙ lost in
+    cc
+whole-new rules h chan id reply keys pad n fresh (suc k) alive lost ends =
+    rw (events-opened rules h chan id reply keys pad n fresh, ap (λ (p : Past). p.sent (suc k)) fresh, eqb-suc-zero k, eqb-zero-suc k) refl
+
+pub whole-other : (rules : Rules) (h : List Step) (chan id : ℕ) (reply : Cell) (keys : LayerKeys) (pad : Option (List ℕ)) (n d k : ℕ) → at h chan id ≡ None → (n == d) ≡ false →
+    IsSentWhole rules h d k → IsSentWhole rules (opening chan id reply keys pad n ∷ h) d k
+whole-other rules h chan id reply keys pad n d k free other whole alive lost ends =
+    rw other (whole (rw other at alive) (sym (holds-other h chan id reply keys pad n d k free other) ∙ lost) ends)
+
+if-false : (b : Bool) → (b && false) ≡ false
+if-false true = refl
+if-false false = refl
+
+-- no dial order of it is out
+filter-same : (f g : Dial → Bool) (xs : List Dial) → ((x : Dial) → f x ≡ g x) → filter f xs ≡ filter g xs
+filter-same f g [] same = refl
+filter-same f g (x ∷ xs) same = rw (same x, filter-same f g xs same) refl
+
+open-none : (rules : Rules) (h : List Step) (chan id : ℕ) (reply : Cell) (keys : LayerKeys) (pad : Option (List ℕ)) (n : ℕ) → past rules h n ≡ no_past →
+    is_dialling (next_hop (circuit_log rules (opening chan id reply keys pad n ∷ h) n)) ≡ false
+unfolding open_effects
+open-none rules h chan id reply keys pad n fresh = rw (events-opened rules h chan id reply keys pad n fresh) refl
+
+open-off : (rules : Rules) (h : List Step) (dial : Dial) → is_dialling (next_hop (circuit_log rules h dial.circ)) ≡ false → is_open rules h dial ≡ false
+open-off rules h dial none = rw none (if-false (is_live_circuit rules h dial.circ))
+
+open-new : (rules : Rules) (h : List Step) (chan id : ℕ) (reply : Cell) (keys : LayerKeys) (pad : Option (List ℕ)) (n : ℕ) → past rules h n ≡ no_past → (dial : Dial) → dial.circ ≡ n →
+    is_open rules (opening chan id reply keys pad n ∷ h) dial ≡ is_open rules h dial
+open-new rules h chan id reply keys pad n fresh dial same =
+    let never : is_live_circuit rules h n ≡ false = ap (λ (p : Past). p.live) fresh in
+    let none : is_dialling (next_hop (circuit_log rules (opening chan id reply keys pad n ∷ h) n)) ≡ false = open-none rules h chan id reply keys pad n fresh in
+    let before : is_open rules h dial ≡ false = rw (same, never) refl in
+    let after : is_open rules (opening chan id reply keys pad n ∷ h) dial ≡ false =
+    open-off rules (opening chan id reply keys pad n ∷ h) dial (subst (λ m. is_dialling (next_hop (circuit_log rules (opening chan id reply keys pad n ∷ h) m)) ≡ false) (sym same) none) in
+    after ∙ sym before
+
+open-at : (rules : Rules) (h : List Step) (chan id : ℕ) (reply : Cell) (keys : LayerKeys) (pad : Option (List ℕ)) (n : ℕ) → past rules h n ≡ no_past → (dial : Dial) →
+    is_open rules (opening chan id reply keys pad n ∷ h) dial ≡ is_open rules h dial
+open-at rules h chan id reply keys pad n fresh dial = elim (eqb_tells dial.circ n) [
+  | inl (is, same) ↦ open-new rules h chan id reply keys pad n fresh dial same
+  | inr (is, other) ↦ rw (not_equal n dial.circ other) refl
+]
+
+pub out-opened : (rules : Rules) (h : List Step) (chan id : ℕ) (reply : Cell) (keys : LayerKeys) (pad : Option (List ℕ)) (n : ℕ) → past rules h n ≡ no_past →
+    dials_out rules (opening chan id reply keys pad n ∷ h) ≡ dials_out rules h
+out-opened rules h chan id reply keys pad n fresh =
+    filter-same _ _ (dials_made rules h) (λ dial. ap (λ b. b && was_handed_out h dial.order) (open-at rules h chan id reply keys pad n fresh dial))

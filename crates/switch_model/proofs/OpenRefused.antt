@@ -14,12 +14,13 @@ use Rattle.switch_model.specs.Names.{Leg, chan_no}
 use Rattle.switch_model.specs.Channels.{is_ours, opened_by_us, channel_at}
 use Rattle.switch_model.specs.Legs.{at}
 use Rattle.switch_model.specs.Lanes.{Destroy, lane, refusal_reason, with_refusal}
-use Rattle.switch_model.specs.Legal.{IsAnswered}
+use Rattle.switch_model.specs.Legal.{IsRightStep}
 use Rattle.switch_model.specs.State.{ChannelState, State, slot_at}
 use Rattle.switch_model.specs.Machine.{leg_in}
 use Rattle.switch_model.specs.OpenCircuitCall.{refusing, open_state_by}
 use Rattle.switch_model.specs.Stands.{channel_past, ChannelAt, ChannelStands, IsUsed, IsApart, Stands}
 use Rattle.switch_model.proofs.Common.{self_eq, not_equal}
+use Rattle.switch_model.proofs.Lying.{lies-with}
 use Rattle.switch_model.proofs.Slots.{slot_at-with, length-with, slot_at-inside}
 
 -- a lane with a refusal has what it had
@@ -59,7 +60,7 @@ used-more s t xs ys chan id (Some leg) same more (inl has) = inl (rw (same leg) 
 used-more s t xs ys chan id (Some leg) same more (inr waits) = inr (more waits)
 
 pub refused-kept : (start : Start) (s : State) (h : List Step) (chan id : ℕ) (reply : Cell) (keys : Option LayerKeys) (pad : Option (List ℕ)) (why : OpenRefusal) (channel : ChannelState) →
-    Stands start s h → slot_at s.channels chan ≡ Some channel → IsAnswered start h (OpenCircuit (chan_no chan) id reply keys pad (Refused why)) →
+    Stands start s h → slot_at s.channels chan ≡ Some channel → IsRightStep start h (OpenCircuit (chan_no chan) id reply keys pad (Refused why)) →
     ((r : ℕ) → refusal_reason (is_ours channel.side) id why ≡ Some r → at h chan id ≡ None) →
     Stands start (open_state_by s chan id reply keys pad (Some channel) (Refused why)) (OpenCircuit (chan_no chan) id reply keys pad (Refused why) ∷ h)
 refused-kept start s h chan id reply keys pad why channel st found answered free =
@@ -95,6 +96,11 @@ refused-kept start s h chan id reply keys pad why channel st found answered free
         | inr (is_here, other) ↦ rw (not_equal chan n other) (st.apart n)
       ];
       no_leg = st.no_leg;
+      lie = λ leg. lies-with s.channels chan (refusing id why channel) (leg_in s leg) inside (st.lie leg);
+      last = st.last;
+      whole = st.whole;
+      again = st.again;
+      never = st.never;
       counts = st.counts;
       no_count = st.no_count;
       tick = st.tick;

@@ -11,16 +11,19 @@ use Rattle.tr_io.specs.declared.step.Step.{Step}
 use Rattle.switch_model.specs.Start.{Start}
 use Rattle.switch_model.specs.Names.{Leg, is_leg, circuit_cell}
 use Rattle.switch_model.specs.Legs.{at, holds_id}
-use Rattle.switch_model.specs.History.{is_live, sent}
-use Rattle.switch_model.specs.Queues.{circuit_log}
+use Rattle.switch_model.specs.History.{is_live_circuit, sent, events}
+use Rattle.switch_model.specs.Queues.{circuit_log, sealed_count, sendable}
 use Rattle.switch_model.specs.Lanes.{Destroy, lane}
 use Rattle.switch_model.specs.Past.{Past, past}
-use Rattle.switch_model.specs.EdgePast.{edge_past}
+use Rattle.switch_model.specs.EdgePast.{EdgePast, edge_past}
+use Rattle.switch_model.specs.EdgeAnswers.{Ordered}
+use Rattle.switch_model.specs.Relayed.{IsRelayed}
+use Rattle.switch_model.specs.Taken.{taken_forth, taken_back}
 use Rattle.switch_model.specs.SendAnswers.{cell_at, first_of_queue, destroy_or, next_cell_answer}
 use Rattle.switch_model.specs.State.{ChannelState, LegState, CircuitState, State, slot_at}
 use Rattle.switch_model.specs.Machine.{leg_at, leg_in}
 use Rattle.switch_model.specs.NextCellCall.{first_cell, cell_of_leg, waits_on, picked_leg, next_result_on}
-use Rattle.switch_model.specs.CircuitStands.{released_by, SentBegins, LegAt, LegStands, CircuitAt}
+use Rattle.switch_model.specs.CircuitStands.{SentBegins, LegAt, LegStands, CircuitAt}
 use Rattle.switch_model.specs.Stands.{channel_past, ChannelAt, IsApart, Stands}
 use Rattle.switch_model.proofs.Ids.{and-first, and-second, same-number, leg-stands, leg-has_id}
 use Rattle.switch_model.proofs.Counting.{picked-waits}
@@ -28,8 +31,8 @@ use Rattle.switch_model.proofs.NextSaid.{next-said}
 use Rattle.switch_model.proofs.NextLeg.{leg-named}
 
 -- what may leave is the beginning of what is sent in all
-to-one : (rules : Rules) (p : Past) (k : ℕ) (xs ys : List CircuitCell) → xs ++ ys ≡ released_by rules p k → (rest : List CircuitCell) × (xs ++ ys ++ rest ≡ one (log rules p.events) k)
-to-one rules p zero xs ys e = (drop (1 + p.sealed) (one (log rules p.events) 0), ap (λ l. l ++ drop (1 + p.sealed) (one (log rules p.events) 0)) e ∙ take-append-drop (1 + p.sealed) (one (log rules p.events) 0))
+to-one : (rules : Rules) (p : Past) (k : ℕ) (xs ys : List CircuitCell) → xs ++ ys ≡ sendable (log rules p.events) p.sealed_count k → (rest : List CircuitCell) × (xs ++ ys ++ rest ≡ one (log rules p.events) k)
+to-one rules p zero xs ys e = (drop (1 + p.sealed_count) (one (log rules p.events) 0), ap (λ l. l ++ drop (1 + p.sealed_count) (one (log rules p.events) 0)) e ∙ take-append-drop (1 + p.sealed_count) (one (log rules p.events) 0))
 to-one rules p (suc k) xs ys e = ([], append-nil (xs ++ ys) ∙ e)
 
 begins-one : (rules : Rules) (p : Past) (k : ℕ) → SentBegins rules k p → (rest : List CircuitCell) × (p.sent k ++ rest ≡ one (log rules p.events) k)
@@ -58,7 +61,7 @@ get-seam (x ∷ xs) ys y = get-seam xs ys y
 leg-next : (rules : Rules) (h : List Step) (c k : ℕ) (leg : LegState) (cell : CircuitCell) (cells : List CircuitCell) → leg.queue ≡ cell ∷ cells → LegStands rules leg k (past rules h c) (holds_id h c k) →
     slice_get (one (circuit_log rules h c) k) (length (sent rules h c k)) ≡ Some cell
 leg-next rules h c k leg cell cells queued own =
-    let begins : sent rules h c k ++ cell ∷ cells ≡ released_by rules (past rules h c) k = rw queued at own.cells in
+    let begins : sent rules h c k ++ cell ∷ cells ≡ sendable (circuit_log rules h c) (sealed_count h c) k = rw queued at own.cells in
     let more = to-one rules (past rules h c) k (sent rules h c k) (cell ∷ cells) begins in
     rw (← more.1, append_assoc (sent rules h c k) (cell ∷ cells) more.0) (get-seam (sent rules h c k) (cells ++ more.0) cell)
 
@@ -91,7 +94,7 @@ picked-next start s h chan given c k cell (Some leg) st found gives named =
     found-next start s h chan c k cell leg (leg_in s leg) st refl (picked-waits s chan given leg found) gives named
 
 lane-next : (start : Start) (s : State) (h : List Step) (chan given c k : ℕ) (cell : Cell) (waits : List Destroy) → Stands start s h → lane start.rules h chan ≡ waits →
-    destroy_or waits (cell_of_leg s (picked_leg s chan given)) ≡ Some cell → is_leg c k (at h chan cell.circ) ≡ true → is_live start.rules h c ≡ true →
+    destroy_or waits (cell_of_leg s (picked_leg s chan given)) ≡ Some cell → is_leg c k (at h chan cell.circ) ≡ true → is_live_circuit start.rules h c ≡ true →
     slice_get (one (circuit_log start.rules h c) k) (length (sent start.rules h c k)) ≡ Some (circuit_cell cell)
 lane-next start s h chan given c k cell [] st waiting gives named alive = picked-next start s h chan given c k cell (picked_leg s chan given) st refl gives named
 lane-next start s h chan given c k cell (d ∷ waits) st waiting gives named alive =
@@ -102,14 +105,22 @@ lane-next start s h chan given c k cell (d ∷ waits) st waiting gives named ali
     absurd cc
 
 channel-next : (start : Start) (s : State) (h : List Step) (chan given c k : ℕ) (cell : Cell) (x : Option ChannelState) → Stands start s h → ChannelAt x (channel_past start.rules h chan) →
-    next_result_on s chan given x ≡ Some cell → is_leg c k (at h chan cell.circ) ≡ true → is_live start.rules h c ≡ true →
+    next_result_on s chan given x ≡ Some cell → is_leg c k (at h chan cell.circ) ≡ true → is_live_circuit start.rules h c ≡ true →
     slice_get (one (circuit_log start.rules h c) k) (length (sent start.rules h c k)) ≡ Some (circuit_cell cell)
 channel-next start s h chan given c k cell None st at_chan gives named alive = absurd cc
 channel-next start s h chan given c k cell (Some channel) st at_chan gives named alive =
     lane-next start s h chan given c k cell channel.lane st (sym at_chan.lane) gives named alive
 
 pub next_is_one : (start : Start) (s : State) (h : List Step) → Stands start s h → (chan given c k : ℕ) (cell : Cell) → next_cell_answer start.rules h chan given ≡ Some cell →
-    is_leg c k (at h chan cell.circ) ≡ true → is_live start.rules h c ≡ true →
+    is_leg c k (at h chan cell.circ) ≡ true → is_live_circuit start.rules h c ≡ true →
     slice_get (one (circuit_log start.rules h c) k) (length (sent start.rules h c k)) ≡ Some (circuit_cell cell)
 next_is_one start s h st chan given c k cell gives named alive =
     channel-next start s h chan given c k cell (slot_at s.channels chan) st (st.channel chan) (next-said start s h chan given st ∙ gives) named alive
+
+-- what a circuit relayed, live or torn down
+relayed-by : (rules : Rules) (closes : List Ordered) (x : Option CircuitState) (c : ℕ) (p : Past) (has_id : ℕ → Bool) (e : EdgePast) → CircuitAt rules closes x c p has_id e → IsRelayed rules p.events p.taken_forth p.taken_back
+relayed-by rules closes None c p has_id e gone = gone.relayed
+relayed-by rules closes (Some x) c p has_id e own = own.relayed
+
+pub relayed_in_order : (start : Start) (s : State) (h : List Step) → Stands start s h → (c : ℕ) → IsRelayed start.rules (events start.rules h c) (taken_forth h c) (taken_back h c)
+relayed_in_order start s h st c = relayed-by start.rules s.last_closes (slot_at s.circuits c) c (past start.rules h c) (λ j. holds_id h c j) (edge_past start.rules h c) (st.circuit c)

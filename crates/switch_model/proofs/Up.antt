@@ -11,10 +11,11 @@ use Rattle.switch_model.specs.Start.{Start}
 use Rattle.switch_model.specs.Names.{chan_no}
 use Rattle.switch_model.specs.Channels.{is_live_channel, live_channels, count_below}
 use Rattle.switch_model.specs.State.{ChannelState, State, slot_at}
-use Rattle.switch_model.specs.Machine.{counted, filled_slots}
+use Rattle.switch_model.specs.Machine.{counted, filled_slots, leg_in}
 use Rattle.switch_model.specs.ChannelUpCall.{new_channel, channel_up_result, channel_up_state}
 use Rattle.switch_model.specs.Stands.{ChannelPast, channel_past, ChannelAt, ChannelStands, Stands}
 use Rattle.switch_model.proofs.Common.{self_eq, not_equal}
+use Rattle.switch_model.proofs.Lying.{lies-push}
 use Rattle.switch_model.proofs.Slots.{slot_at-push, slot_at-past, count_below-same}
 
 -- what the state has of a channel says whether it is live
@@ -39,7 +40,7 @@ up-by : (start : Start) (s : State) (h : List Step) (slot : ℕ) (side : Side) (
     Stands start (if b then counted s else record (counted s) { channels = s.channels ++ Some (new_channel side) ∷ [] })
     (ChannelUp slot side (if b then UpAnswer.Full channel_limit else UpAnswer.Up (chan_no (length s.channels))) ∷ h)
 up-by start s h slot side true is st = record {
-  legal = (rw (← filled-channels start s h st, is) refl, st.legal);
+  legal = ((tt, rw (← filled-channels start s h st, is) refl), st.legal);
   steps = omega (arith, st.steps);
   channels = st.channels;
   circuits = st.circuits;
@@ -53,6 +54,11 @@ up-by start s h slot side true is st = record {
   used = st.used;
   apart = st.apart;
   no_leg = st.no_leg;
+  lie = st.lie;
+  last = st.last;
+  whole = st.whole;
+  again = st.again;
+  never = st.never;
   counts = st.counts;
   no_count = st.no_count;
   tick = st.tick;
@@ -64,7 +70,7 @@ up-by start s h slot side false is st =
     let n = length s.channels in
     let step = ChannelUp slot side (UpAnswer.Up (chan_no n)) in
     record {
-      legal = (rw (← filled-channels start s h st, is, st.channels) refl, st.legal);
+      legal = ((tt, rw (← filled-channels start s h st, is, st.channels) refl), st.legal);
       steps = omega (arith, st.steps);
       channels = grind (arith, common_steps, st.channels);
       circuits = st.circuits;
@@ -84,6 +90,11 @@ up-by start s h slot side false is st =
       used = st.used;
       apart = st.apart;
       no_leg = st.no_leg;
+      lie = λ leg. lies-push s.channels (Some (new_channel side)) (leg_in s leg) refl (st.lie leg);
+      last = st.last;
+      whole = st.whole;
+      again = st.again;
+      never = st.never;
       counts = st.counts;
       no_count = st.no_count;
       tick = st.tick;

@@ -7,15 +7,15 @@ use Rattle.tr_io.specs.declared.step.Step.{Step}
 use Rattle.switch_model.specs.Start.{Start}
 use Rattle.switch_model.specs.Names.{Leg}
 use Rattle.switch_model.specs.Legs.{port, on_channel, hops, holds_id}
-use Rattle.switch_model.specs.History.{is_live, sent}
-use Rattle.switch_model.specs.Queues.{released, queue}
+use Rattle.switch_model.specs.History.{is_live_circuit, sent}
+use Rattle.switch_model.specs.Queues.{queue}
 use Rattle.switch_model.specs.Counts.{some_in, waiting_of, waiting_below, waiting_legs}
 use Rattle.switch_model.specs.Past.{past}
 use Rattle.switch_model.specs.EdgePast.{edge_past}
 use Rattle.switch_model.specs.State.{LegState, CircuitState, State, slot_at}
 use Rattle.switch_model.specs.Machine.{leg_at, leg_in, legs_of}
 use Rattle.switch_model.specs.NextCellCall.{waits_on, waiting_in, waiting_before, waiting_on}
-use Rattle.switch_model.specs.CircuitStands.{released_by, LegAt, CircuitAt}
+use Rattle.switch_model.specs.CircuitStands.{LegAt, CircuitAt}
 use Rattle.switch_model.specs.Stands.{Stands}
 use Rattle.switch_model.proofs.Common.{drop-front}
 use Rattle.switch_model.proofs.Ids.{and-false}
@@ -24,13 +24,9 @@ abbrev pub queue_of : Option LegState → List CircuitCell
 queue_of (Some leg) = leg.queue
 queue_of None = []
 
-released-by : (rules : Rules) (h : List Step) (c k : ℕ) → released rules h c k ≡ released_by rules (past rules h c) k
-released-by rules h c zero = refl
-released-by rules h c (suc k) = refl
-
-queue-leg : (rules : Rules) (h : List Step) (c k : ℕ) (y : Option LegState) → is_live rules h c ≡ true → LegAt rules y k (past rules h c) (holds_id h c k) → queue rules h c k ≡ queue_of y
+queue-leg : (rules : Rules) (h : List Step) (c k : ℕ) (y : Option LegState) → is_live_circuit rules h c ≡ true → LegAt rules y k (past rules h c) (holds_id h c k) → queue rules h c k ≡ queue_of y
 queue-leg rules h c k None alive at = rw (alive, at.holds) refl
-queue-leg rules h c k (Some leg) alive at = rw (alive, at.holds, released-by rules h c k, ← at.cells) (drop-front (sent rules h c k) leg.queue)
+queue-leg rules h c k (Some leg) alive at = rw (alive, at.holds, ← at.cells) (drop-front (sent rules h c k) leg.queue)
 
 queue-by : (start : Start) (s : State) (h : List Step) (c k : ℕ) (x : Option CircuitState) →
     CircuitAt start.rules s.last_closes x c (past start.rules h c) (λ j. holds_id h c j) (edge_past start.rules h c) → queue start.rules h c k ≡ queue_of (leg_at x k)

@@ -16,14 +16,14 @@ use Rattle.tr_io.specs.declared.step.Step.TheVariants.{Take}
 use Rattle.switch_model.specs.Names.{circuit_cell}
 use Rattle.switch_model.specs.Legs.{at, holds_id}
 use Rattle.switch_model.specs.Taken.{is_hop_leg, claimed_cells}
-use Rattle.switch_model.specs.History.{is_live, sent, events}
-use Rattle.switch_model.specs.Queues.{circuit_log, released, queue}
+use Rattle.switch_model.specs.History.{is_live_circuit, sent, events}
+use Rattle.switch_model.specs.Queues.{circuit_log, sealed_count, sendable, queue}
 use Rattle.switch_model.specs.Returns.{Goes, closing_at, forward_of}
 use Rattle.switch_model.specs.Examples.{hop_cell_then_return}
 use Rattle.switch_model.proofs.Common.{self_eq, drop-front}
 
-pub sent_and_queued : (rules : Rules) (h : List Step) (c k : ℕ) (rest : List CircuitCell) → is_live rules h c ≡ true → holds_id h c k ≡ true →
-    sent rules h c k ++ rest ≡ released rules h c k → sent rules h c k ++ queue rules h c k ≡ released rules h c k
+pub sent_and_queued : (rules : Rules) (h : List Step) (c k : ℕ) (rest : List CircuitCell) → is_live_circuit rules h c ≡ true → holds_id h c k ≡ true →
+    sent rules h c k ++ rest ≡ sendable (circuit_log rules h c) (sealed_count h c) k → sent rules h c k ++ queue rules h c k ≡ sendable (circuit_log rules h c) (sealed_count h c) k
 sent_and_queued rules h c k rest alive holds known =
     rw (alive, holds, ← known) (ap (λ l. sent rules h c k ++ l) (drop-front (sent rules h c k) rest))
 

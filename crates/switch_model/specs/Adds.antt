@@ -1,9 +1,10 @@
 -- What a call adds to the history.
-use Rattle.std.specs.Prelude.{◌≡◌, ◌+◌, ◌<◌, ◌^◌, List, ◌∷◌, length}
+use Rattle.std.specs.Prelude.{◌≡◌, ⊤, ◌+◌, ◌<◌, ◌^◌, List, [], ◌∷◌, length}
 use Rattle.circuit_model.specs.Words.{in_order}
 use Rattle.tr_io.specs.declared.answers.OpenAnswer.{OpenAnswer}
 use Rattle.tr_io.specs.declared.answers.UpAnswer.{UpAnswer}
 use Rattle.tr_io.specs.declared.step.Step.{Step}
+use Rattle.tr_io.specs.declared.step.Step.TheVariants.{ChannelUp, OpenCircuit, NextCell}
 use Rattle.switch_model.specs.Start.{Start}
 use Rattle.switch_model.specs.State.{State}
 use Rattle.switch_model.specs.Stands.{Stands}
@@ -21,7 +22,20 @@ pub record StandsForSome (start : Start) (s : State) : Type 0 where
   pub history : List Step
   pub stands : Stands start s history
 
--- The same for a history that is listed oldest first.
+-- Some state that stands for a history.
+pub record StandsForSomeState (start : Start) (h : List Step) : Type 0 where
+  pub state : State
+  pub stands : Stands start state h
+
+-- A history of the calls that have a machine here.
+abbrev pub HasMachine : List Step → Type 0
+HasMachine [] = ⊤
+HasMachine (ChannelUp slot side a ∷ h) = HasMachine h
+HasMachine (OpenCircuit chan id reply keys pad a ∷ h) = HasMachine h
+HasMachine (NextCell chan given a ∷ h) = HasMachine h
+HasMachine (s ∷ h) = ⊥
+
+-- That the state stands for a history which is listed oldest first.
 unfoldable pub StandsFor : Start → State → List Step → Type 0
 StandsFor start s h = Stands start s (in_order h)
 

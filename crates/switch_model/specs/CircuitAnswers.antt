@@ -24,13 +24,13 @@ use Rattle.switch_model.specs.Limits.{circuit_limit, given_id_base}
 use Rattle.switch_model.specs.Names.{Leg, circ_no, circuit_cell}
 use Rattle.switch_model.specs.Channels.{Channel, channel_at, is_live_channel, opened_by_us, count_below}
 use Rattle.switch_model.specs.Legs.{circuits, at}
-use Rattle.switch_model.specs.History.{is_live, events, current_leg, is_waiting}
+use Rattle.switch_model.specs.History.{is_live_circuit, events, current_leg, is_waiting}
 use Rattle.switch_model.specs.Queues.{circuit_log, is_full}
 use Rattle.switch_model.specs.Lanes.{lane}
 
 -- How many circuits are live.
 abbrev pub live_circuits : Rules → List Step → ℕ
-live_circuits rules h = count_below (is_live rules h) (circuits h)
+live_circuits rules h = count_below (is_live_circuit rules h) (circuits h)
 
 -- A CircID is in use while a leg has it or its DESTROY waits.
 abbrev pub is_in_use : Rules → List Step → ℕ → ℕ → Bool
@@ -116,7 +116,7 @@ is_number n None = false
 abbrev pub taken_at : Rules → List Step → CircuitCell → Option Leg → TakeAnswer
 taken_at rules h cell None = PassedOver Why.NoCircuit
 taken_at rules h cell (Some leg) =
-    if not (is_live rules h leg.circ) then PassedOver Why.NoCircuit
+    if not (is_live_circuit rules h leg.circ) then PassedOver Why.NoCircuit
     else if leg.number == 0 then from_client rules h leg.circ cell
     else if is_number leg.number (current_leg (circuit_log rules h leg.circ))
     then from_hop rules h leg.circ (is_waiting (next_hop (circuit_log rules h leg.circ))) cell
@@ -135,5 +135,5 @@ take_answer rules h chan cell =
 -- Tearing a circuit down with a reason.
 abbrev pub tear_down_answer : Rules → List Step → ℕ → ℕ → BackAnswer
 tear_down_answer rules h c reason =
-    if not (is_live rules h c) then BackAnswer.Gone
+    if not (is_live_circuit rules h c) then BackAnswer.Gone
     else BackAnswer.Down reason

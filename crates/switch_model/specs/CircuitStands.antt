@@ -1,14 +1,13 @@
 -- When the state of a circuit, and of its legs and directions, stands for all that the history says of
 -- it.
-use Rattle.std.specs.Prelude.{ℕ, ◌≡◌, ◌+◌, ◌==◌, ◌&&◌, zero, suc, List, [], ◌∷◌, ◌++◌, length, map, take, drop, Bool, true, false, if◌then◌else◌, Option, Some, None, option_map}
+use Rattle.std.specs.Prelude.{ℕ, ◌≡◌, ⊤, ◌+◌, ◌==◌, ◌&&◌, List, [], ◌∷◌, ◌++◌, length, map, take, drop, Bool, true, false, if◌then◌else◌, Option, Some, None, option_map}
 use Rattle.std.specs.List.{filter}
-use Rattle.circuit_model.specs.Events.{CircuitCell, Event, Forward}
-use Rattle.circuit_model.specs.Log.{Log, Order, collected}
+use Rattle.circuit_model.specs.Events.{CircuitCell}
+use Rattle.circuit_model.specs.Log.{Log, Order}
 use Rattle.circuit_model.specs.NextHop.{next_hop}
 use Rattle.circuit_model.specs.Opened.{born_keys, born_pad}
 use Rattle.circuit_model.specs.Packaged.{behind}
 use Rattle.circuit_model.specs.Rules.{Rules}
-use Rattle.circuit_model.specs.Sent.{one}
 use Rattle.circuit_model.specs.Words.{log, serial_of}
 use Rattle.tor_spec.specs.CellCommands.{relay_command}
 use Rattle.tr_io.specs.declared.names.ClaimNote.{ClaimNote}
@@ -16,27 +15,24 @@ use Rattle.tr_io.specs.declared.names.Dir.{Dir}
 use Rattle.tr_io.specs.declared.names.Dir.TheVariants.{Forth, Back}
 use Rattle.switch_model.specs.Dials.{Dial, is_dialling}
 use Rattle.switch_model.specs.EdgeAnswers.{Ordered}
+use Rattle.switch_model.specs.Queues.{sendable}
+use Rattle.switch_model.specs.Relayed.{settled_forth, IsRelayed}
 use Rattle.switch_model.specs.Past.{Past}
 use Rattle.switch_model.specs.EdgePast.{EdgePast}
 use Rattle.switch_model.specs.State.{LegState, KeptClaim, WaitingCell, WayState, RelayState, DialState, CircuitState, slot_at}
 
 -- A leg.
 
--- What the one-thread relay sends on leg k, as far as it may leave.
-abbrev pub released_by : Rules → Past → ℕ → List CircuitCell
-released_by rules p zero = take (1 + p.sealed) (one (log rules p.events) 0)
-released_by rules p (suc k) = one (log rules p.events) (suc k)
-
 -- A leg that has its CircID: what was sent and what waits is what may leave.
 pub record LegStands (rules : Rules) (leg : LegState) (k : ℕ) (p : Past) (has_id : Bool) : Type 0 where
   pub holds : has_id ≡ true
   pub port : p.port k ≡ Some (record { chan = leg.chan; id = leg.id })
-  pub cells : p.sent k ++ leg.queue ≡ released_by rules p k
+  pub cells : p.sent k ++ leg.queue ≡ sendable (log rules p.events) p.sealed_count k
 
 -- Any other: what was sent is the beginning of it.
 pub record SentBegins (rules : Rules) (k : ℕ) (p : Past) : Type 0 where
   pub rest : List CircuitCell
-  pub cells : p.sent k ++ rest ≡ released_by rules p k
+  pub cells : p.sent k ++ rest ≡ sendable (log rules p.events) p.sealed_count k
 
 -- A leg that has lost its CircID, or was never made.
 pub record LegGone (rules : Rules) (k : ℕ) (p : Past) (has_id : Bool) : Type 0 where
@@ -63,19 +59,24 @@ cell_waiting waiting = waiting.cell
 abbrev pub number_waiting : WaitingCell → ℕ
 number_waiting waiting = waiting.number
 
-pub record WayStands (way : WayState) (settled given : List CircuitCell) (count : ℕ) (note : Option ClaimNote) (all : List ℕ) : Type 0 where
+-- The claim that is out took the bodies behind those that came home.
+pub record IsNoteOf (c : ℕ) (dir : Dir) (home : ℕ) (kept : KeptClaim) : Type 0 where
+  pub circ : kept.note.circ.0 ≡ c
+  pub dir_is : kept.note.dir ≡ dir
+  pub first : kept.note.first ≡ home
+  pub count : kept.note.count ≡ length kept.cells
+
+abbrev pub IsNoted : ℕ → Dir → ℕ → Option KeptClaim → Type 0
+IsNoted c dir home None = ⊤
+IsNoted c dir home (Some kept) = IsNoteOf c dir home kept
+
+pub record WayStands (c : ℕ) (dir : Dir) (way : WayState) (settled given : List CircuitCell) (count : ℕ) (note : Option ClaimNote) (all : List ℕ) : Type 0 where
   pub claimed : way.claimed ≡ count
+  pub out : way.claimed ≡ length settled + length (kept_cells way.kept)
   pub kept : kept_note way.kept ≡ note
+  pub noted : IsNoted c dir (length settled) way.kept
   pub cells : settled ++ kept_cells way.kept ++ map cell_waiting way.waiting ≡ given
   pub numbers : map number_waiting way.waiting ≡ drop way.claimed all
-
-abbrev pub forward_cell : Event → Option CircuitCell
-forward_cell (Forward command body) = Some (record { command = command; body = body })
-forward_cell event = None
-
--- The forward cells that came home.
-abbrev pub settled_forth : Log → List CircuitCell
-settled_forth log = collected (λ entry. forward_cell entry.event) log
 
 -- Bodies on their way back, as RELAY cells.
 abbrev pub relay_cells : List (List ℕ) → List CircuitCell
@@ -117,15 +118,17 @@ pub record CircuitStands (rules : Rules) (closes : List Ordered) (x : CircuitSta
   pub relay : RelayStands x.relay (log rules p.events)
   pub hops : length x.legs ≡ p.hops + 1
   pub legs : (k : ℕ) → LegAt rules (slot_at x.legs k) k p (has_id k)
-  pub forth : WayStands x.forth (settled_forth (log rules p.events)) p.taken_forth (p.claimed Forth) (p.kept Forth) (e.numbers Forth)
-  pub back : WayStands x.back (take p.sealed (relay_cells (behind (log rules p.events)))) (relay_cells (behind (log rules p.events))) (p.claimed Back) (p.kept Back) (e.numbers Back)
+  pub forth : WayStands c Forth x.forth (settled_forth (log rules p.events)) p.taken_forth (p.claimed Forth) (p.kept Forth) (e.numbers Forth)
+  pub back : WayStands c Back x.back (take p.sealed_count (relay_cells (behind (log rules p.events)))) (relay_cells (behind (log rules p.events))) (p.claimed Back) (p.kept Back) (e.numbers Back)
   pub orders : (serial : ℕ) → filter (is_for serial) x.orders ≡ e.waiting serial
   pub no_left : (serial : ℕ) → left_at closes c serial ≡ []
+  pub relayed : IsRelayed rules p.events p.taken_forth p.taken_back
   pub dial : x.dial ≡ open_dial (log rules p.events) e
 
--- A circuit that isn't live.
+-- A circuit that isn't live: it keeps what it relayed and what it sent.
 pub record CircuitGone (rules : Rules) (closes : List Ordered) (c : ℕ) (p : Past) (e : EdgePast) : Type 0 where
   pub live : p.live ≡ false
+  pub relayed : IsRelayed rules p.events p.taken_forth p.taken_back
   pub begins : (k : ℕ) → SentBegins rules k p
   pub left : (serial : ℕ) → left_at closes c serial ≡ e.left serial
 
@@ -143,7 +146,7 @@ no_past = record {
   sent = λ k. [];
   port = λ k. None;
   hops = 0;
-  sealed = 0;
+  sealed_count = 0;
   claimed = λ dir. 0;
   kept = λ dir. None;
 }

@@ -13,7 +13,7 @@ use Rattle.switch_model.specs.Start.{Start}
 use Rattle.switch_model.specs.Names.{Way, circ_no, way_of, same_note}
 use Rattle.switch_model.specs.Legs.{circuits}
 use Rattle.switch_model.specs.Taken.{claimed_cells}
-use Rattle.switch_model.specs.History.{is_live, sent, events}
+use Rattle.switch_model.specs.History.{is_live_circuit, sent, events}
 use Rattle.switch_model.specs.Returns.{settling_reason}
 use Rattle.switch_model.specs.Claims.{claims, claimed, kept, next_way, claim_count}
 
@@ -49,7 +49,7 @@ abbrev pub return_answer : Start → List Step → ClaimNote → Option ℕ → 
 return_answer start h note place answer =
     if not (note.switch == start.name) then Stranger (Note None note)
     else if not (nat_lt note.circ.0 (circuits h)) then Stranger (Note None note)
-    else if not (is_live start.rules h note.circ.0) then Gone
+    else if not (is_live_circuit start.rules h note.circ.0) then Gone
     else if not (is_note note (kept h (way_of note))) then Stranger (Note (kept h (way_of note)) note)
     else returned note place answer
 

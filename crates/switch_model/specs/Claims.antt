@@ -11,7 +11,7 @@ use Rattle.tr_io.specs.declared.step.Step.TheVariants.{Take, Claim, GiveBack, Ed
 use Rattle.switch_model.specs.Names.{Leg, Way, same_way, way_of}
 use Rattle.switch_model.specs.Legs.{at}
 use Rattle.switch_model.specs.Taken.{taken_forth}
-use Rattle.switch_model.specs.History.{is_live, is_accepted}
+use Rattle.switch_model.specs.History.{is_live_circuit, is_accepted_return}
 use Rattle.switch_model.specs.Queues.{circuit_log}
 use Rattle.switch_model.specs.Limits.{claim_limit}
 
@@ -33,7 +33,7 @@ abbrev pub kept : List Step → Way → Option ClaimNote
 kept [] way = None
 kept (Claim worker (Some note) ∷ h) way = if same_way (way_of note) way then Some note else kept h way
 kept (GiveBack note place answer ∷ h) way =
-    if same_way (way_of note) way && is_accepted answer then None else kept h way
+    if same_way (way_of note) way && is_accepted_return answer then None else kept h way
 kept (s ∷ h) way = kept h way
 
 -- How many bodies a direction was given: forth, the relay cells taken on leg 0; back, the bodies
@@ -52,7 +52,7 @@ waiting rules h way = given_bodies rules h way - claimed h way
 
 -- A direction is ready where its circuit is live, no claim of it is out and a body waits.
 abbrev pub is_ready : Rules → List Step → Way → Bool
-is_ready rules h way = is_live rules h way.circ && (is_none (kept h way) && nat_lt 0 (waiting rules h way))
+is_ready rules h way = is_live_circuit rules h way.circ && (is_none (kept h way) && nat_lt 0 (waiting rules h way))
 
 -- The circuit that a step can give bodies.
 abbrev pub circuit_at : Option Leg → Option ℕ
@@ -90,12 +90,13 @@ abbrev pub count_way : Way → List Way → ℕ
 count_way way [] = 0
 count_way way (other ∷ older) = if same_way other way then count_way way older + 1 else count_way way older
 
--- The direction of the oldest of these bodies that waits in a direction that is ready. A body waits
--- where the bodies claimed of its direction are no more than those before it.
+-- Whether a body of this direction waits in a direction that is ready, with these bodies before it. A
+-- body waits where the bodies claimed of its direction are no more than those of it before the body.
 abbrev pub waits_here : Rules → List Step → Way → List Way → Bool
 waits_here rules h way older = is_ready rules h way && nat_le (claimed h way) (count_way way older)
 
--- The direction of the oldest body that waits and may be claimed.
+-- The direction of the oldest of some bodies, listed newest first, that waits in a direction that is
+-- ready.
 abbrev pub first_waiting : Rules → List Step → List Way → Option Way
 first_waiting rules h [] = None
 first_waiting rules h (way ∷ older) =

@@ -7,7 +7,7 @@ use Rattle.tr_io.specs.declared.step.Step.TheVariants.{NextCell}
 use Rattle.switch_model.specs.Limits.{cell_charge, count_limit}
 use Rattle.switch_model.specs.Names.{Leg, is_leg}
 use Rattle.switch_model.specs.Legs.{port, on_channel, circuits, hops, at}
-use Rattle.switch_model.specs.History.{is_live}
+use Rattle.switch_model.specs.History.{is_live_circuit}
 use Rattle.switch_model.specs.Queues.{queue}
 
 -- The tick in force: the greatest that was given so far.
@@ -24,19 +24,19 @@ halved count ticks = count / 2 ^ ticks
 abbrev pub charged : ℕ → ℕ
 charged count = min (count + cell_charge) count_limit
 
--- The count of leg k of circuit c at the tick in force. It starts at 0.
-abbrev pub leg_count : Rules → List Step → ℕ → ℕ → ℕ
-leg_count rules [] c k = 0
-leg_count rules (NextCell chan given None ∷ h) c k = halved (leg_count rules h c k) (given - tick h)
-leg_count rules (NextCell chan given (Some cell) ∷ h) c k =
-    if is_leg c k (at h chan.0 cell.circ) && is_live rules h c
-    then charged (halved (leg_count rules h c k) (given - tick h))
-    else halved (leg_count rules h c k) (given - tick h)
-leg_count rules (s ∷ h) c k = leg_count rules h c k
+-- The decaying count of leg k of circuit c at the tick in force. It starts at 0.
+abbrev pub cell_count : Rules → List Step → ℕ → ℕ → ℕ
+cell_count rules [] c k = 0
+cell_count rules (NextCell chan given None ∷ h) c k = halved (cell_count rules h c k) (given - tick h)
+cell_count rules (NextCell chan given (Some cell) ∷ h) c k =
+    if is_leg c k (at h chan.0 cell.circ) && is_live_circuit rules h c
+    then charged (halved (cell_count rules h c k) (given - tick h))
+    else halved (cell_count rules h c k) (given - tick h)
+cell_count rules (s ∷ h) c k = cell_count rules h c k
 
 -- The same where this tick is given next.
 abbrev pub count_at : Rules → List Step → ℕ → Leg → ℕ
-count_at rules h given leg = halved (leg_count rules h leg.circ leg.number) (given - tick h)
+count_at rules h given leg = halved (cell_count rules h leg.circ leg.number) (given - tick h)
 
 abbrev pub some_in : {A : Type 0} → List A → Bool
 some_in [] = Bool.false
@@ -63,12 +63,12 @@ waiting_below rules h chan (suc c) = waiting_below rules h chan c ++ waiting_of 
 abbrev pub waiting_legs : Rules → List Step → ℕ → List Leg
 waiting_legs rules h chan = waiting_below rules h chan (circuits h)
 
--- The first leg with the least count.
+-- This leg, unless the other has a lesser count.
 abbrev pub lesser : (Leg → ℕ) → Leg → Option Leg → Leg
 lesser count leg None = leg
 lesser count leg (Some other) = if nat_lt (count other) (count leg) then other else leg
 
--- The first of some legs that has the least count.
+-- The first of some legs with the least count.
 abbrev pub least_of : (Leg → ℕ) → List Leg → Option Leg
 least_of count [] = None
 least_of count (leg ∷ legs) = Some (lesser count leg (least_of count legs))

@@ -4,7 +4,9 @@ use Rattle.std.specs.List.{filter}
 use Rattle.std.specs.Option.{option_or}
 use Rattle.tor_spec.specs.Extend.{Address}
 use Rattle.circuit_model.specs.Log.{Log, collected}
-use Rattle.circuit_model.specs.NextHop.{NextHop, Dialling, next_hop}
+use Rattle.circuit_model.specs.declared.next_hop.NextHop.{NextHop}
+use Rattle.circuit_model.specs.declared.next_hop.NextHop.TheVariants.{Dialling}
+use Rattle.circuit_model.specs.NextHop.{next_hop}
 use Rattle.circuit_model.specs.Rules.{Rules}
 use Rattle.tr_io.specs.declared.dials.DialStep.{DialStep}
 use Rattle.tr_io.specs.declared.names.Dest.{Dest}
@@ -12,7 +14,7 @@ use Rattle.tr_io.specs.declared.step.Step.{Step}
 use Rattle.tr_io.specs.declared.step.Step.TheVariants.{GiveBack, DialOrder}
 use Rattle.switch_model.specs.Names.{same_dest, dest_of, chan_no, circ_no}
 use Rattle.switch_model.specs.Channels.{Channel, channels, channel_at}
-use Rattle.switch_model.specs.History.{is_live}
+use Rattle.switch_model.specs.History.{is_live_circuit}
 use Rattle.switch_model.specs.Queues.{circuit_log}
 
 -- A dial order that a circuit made.
@@ -58,7 +60,7 @@ is_last (first ∷ rest) dial =
 -- live and dials its next hop, the circuit's last order is.
 abbrev pub is_open : Rules → List Step → Dial → Bool
 is_open rules h dial =
-    is_live rules h dial.circ
+    is_live_circuit rules h dial.circ
     && (is_dialling (next_hop (circuit_log rules h dial.circ)) && is_last (dials_made rules h) dial)
 
 -- Whether the order with this number was ever handed out.
@@ -79,7 +81,7 @@ dials_out rules h = filter (λ dial. is_open rules h dial && was_handed_out h di
 abbrev pub same_dial : DialStep → Dial → Bool
 same_dial given dial = (given.order == dial.order) && ((given.circ.0 == dial.circ) && same_dest given.to dial.to)
 
--- The least live channel that this side dialled to a destination, below number n.
+-- Whether a destination, if there is one, is this one.
 abbrev pub is_dest : Dest → Option Dest → Bool
 is_dest to (Some other) = same_dest other to
 is_dest to None = false
@@ -89,7 +91,7 @@ abbrev pub leads_to : Dest → Option Channel → Bool
 leads_to to (Some channel) = is_dest to channel.to
 leads_to to None = false
 
--- The least such channel below number n.
+-- The least number below n of a live channel that this side dialled to a destination.
 abbrev pub channel_to : List Step → Dest → ℕ → Option ℕ
 channel_to h to zero = None
 channel_to h to (suc n) = option_or (channel_to h to n) (if leads_to to (channel_at h n) then Some n else None)

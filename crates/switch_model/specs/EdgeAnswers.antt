@@ -3,7 +3,9 @@
 use Rattle.std.specs.Prelude.{ℕ, ◌==◌, nat_le, not, List, [], ◌∷◌, Bool, true, false, if◌then◌else◌, Option, Some, None}
 use Rattle.circuit_model.specs.Events.{Drained}
 use Rattle.circuit_model.specs.Log.{Log, Order, Reach, Carry, Close}
-use Rattle.circuit_model.specs.Places.{Place, place_at, Phase, Reaching, Joined, Free, phase, is_live_phase}
+use Rattle.circuit_model.specs.declared.places.Phase.{Phase}
+use Rattle.circuit_model.specs.declared.places.Phase.TheVariants.{Reaching, Joined, Free}
+use Rattle.circuit_model.specs.Places.{Place, place_at, phase, is_live_phase}
 use Rattle.circuit_model.specs.Rules.{Rules}
 use Rattle.circuit_model.specs.Windows.{circuit_packaged, circuit_grant, stream_packaged, stream_grant, drained}
 use Rattle.circuit_model.specs.Words.{packages_back}
@@ -18,7 +20,7 @@ use Rattle.tr_io.specs.declared.step.OrderStep.{OrderStep}
 use Rattle.tr_io.specs.declared.step.Step.{Step}
 use Rattle.switch_model.specs.Limits.{held_limit}
 use Rattle.switch_model.specs.Names.{place_key, address_of}
-use Rattle.switch_model.specs.History.{is_live, events}
+use Rattle.switch_model.specs.History.{is_live_circuit, events}
 use Rattle.switch_model.specs.Queues.{circuit_log, is_full}
 use Rattle.switch_model.specs.Orders.{Unbound, bound, next_unbound, orders, carried_out}
 
@@ -68,13 +70,13 @@ reported rules h key (EventStep.Ended reason) log =
 -- An event of the edge.
 abbrev pub edge_in_answer : Rules → List Step → StreamKey → EventStep → EdgeAnswer
 edge_in_answer rules h key event =
-    if not (is_live rules h key.circ.0) then Gone
+    if not (is_live_circuit rules h key.circ.0) then Gone
     else reported rules h key event (circuit_log rules h key.circ.0)
 
 -- A DATA is drained after its Carry was handed out, once each.
 abbrev pub drained_answer : Rules → List Step → StreamKey → EdgeAnswer
 drained_answer rules h key =
-    if not (is_live rules h key.circ.0) then Gone
+    if not (is_live_circuit rules h key.circ.0) then Gone
     else if not (is_live_phase (phase_of (circuit_log rules h key.circ.0) key)) then Gone
     else if nat_le (carried_out h key.circ.0 key.serial) (drained (circuit_log rules h key.circ.0) key.serial) then Gone
     else if packages_back rules (events rules h key.circ.0) (Drained key.serial) then packed rules h key.circ.0

@@ -53,10 +53,10 @@ abbrev pub one_circuit : LayerKeys → List ℕ → List Step
 one_circuit keys reply = left 0 (cell_of 0 created_fast_command reply) ∷ opened keys 0 reply ∷ peer_came ∷ []
 
 -- The peer opens a circuit at CircID 1, whose highest bit is clear, and gets DESTROY with PROTOCOL.
-abbrev pub bad_id : LayerKeys → Cell → List Step
+abbrev pub bad_id : LayerKeys → List ℕ → List Step
 bad_id keys reply =
     left 0 (cell_at 1 (destroy destroy_protocol))
-    ∷ OpenCircuit (chan_no 0) 1 reply (Some keys) None (Refused OpenRefusal.BadId)
+    ∷ OpenCircuit (chan_no 0) 1 (cell_at 1 (record { command = created_fast_command; body = reply })) (Some keys) None (Refused OpenRefusal.BadId)
     ∷ peer_came
     ∷ []
 
@@ -86,14 +86,24 @@ torn_while_claimed start keys reply body =
     ∷ peer_came
     ∷ []
 
+-- Two relay cells wait, and one claim takes both.
+abbrev pub two_claimed : Start → LayerKeys → List ℕ → List ℕ → List ℕ → List Step
+two_claimed start keys reply first second =
+    Claim 0 (Some (record (first_note start) { count = 2 }))
+    ∷ Take (chan_no 0) (cell_of 0 relay_command second) TakeAnswer.Queued
+    ∷ Take (chan_no 0) (cell_of 0 relay_command first) TakeAnswer.Queued
+    ∷ opened keys 0 reply
+    ∷ peer_came
+    ∷ []
+
 -- Our DESTROY waits and the peer's is taken: ours never leaves, and the CircID, in use until then, is
 -- free.
-abbrev pub crossing_destroys : LayerKeys → Cell → List ℕ → List ℕ → List Step
+abbrev pub crossing_destroys : LayerKeys → List ℕ → List ℕ → List ℕ → List Step
 crossing_destroys keys refused reply reason =
     OpenCircuit (chan_no 0) (id_of 0) (cell_of 0 created_fast_command reply) (Some keys) None (Opened (circ_no 1))
     ∷ nothing_left 0
     ∷ Take (chan_no 0) (cell_of 0 destroy_command reason) (TakeAnswer.PassedOver Why.NoCircuit)
-    ∷ OpenCircuit (chan_no 0) (id_of 0) refused (Some keys) None (Refused OpenRefusal.InUse)
+    ∷ OpenCircuit (chan_no 0) (id_of 0) (cell_of 0 created_fast_command refused) (Some keys) None (Refused OpenRefusal.InUse)
     ∷ TearDown (circ_no 0) destroy_requested (BackAnswer.Down destroy_requested)
     ∷ opened keys 0 reply
     ∷ peer_came
@@ -150,3 +160,7 @@ quiet_switch =
 abbrev pub hop_cell_then_return : ClaimNote → ChanNo → Cell → List Step → List Step
 hop_cell_then_return note chan cell h =
     GiveBack note None BackAnswer.Settled ∷ Take chan cell TakeAnswer.Queued ∷ h
+
+-- A claim comes home whose bodies close their circuit with this reason.
+abbrev pub closing_return : ClaimNote → ℕ → List Step → List Step
+closing_return note reason h = GiveBack note None (BackAnswer.Down reason) ∷ h

@@ -5,7 +5,9 @@ use Rattle.cell_codec.specs.declared.cell.Cell.{Cell}
 use Rattle.kdf_tor.specs.declared.LayerKeys.{LayerKeys}
 use Rattle.circuit_model.specs.Events.{CircuitCell, Event, Born, Backward, Connected, Data, Ended, Drained as DrainedEvent, Freed, Linked, Answered, Failed}
 use Rattle.circuit_model.specs.Log.{Log}
-use Rattle.circuit_model.specs.NextHop.{NextHop, next_hop, Waiting, has_leg, leg_count}
+use Rattle.circuit_model.specs.declared.next_hop.NextHop.{NextHop}
+use Rattle.circuit_model.specs.declared.next_hop.NextHop.TheVariants.{Waiting}
+use Rattle.circuit_model.specs.NextHop.{next_hop, has_leg, leg_count}
 use Rattle.circuit_model.specs.Rules.{Rules}
 use Rattle.circuit_model.specs.Words.{log, closes}
 use Rattle.tor_spec.specs.CellCommands.{relay_command, created2_command}
@@ -20,7 +22,7 @@ use Rattle.tr_io.specs.declared.step.EventStep.{EventStep}
 use Rattle.tr_io.specs.declared.step.OrderStep.{OrderStep}
 use Rattle.tr_io.specs.declared.step.Step.{Step}
 use Rattle.tr_io.specs.declared.step.Step.TheVariants.{OpenCircuit, Take, GiveBack, NextCell, EdgeIn, EdgeOut, Drained, DialDone}
-use Rattle.switch_model.specs.Names.{is_leg, same_dir, circuit_cell, circuit_keys}
+use Rattle.switch_model.specs.Names.{is_leg, same_dir, circuit_cell}
 use Rattle.switch_model.specs.Legs.{port, on_channel, at}
 use Rattle.switch_model.specs.Taken.{is_hop_leg, claimed_cells}
 use Rattle.switch_model.specs.Teardowns.{teardown, reason_of}
@@ -51,7 +53,7 @@ with_event false event events = events
 
 -- An opening that was accepted has keys.
 abbrev pub born : Cell → Option LayerKeys → Option (List ℕ) → List Event → List Event
-born reply (Some keys) pad events = Born (circuit_cell reply) (circuit_keys keys) pad ∷ events
+born reply (Some keys) pad events = Born (circuit_cell reply) keys pad ∷ events
 born reply None pad events = events
 
 abbrev pub is_waiting : NextHop → Bool
@@ -80,29 +82,29 @@ edge_event serial (EventStep.Data octets) = Data serial octets.bytes.items
 edge_event serial (EventStep.Ended reason) = Ended serial reason
 
 -- A return that is accepted.
-abbrev pub is_accepted : BackAnswer → Bool
-is_accepted BackAnswer.Settled = true
-is_accepted (BackAnswer.Down reason) = true
-is_accepted answer = false
+abbrev pub is_accepted_return : BackAnswer → Bool
+is_accepted_return BackAnswer.Settled = true
+is_accepted_return (BackAnswer.Down reason) = true
+is_accepted_return answer = false
 
 -- Whether forward bodies of circuit c come home.
 abbrev pub returns_forth : ℕ → ClaimNote → BackAnswer → Bool
-returns_forth c note answer = (note.circ.0 == c) && (same_dir note.dir Forth && is_accepted answer)
+returns_forth c note answer = (note.circ.0 == c) && (same_dir note.dir Forth && is_accepted_return answer)
 
 abbrev mutual
   -- Whether circuit c was opened and not torn down.
-  pub is_live : Rules → List Step → ℕ → Bool
-  is_live rules [] c = false
-  is_live rules (s ∷ h) c =
+  pub is_live_circuit : Rules → List Step → ℕ → Bool
+  is_live_circuit rules [] c = false
+  is_live_circuit rules (s ∷ h) c =
       if opens c s then true
       else if is_some (reason_of c (λ chan. lies_on h c (log rules (events rules h c)) chan) (teardown s)) then false
-      else is_live rules h c
+      else is_live_circuit rules h c
 
   -- The cells that left on leg k of circuit c before it was torn down, oldest first.
   pub sent : Rules → List Step → ℕ → ℕ → List CircuitCell
   sent rules [] c k = []
   sent rules (NextCell chan tick (Some cell) ∷ h) c k =
-      if is_leg c k (at h chan.0 cell.circ) && is_live rules h c
+      if is_leg c k (at h chan.0 cell.circ) && is_live_circuit rules h c
       then sent rules h c k ++ circuit_cell cell ∷ [] else sent rules h c k
   sent rules (s ∷ h) c k = sent rules h c k
 
@@ -126,7 +128,7 @@ abbrev mutual
   events rules (Drained key Counted ∷ h) c =
       with_event (key.circ.0 == c) (DrainedEvent key.serial) (events rules h c)
   events rules (EdgeOut slot (Some (OrderStep.Close key reason)) ∷ h) c =
-      with_event ((key.circ.0 == c) && is_live rules h c) (Freed key.serial) (events rules h c)
+      with_event ((key.circ.0 == c) && is_live_circuit rules h c) (Freed key.serial) (events rules h c)
   events rules (DialDone order outcome (DialAnswer.Up n) ∷ h) c =
       with_event (order.circ.0 == c) Linked (events rules h c)
   events rules (DialDone order outcome (DialAnswer.Closed reason) ∷ h) c =

@@ -9,9 +9,9 @@ use Rattle.tr_io.specs.declared.step.Step.{Step}
 use Rattle.tr_io.specs.declared.step.Step.TheVariants.{ChannelDown, OpenCircuit, Take, NextCell}
 use Rattle.switch_model.specs.Limits.{refusal_limit}
 use Rattle.switch_model.specs.Channels.{channel_at, opened_by_us}
-use Rattle.switch_model.specs.Legs.{Port, port, circuits, hops, destroys, holds_id}
+use Rattle.switch_model.specs.Legs.{Port, port, circuits, hops, is_destroy_for, holds_id}
 use Rattle.switch_model.specs.Queues.{circuit_log}
-use Rattle.switch_model.specs.History.{is_live, current_leg, lies_on}
+use Rattle.switch_model.specs.History.{is_live_circuit, current_leg, lies_on}
 use Rattle.switch_model.specs.Teardowns.{Teardown, NoTeardown, OneCircuit, OnChannel, teardown, reason_of}
 
 -- A DESTROY that waits, and whether it is the answer to a refused opening.
@@ -39,7 +39,7 @@ with_refusal id (Some reason) lane =
 -- ours for the same CircID away, and a channel that goes down has none.
 abbrev pub lane_left : Step → ℕ → List Destroy → List Destroy
 lane_left (NextCell n tick (Some cell)) chan lane = if n.0 == chan then drop 1 lane else lane
-lane_left (Take n cell answer) chan lane = filter (λ d. not (destroys n cell chan d.id)) lane
+lane_left (Take n cell answer) chan lane = filter (λ d. not (is_destroy_for n cell chan d.id)) lane
 lane_left (ChannelDown n BackAnswer.Settled) chan lane = if n.0 == chan then [] else lane
 lane_left s chan lane = lane
 
@@ -57,22 +57,27 @@ destroy_at chan reason (Some place) =
 destroy_at chan reason None = []
 
 -- The DESTROYs for the first legs of circuit c on a channel, in order of leg number. A leg that lost
--- its CircID in this very step, by the peer's DESTROY or the channel's end, gets none.
+-- its CircID in this very step, by the peer's DESTROY or the channel's end, gets none: so a leg's port
+-- is that of the history before the step, and the history after it tells whether the leg has it.
 abbrev pub leg_destroys : List Step → List Step → ℕ → ℕ → Option ℕ → ℕ → ℕ → List Destroy
 leg_destroys before after c chan current reason zero = []
 leg_destroys before after c chan current reason (suc k) =
     leg_destroys before after c chan current reason k
     ++ (if holds_id after c k then destroy_at chan (leg_reason current reason k) (port before c k) else [])
 
--- The DESTROYs of a live circuit that is torn down with this reason, if it is.
+-- The DESTROYs of a circuit that a step tears down with this reason, if it does, by the history before
+-- the step and after it. Before: whether the circuit is live, and where its legs lie. After: which legs
+-- still have their CircIDs, and which of them is the current one, since a TRUNCATE among the bodies that
+-- the step settles makes it a draining leg.
 abbrev pub circuit_destroys : Rules → List Step → List Step → ℕ → ℕ → Option ℕ → List Destroy
 circuit_destroys rules before after c chan None = []
 circuit_destroys rules before after c chan (Some reason) =
-    if is_live rules before c
-    then leg_destroys before after c chan (current_leg (circuit_log rules before c)) reason (hops before c + 1)
+    if is_live_circuit rules before c
+    then leg_destroys before after c chan (current_leg (circuit_log rules after c)) reason (hops before c + 1)
     else []
 
--- The same for the first circuits, in order of circuit number.
+-- The same for the first circuits, in order of circuit number. Which of them a channel's end tears
+-- down is asked of the history before the step.
 abbrev pub all_destroys : Rules → List Step → List Step → ℕ → Teardown → ℕ → List Destroy
 all_destroys rules before after chan torn zero = []
 all_destroys rules before after chan torn (suc c) =

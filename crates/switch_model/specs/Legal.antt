@@ -1,4 +1,5 @@
--- Legal histories: each step has the answer that the steps before it give.
+-- Legal histories: each call was made under its condition, and each step has the answer that the steps
+-- before it give.
 use Rattle.std.specs.Prelude.{◌≡◌, ◌⊎◌, ⊤, List, [], ◌∷◌, Option, Some, None, option_map, Contains}
 use Rattle.circuit_model.specs.Rules.{Rules}
 use Rattle.circuit_model.specs.Words.{in_order}
@@ -6,6 +7,7 @@ use Rattle.tr_io.specs.declared.dials.DialStep.{DialStep}
 use Rattle.tr_io.specs.declared.step.Step.{Step}
 use Rattle.tr_io.specs.declared.step.Step.TheVariants.{ChannelUp, ChannelDown, OpenCircuit, Take, Claim, GiveBack, Abandon, NextCell, EdgeIn, EdgeOut, Drained, DialOrder, DialDone, TearDown, Live, Halt, Halted}
 use Rattle.switch_model.specs.Start.{Start}
+use Rattle.switch_model.specs.Conditions.{MeetsCondition}
 use Rattle.switch_model.specs.Dials.{Dial, dials, dials_out, dial_step}
 use Rattle.switch_model.specs.ChannelAnswers.{channel_up_answer, channel_down_answer, live_answer, halted_answer}
 use Rattle.switch_model.specs.CircuitAnswers.{open_answer, take_answer, tear_down_answer}
@@ -46,10 +48,14 @@ IsAnswered start h (Live chan a) = a ≡ live_answer h chan.0
 IsAnswered start h (Halt of) = ⊤
 IsAnswered start h (Halted a) = a ≡ halted_answer h
 
+-- Whether a step is right behind these steps: its call's condition is met, and it has its answer.
+abbrev pub IsRightStep : Start → List Step → Step → Type 0
+IsRightStep start h s = MeetsCondition s × IsAnswered start h s
+
 -- A legal history.
 abbrev pub IsLegal : Start → List Step → Type 0
 IsLegal start [] = ⊤
-IsLegal start (s ∷ h) = IsAnswered start h s × IsLegal start h
+IsLegal start (s ∷ h) = IsRightStep start h s × IsLegal start h
 
 -- The same of a history that is listed oldest first.
 unfoldable pub IsLegalFrom : Start → List Step → Type 0

@@ -47,8 +47,8 @@ on_channel chan (Some place) = place.chan == chan
 on_channel chan None = false
 
 -- Whether a cell on channel n is a DESTROY for this CircID of channel chan (command 4).
-abbrev pub destroys : ChanNo → Cell → ℕ → ℕ → Bool
-destroys n cell chan id = (n.0 == chan) && ((cell.circ == id) && (cell.command == destroy_command))
+abbrev pub is_destroy_for : ChanNo → Cell → ℕ → ℕ → Bool
+is_destroy_for n cell chan id = (n.0 == chan) && ((cell.circ == id) && (cell.command == destroy_command))
 
 -- The leg that has this CircID, draining legs included: from its opening or link on, until its
 -- DESTROY has left, the peer's DESTROY was taken or the channel went down.
@@ -59,8 +59,8 @@ at (OpenCircuit n i reply keys pad (Opened c) ∷ h) chan id =
 at (DialDone order outcome (DialAnswer.Up n) ∷ h) chan id =
     if (n.0 == chan) && (next_given_id h chan == id)
     then Some (record { circ = order.circ.0; number = hops h order.circ.0 + 1 }) else at h chan id
-at (NextCell n tick (Some cell) ∷ h) chan id = if destroys n cell chan id then None else at h chan id
-at (Take n cell answer ∷ h) chan id = if destroys n cell chan id then None else at h chan id
+at (NextCell n tick (Some cell) ∷ h) chan id = if is_destroy_for n cell chan id then None else at h chan id
+at (Take n cell answer ∷ h) chan id = if is_destroy_for n cell chan id then None else at h chan id
 at (ChannelDown n BackAnswer.Settled ∷ h) chan id = if n.0 == chan then None else at h chan id
 at (s ∷ h) chan id = at h chan id
 

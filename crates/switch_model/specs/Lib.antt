@@ -5,7 +5,7 @@ pub mod Limits
 pub mod Names
 pub mod Start
 -- what happened: channels; circuits, legs and CircIDs (`at`); cells taken (`taken_forth`,
--- `taken_back`); how returned cells settle; what a step tears down; `is_live`, `sent` and `events`
+-- `taken_back`); how returned cells settle; what a step tears down; `is_live_circuit`, `sent` and `events`
 pub mod Channels
 pub mod Legs
 pub mod Taken
@@ -13,7 +13,7 @@ pub mod Returns
 pub mod Teardowns
 pub mod History
 -- what waits: `queue` and `held`; `lane`; `is_ready`, `kept` and `born_bodies`; `orders` and `bound`;
--- `dials` and `dials_out`; `tick`, `leg_count` and `pick`; `owed` and `IsAtRest`
+-- `dials` and `dials_out`; `tick`, `cell_count` and `pick`; `owed` and `IsAtRest`
 pub mod Queues
 pub mod Lanes
 pub mod Claims
@@ -21,7 +21,12 @@ pub mod Orders
 pub mod Dials
 pub mod Counts
 pub mod Rest
--- the right answer of each call, and legal histories
+-- what a claim's job holds; how a leg ends; what a circuit relayed and packaged
+pub mod Contents
+pub mod LegEnds
+pub mod Relayed
+-- the conditions of each call and its right answer, and legal histories
+pub mod Conditions
 pub mod ChannelAnswers
 pub mod CircuitAnswers
 pub mod ClaimAnswers
@@ -39,6 +44,7 @@ pub mod Machine
 pub mod ChannelUpCall
 pub mod OpenCircuitCall
 pub mod NextCellCall
+pub mod DialMemory
 pub mod CircuitStands
 pub mod Stands
 pub mod Adds

@@ -1,4 +1,4 @@
--- The limits of a switch, which are this relay's own.
+-- The limits of a switch. They are this relay's own where no section of the standard is named.
 use Rattle.std.specs.Prelude.{ℕ, ◌-◌, ◌^◌}
 
 -- So many channels are live at most.
@@ -19,7 +19,15 @@ refusal_limit = 512
 
 -- A claim takes so many bodies at most.
 abbrev pub claim_limit : ℕ
-claim_limit = 1
+claim_limit = 32
+
+-- Workers have the numbers below this one.
+abbrev pub worker_limit : ℕ
+worker_limit = 64
+
+-- A DATA has so many bytes at most: what a relay cell has room for (tor-spec, "Relay cells").
+abbrev pub data_limit : ℕ
+data_limit = 498
 
 -- A channel gives out so many CircIDs at most, those behind this one, in turn and never again.
 abbrev pub given_id_limit : ℕ

@@ -14,6 +14,7 @@ new_state = record {
   claims = 0;
   bodies = 0;
   dial_orders = 0;
+  again = [];
   tick = 0;
   slots = [];
   last_closes = [];

@@ -3,9 +3,8 @@ use Rattle.std.specs.Prelude.{ℕ, ◌==◌, ◌&&◌, nat_eq, Bool, true, false
 use Rattle.std.specs.Cmp.Lexicographic.{pointwise}
 use Rattle.cell_codec.specs.declared.cell.Cell.{Cell}
 use Rattle.cell_codec.specs.Cells.{payload_of}
-use Rattle.kdf_tor.specs.declared.LayerKeys.{LayerKeys}
 use Rattle.tor_spec.specs.Extend.{Address}
-use Rattle.circuit_model.specs.Events.{CircuitCell, CircuitKeys}
+use Rattle.circuit_model.specs.Events.{CircuitCell}
 use Rattle.circuit_model.specs.Log.{StreamKey as PlaceKey}
 use Rattle.tr_io.specs.declared.names.ChanNo.{ChanNo}
 use Rattle.tr_io.specs.declared.names.CircNo.{CircNo}
@@ -70,6 +69,3 @@ place_key key = record { stream = key.id; serial = key.serial }
 -- A cell without its CircID.
 abbrev pub circuit_cell : Cell → CircuitCell
 circuit_cell cell = record { command = cell.command; body = payload_of cell.body }
-
-abbrev pub circuit_keys : LayerKeys → CircuitKeys
-circuit_keys keys = record { df = keys.df; db = keys.db; kf = keys.kf; kb = keys.kb }

@@ -24,8 +24,8 @@ count_of_found now (Some leg) = count_of now leg
 count_of_found now None = 0
 
 -- The count of a leg of the switch where this tick is given.
-abbrev pub leg_count_in : State → ℕ → Leg → ℕ
-leg_count_in s given leg = count_of_found (max s.tick given) (leg_in s leg)
+abbrev pub cell_count_in : State → ℕ → Leg → ℕ
+cell_count_in s given leg = count_of_found (max s.tick given) (leg_in s leg)
 
 -- The legs of a channel on which cells wait, by circuit number and then by leg number.
 
@@ -54,7 +54,7 @@ waiting_on s chan = waiting_before s chan (length s.circuits)
 
 -- The leg that is served next.
 abbrev pub picked_leg : State → ℕ → ℕ → Option Leg
-picked_leg s chan given = least_of (leg_count_in s given) (waiting_on s chan)
+picked_leg s chan given = least_of (cell_count_in s given) (waiting_on s chan)
 
 -- The first cell that waits on a leg.
 abbrev pub first_cell : Option LegState → Option Cell

@@ -8,7 +8,7 @@ use Rattle.tr_io.specs.declared.answers.OpenAnswer.TheVariants.{Opened, Refused}
 use Rattle.tr_io.specs.declared.answers.OpenRefusal.{OpenRefusal}
 use Rattle.tr_io.specs.declared.names.Side.{Side}
 use Rattle.switch_model.specs.Limits.{circuit_limit, given_id_base}
-use Rattle.switch_model.specs.Names.{circ_no, circuit_cell, circuit_keys}
+use Rattle.switch_model.specs.Names.{circ_no, circuit_cell}
 use Rattle.switch_model.specs.Channels.{is_ours}
 use Rattle.switch_model.specs.Lanes.{refusal_reason, with_refusal}
 use Rattle.switch_model.specs.State.{ChannelState, LegState, WayState, CircuitState, State, slot_at, with_slot}
@@ -53,7 +53,7 @@ first_leg chan id reply = record { chan = chan; id = id; queue = circuit_cell re
 -- The circuit that is opened.
 abbrev pub new_circuit : ℕ → ℕ → Cell → LayerKeys → Option (List ℕ) → CircuitState
 new_circuit chan id reply keys pad = record {
-  relay = record { keys = circuit_keys keys; pad = pad };
+  relay = record { keys = keys; pad = pad };
   legs = Some (first_leg chan id reply) ∷ [];
   forth = no_bodies;
   back = no_bodies;

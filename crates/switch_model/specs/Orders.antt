@@ -16,7 +16,7 @@ use Rattle.tr_io.specs.declared.step.Step.{Step}
 use Rattle.tr_io.specs.declared.step.Step.TheVariants.{EdgeOut}
 use Rattle.switch_model.specs.Names.{Way, same_dir}
 use Rattle.switch_model.specs.Claims.{count_way, born_bodies}
-use Rattle.switch_model.specs.History.{is_live}
+use Rattle.switch_model.specs.History.{is_live_circuit}
 use Rattle.switch_model.specs.Queues.{circuit_log}
 
 -- A place of the switch: a circuit and the serial of a place on it.
@@ -101,7 +101,7 @@ left_orders h c serial log =
 -- The orders of a place that were not handed out.
 abbrev pub orders : Rules → List Step → ℕ → ℕ → List Order
 orders rules h c serial =
-    if is_live rules h c then waiting_orders h c serial (circuit_log rules h c)
+    if is_live_circuit rules h c then waiting_orders h c serial (circuit_log rules h c)
     else left_orders h c serial (circuit_log rules h c)
 
 -- The place of a circuit that its forward cell with number n made, if that was an accepted BEGIN.
@@ -135,7 +135,7 @@ never_bound h c None = None
 
 abbrev pub unbound_at : Rules → List Step → Way → ℕ → Option Unbound
 unbound_at rules h way n =
-    if same_dir way.dir Forth && is_live rules h way.circ
+    if same_dir way.dir Forth && is_live_circuit rules h way.circ
     then never_bound h way.circ (begun_by (circuit_log rules h way.circ) n) else None
 
 -- The oldest place never bound, in order of the body numbers of the BEGINs.

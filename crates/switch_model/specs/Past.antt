@@ -12,8 +12,8 @@ use Rattle.switch_model.specs.Names.{Leg}
 use Rattle.switch_model.specs.Legs.{Port, port, hops, at}
 use Rattle.switch_model.specs.Taken.{taken_forth, taken_back}
 use Rattle.switch_model.specs.Teardowns.{teardown, reason_of}
-use Rattle.switch_model.specs.History.{is_live, sent, events, lies_on}
-use Rattle.switch_model.specs.Queues.{circuit_log, sealed}
+use Rattle.switch_model.specs.History.{is_live_circuit, sent, events, lies_on}
+use Rattle.switch_model.specs.Queues.{circuit_log, sealed_count}
 use Rattle.switch_model.specs.Claims.{claimed, kept}
 
 pub record Past : Type 0 where
@@ -25,7 +25,7 @@ pub record Past : Type 0 where
   pub sent : ℕ → List CircuitCell
   pub port : ℕ → Option Port
   pub hops : ℕ
-  pub sealed : ℕ
+  pub sealed_count : ℕ
   -- by direction
   pub claimed : Dir → ℕ
   pub kept : Dir → Option ClaimNote
@@ -33,14 +33,14 @@ pub record Past : Type 0 where
 -- The past of circuit c.
 abbrev pub past : Rules → List Step → ℕ → Past
 past rules h c = record {
-  live = is_live rules h c;
+  live = is_live_circuit rules h c;
   events = events rules h c;
   taken_forth = taken_forth h c;
   taken_back = taken_back h c;
   sent = λ k. sent rules h c k;
   port = λ k. port h c k;
   hops = hops h c;
-  sealed = sealed h c;
+  sealed_count = sealed_count h c;
   claimed = λ dir. claimed h (record { circ = c; dir = dir });
   kept = λ dir. kept h (record { circ = c; dir = dir });
 }

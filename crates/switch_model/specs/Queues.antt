@@ -14,7 +14,7 @@ use Rattle.tr_io.specs.declared.step.Step.TheVariants.{GiveBack}
 use Rattle.switch_model.specs.Names.{same_way, way_of}
 use Rattle.switch_model.specs.Legs.{hops, holds_id}
 use Rattle.switch_model.specs.Taken.{taken_forth}
-use Rattle.switch_model.specs.History.{is_live, sent, events}
+use Rattle.switch_model.specs.History.{is_live_circuit, sent, events}
 use Rattle.switch_model.specs.Returns.{held_back_after}
 use Rattle.switch_model.specs.Limits.{held_limit}
 
@@ -23,23 +23,25 @@ abbrev pub circuit_log : Rules → List Step → ℕ → Log
 circuit_log rules h c = log rules (events rules h c)
 
 -- How many backward bodies were settled: a worker has sealed them, and they may leave.
-abbrev pub sealed : List Step → ℕ → ℕ
-sealed [] c = 0
-sealed (GiveBack note place BackAnswer.Settled ∷ h) c =
-    if same_way (way_of note) (record { circ = c; dir = Back }) then sealed h c + note.count else sealed h c
-sealed (s ∷ h) c = sealed h c
+abbrev pub sealed_count : List Step → ℕ → ℕ
+sealed_count [] c = 0
+sealed_count (GiveBack note place BackAnswer.Settled ∷ h) c =
+    if same_way (way_of note) (record { circ = c; dir = Back }) then sealed_count h c + note.count else sealed_count h c
+sealed_count (s ∷ h) c = sealed_count h c
 
--- What the one-thread relay sends on leg k, as far as it may leave: on leg 0 the answer to the
--- opening and the sealed bodies, on every other leg all.
-abbrev pub released : Rules → List Step → ℕ → ℕ → List CircuitCell
-released rules h c zero = take (1 + sealed h c) (one (circuit_log rules h c) 0)
-released rules h c (suc k) = one (circuit_log rules h c) (suc k)
+-- What the one-thread relay sends on leg k, as far as it may leave where so many backward bodies are
+-- sealed: on leg 0 the answer to the opening and those bodies, on every other leg all.
+abbrev pub sendable : Log → ℕ → ℕ → List CircuitCell
+sendable relayed bodies zero = take (1 + bodies) (one relayed 0)
+sendable relayed bodies (suc k) = one relayed (suc k)
 
--- The cells that wait on leg k: those released and not sent. None wait once the circuit is torn down
+-- The cells that wait on leg k: those that may leave and weren't sent. None wait once the circuit is torn down
 -- or the leg has lost its CircID, by the peer's DESTROY or by the end of its channel.
 abbrev pub queue : Rules → List Step → ℕ → ℕ → List CircuitCell
 queue rules h c k =
-    if is_live rules h c && holds_id h c k then drop (length (sent rules h c k)) (released rules h c k) else []
+    if is_live_circuit rules h c && holds_id h c k
+    then drop (length (sent rules h c k)) (sendable (circuit_log rules h c) (sealed_count h c) k)
+    else []
 
 -- How many cells wait on the legs 1 to k.
 abbrev pub queued_forth : Rules → List Step → ℕ → ℕ → ℕ

@@ -8,7 +8,7 @@ use Rattle.tr_io.specs.declared.step.Step.{Step}
 use Rattle.switch_model.specs.Names.{Leg, Way}
 use Rattle.switch_model.specs.Channels.{is_live_channel}
 use Rattle.switch_model.specs.Queues.{queue}
-use Rattle.switch_model.specs.History.{is_live}
+use Rattle.switch_model.specs.History.{is_live_circuit}
 use Rattle.switch_model.specs.Lanes.{lane}
 use Rattle.switch_model.specs.Claims.{kept, is_ready}
 use Rattle.switch_model.specs.Counts.{waiting_legs}
@@ -26,7 +26,7 @@ owed rules h chan =
 -- The circuit is live, neither of its directions is out, no direction of the switch is ready, and no
 -- live channel owes a cell.
 pub record IsAtRest (rules : Rules) (h : List Step) (c : ℕ) : Type 0 where
-  pub live : IsTrue (is_live rules h c)
+  pub live : IsTrue (is_live_circuit rules h c)
   pub home : (dir : Dir) → kept h (record { circ = c; dir = dir }) ≡ None
   pub idle : (way : Way) → IsFalse (is_ready rules h way)
   pub empty : (chan : ℕ) → IsTrue (is_live_channel h chan) → owed rules h chan ≡ []

@@ -1,7 +1,7 @@
 -- Forward bodies that come home settle one after another, up to the first that closes the circuit.
 -- A body whose answer would be packaged where the backward direction is full closes too, and is
 -- itself no event.
-use Rattle.std.specs.Prelude.{ℕ, ◌+◌, ◌-◌, ◌&&◌, nat_le, List, [], ◌∷◌, length, Bool, if◌then◌else◌, Option, Some, None}
+use Rattle.std.specs.Prelude.{ℕ, ◌≡◌, ⊤, ◌+◌, ◌-◌, ◌&&◌, nat_le, List, [], ◌∷◌, length, Bool, if◌then◌else◌, Option, Some, None}
 use Rattle.circuit_model.specs.Events.{CircuitCell, Event, Forward}
 use Rattle.circuit_model.specs.Rules.{Rules}
 use Rattle.circuit_model.specs.Packaged.{behind}
@@ -64,3 +64,13 @@ settling_reason rules left events [] = None
 settling_reason rules left events (cell ∷ cells) =
     reason_with (closing_at rules left events cell)
     (settling_reason rules left (forward_of cell ∷ events) cells)
+
+-- The events with all of some cells behind them.
+abbrev pub events_behind : List Event → List CircuitCell → List Event
+events_behind events [] = events
+events_behind events (cell ∷ cells) = events_behind (forward_of cell ∷ events) cells
+
+-- None of the cells closes the circuit.
+abbrev pub AllGo : Rules → ℕ → List Event → List CircuitCell → Type 0
+AllGo rules left events [] = ⊤
+AllGo rules left events (cell ∷ cells) = (closing_at rules left events cell ≡ Goes) × AllGo rules left (forward_of cell ∷ events) cells

@@ -1,5 +1,5 @@
 -- The cell that a channel sends next.
-use Rattle.std.specs.Prelude.{ℕ, not, List, [], ◌∷◌, if◌then◌else◌, Option, Some, None}
+use Rattle.std.specs.Prelude.{ℕ, ◌≡◌, not, List, [], ◌∷◌, if◌then◌else◌, Option, Some, None}
 use Rattle.cell_codec.specs.declared.cell.Body.TheVariants.{Fixed}
 use Rattle.cell_codec.specs.declared.cell.Cell.{Cell}
 use Rattle.circuit_model.specs.Events.{CircuitCell}
@@ -42,3 +42,10 @@ abbrev pub next_cell_answer : Rules → List Step → ℕ → ℕ → Option Cel
 next_cell_answer rules h chan tick =
     if not (is_live_channel h chan) then None
     else destroy_or (lane rules h chan) (first_of rules h (pick rules h chan tick))
+
+-- A cell is the DESTROY at the head of a channel's lane.
+pub record IsOldestDestroy (rules : Rules) (h : List Step) (chan : ℕ) (cell : Cell) : Type 0 where
+  pub oldest : Destroy
+  pub later : List Destroy
+  pub lane_is : lane rules h chan ≡ oldest ∷ later
+  pub cell_is : cell ≡ cell_at oldest.id (destroy oldest.reason)

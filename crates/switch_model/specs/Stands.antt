@@ -1,21 +1,26 @@
 -- When a state stands for a history: one clause for each part. What concerns one circuit, one channel
 -- or one leg is seen through all that the history says of it, so that a step which says nothing new
 -- of it leaves the clause as it is.
-use Rattle.std.specs.Prelude.{ℕ, ◌≡◌, ◌⊎◌, ⊤, ◌-◌, ◌==◌, ◌&&◌, ◌≤◌, nat_le, List, [], length, find, Bool, true, false, Option, Some, None, option_map}
+use Rattle.std.specs.Prelude.{ℕ, ◌≡◌, ◌⊎◌, ⊤, ◌-◌, ◌==◌, ◌&&◌, ◌≤◌, nat_le, is_some, List, [], ◌∷◌, length, find, Bool, true, false, Option, Some, None, option_map}
 use Rattle.std.specs.List.{AllByRecursion, list_any}
+use Rattle.circuit_model.specs.Events.{CircuitCell}
 use Rattle.circuit_model.specs.Rules.{Rules}
+use Rattle.tor_spec.specs.CellCommands.{destroy_command}
 use Rattle.tr_io.specs.declared.names.StreamKey.{StreamKey}
 use Rattle.tr_io.specs.declared.step.Step.{Step}
 use Rattle.switch_model.specs.Start.{Start}
 use Rattle.switch_model.specs.Names.{Leg, is_leg}
 use Rattle.switch_model.specs.Channels.{Channel, channels, channel_at, given_ids}
 use Rattle.switch_model.specs.Legs.{circuits, at, holds_id}
-use Rattle.switch_model.specs.History.{is_live}
+use Rattle.switch_model.specs.History.{is_live_circuit, sent}
+use Rattle.switch_model.specs.Queues.{circuit_log, sealed_count, sendable}
+use Rattle.switch_model.specs.LegEnds.{is_ended_outside}
 use Rattle.switch_model.specs.Lanes.{Destroy, lane}
 use Rattle.switch_model.specs.Claims.{claims, born_bodies}
 use Rattle.switch_model.specs.Orders.{bound}
-use Rattle.switch_model.specs.Dials.{dials_made}
-use Rattle.switch_model.specs.Counts.{tick, leg_count, halved}
+use Rattle.switch_model.specs.Dials.{dials_made, dials_out, was_handed_out}
+use Rattle.switch_model.specs.DialMemory.{AgainStands}
+use Rattle.switch_model.specs.Counts.{tick, cell_count, halved}
 use Rattle.switch_model.specs.ChannelAnswers.{halts, some_halt}
 use Rattle.switch_model.specs.Legal.{IsLegal}
 use Rattle.switch_model.specs.Past.{past}
@@ -69,7 +74,30 @@ IsUsed s lane chan id (Some leg) = (has_port chan id (leg_in s leg) ≡ true) �
 
 -- A CircID whose DESTROY waits is that of no leg of a live circuit.
 abbrev pub IsApart : Rules → List Step → ℕ → Destroy → Type 0
-IsApart rules h chan d = (c k : ℕ) → (is_leg c k (at h chan d.id) && is_live rules h c) ≡ false
+IsApart rules h chan d = (c k : ℕ) → (is_leg c k (at h chan d.id) && is_live_circuit rules h c) ≡ false
+
+-- Legs of live circuits.
+
+-- A leg that has its CircID lies on a live channel.
+abbrev pub LiesOn : List (Option ChannelState) → Option LegState → Type 0
+LiesOn slots None = ⊤
+LiesOn slots (Some leg) = is_some (slot_at slots leg.chan) ≡ true
+
+-- Nothing waits behind a DESTROY.
+abbrev pub IsDestroyLast : List CircuitCell → Type 0
+IsDestroyLast [] = ⊤
+IsDestroyLast (cell ∷ cells) = ((cell.command == destroy_command) ≡ true → cells ≡ []) × IsDestroyLast cells
+
+abbrev pub EndsWithDestroy : Option LegState → Type 0
+EndsWithDestroy None = ⊤
+EndsWithDestroy (Some leg) = IsDestroyLast leg.queue
+
+-- A leg of a live circuit that lost its CircID, and not by the peer or its channel, was sent all that the
+-- one-thread relay sends on it.
+abbrev pub IsSentWhole : Rules → List Step → ℕ → ℕ → Type 0
+IsSentWhole rules h c k =
+    is_live_circuit rules h c ≡ true → holds_id h c k ≡ false → is_ended_outside h c k ≡ false →
+    sent rules h c k ≡ sendable (circuit_log rules h c) (sealed_count h c) k
 
 -- Slots and halts.
 
@@ -102,9 +130,16 @@ pub record Stands (start : Start) (s : State) (h : List Step) : Type 0 where
   pub used : (chan id : ℕ) → IsUsed s (lane start.rules h chan) chan id (at h chan id)
   pub apart : (chan : ℕ) → AllByRecursion (IsApart start.rules h chan) (lane start.rules h chan)
   pub no_leg : (c k chan id : ℕ) → length s.circuits ≤ c → is_leg c k (at h chan id) ≡ false
+  -- legs of live circuits
+  pub lie : (leg : Leg) → LiesOn s.channels (leg_in s leg)
+  pub last : (leg : Leg) → EndsWithDestroy (leg_in s leg)
+  pub whole : (c k : ℕ) → IsSentWhole start.rules h c k
+  -- dial orders: those that are handed out again, and that only orders which were made are handed out
+  pub again : AgainStands s.again (dials_out start.rules h)
+  pub never : (order : ℕ) → length (dials_made start.rules h) ≤ order → was_handed_out h order ≡ false
   -- counts
-  pub counts : (leg : Leg) → CountAt (leg_in s leg) (leg_count start.rules h leg.circ leg.number) (tick h)
-  pub no_count : (c k : ℕ) → length s.circuits ≤ c → leg_count start.rules h c k ≡ 0
+  pub counts : (leg : Leg) → CountAt (leg_in s leg) (cell_count start.rules h leg.circ leg.number) (tick h)
+  pub no_count : (c k : ℕ) → length s.circuits ≤ c → cell_count start.rules h c k ≡ 0
   pub tick : s.tick ≡ tick h
   -- slots and halts
   pub slots : (slot : ℕ) → find (λ b. b.slot == slot) s.slots ≡ option_map (slot_state slot) (bound h slot)

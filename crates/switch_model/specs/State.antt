@@ -1,6 +1,7 @@
 -- The switch as a machine with a small state: what the code keeps, as plain data.
 use Rattle.std.specs.Prelude.{ℕ, List, Bool, Option, slice_get, slice_set}
-use Rattle.circuit_model.specs.Events.{CircuitCell, CircuitKeys}
+use Rattle.kdf_tor.specs.declared.LayerKeys.{LayerKeys}
+use Rattle.circuit_model.specs.Events.{CircuitCell}
 use Rattle.circuit_model.specs.Log.{Order}
 use Rattle.tr_io.specs.declared.names.ClaimNote.{ClaimNote}
 use Rattle.tr_io.specs.declared.names.Dest.{Dest}
@@ -43,7 +44,7 @@ pub record WayState : Type 0 where
 
 -- What is kept of a circuit for the one-thread relay: what it was opened with.
 pub record RelayState : Type 0 where
-  pub keys : CircuitKeys
+  pub keys : LayerKeys
   pub pad : Option (List ℕ)
 
 -- A dial order that is neither done nor given up.
@@ -68,8 +69,9 @@ pub record SlotState : Type 0 where
   pub serial : ℕ
 
 -- The switch: its channels and circuits by number, the next numbers of claims, bodies and dial
--- orders, the tick in force, the bound slots, the last Close of each bound place whose circuit was
--- torn down, and the `halt` steps with the least number among them.
+-- orders, the dial orders that want of memory hands out again, oldest first, the tick in force, the
+-- bound slots, the last Close of each bound place whose circuit was torn down, and the `halt` steps with
+-- the least number among them.
 pub record State : Type 0 where
   pub steps : ℕ
   pub channels : List (Option ChannelState)
@@ -77,6 +79,7 @@ pub record State : Type 0 where
   pub claims : ℕ
   pub bodies : ℕ
   pub dial_orders : ℕ
+  pub again : List ℕ
   pub tick : ℕ
   pub slots : List SlotState
   pub last_closes : List Ordered

@@ -1,14 +1,18 @@
 //! Laws on histories: circuits that a step doesn't concern, the order of bodies and cells, and small
 //! histories that are legal.
-ghost use Rattle.std.specs.Prelude.{◌≡◌, ℕ, ◌++◌, List, [], ◌∷◌, Some, true, false, length, IsTrue, IsFalse};
+ghost use Rattle.std.specs.Prelude.{◌≡◌, ◌≤◌, ◌==◌, ℕ, ◌++◌, List, [], ◌∷◌, Some, true, false, length, IsTrue, IsFalse};
 ghost use Rattle.cell_codec.specs.declared.cell.Cell.{Cell};
+ghost use Rattle.cell_codec.specs.Cells.{IsWellFormed};
 ghost use Rattle.kdf_tor.specs.declared.LayerKeys.{LayerKeys};
 ghost use Rattle.circuit_model.specs.Events.{CircuitCell, Backward};
-ghost use Rattle.circuit_model.specs.Log.{is_closed};
+ghost use Rattle.circuit_model.specs.Extending.{truncate_effects};
+ghost use Rattle.circuit_model.specs.Log.{is_closed, closing};
+ghost use Rattle.circuit_model.specs.NextHop.{next_hop, is_absent};
 ghost use Rattle.circuit_model.specs.Packaged.{behind};
 ghost use Rattle.circuit_model.specs.Rules.{Rules};
 ghost use Rattle.circuit_model.specs.Words.{effects};
 ghost use Rattle.tor_spec.specs.CellCommands.{relay_command};
+ghost use Rattle.tor_spec.specs.Reasons.{destroy_requested};
 ghost use Rattle.tr_io.specs.declared.answers.TakeAnswer.TheVariants.{Queued};
 ghost use Rattle.tr_io.specs.declared.names.ChanNo.{ChanNo};
 ghost use Rattle.tr_io.specs.declared.names.ClaimNote.{ClaimNote};
@@ -16,15 +20,16 @@ ghost use Rattle.tr_io.specs.declared.names.Dir.TheVariants.{Forth};
 ghost use Rattle.tr_io.specs.declared.step.Step.{Step};
 ghost use Rattle.tr_io.specs.declared.step.Step.TheVariants.{Take};
 ghost use Rattle.switch_model.specs.Names.{circuit_cell};
-ghost use Rattle.switch_model.specs.Legs.{at, holds_id};
+ghost use Rattle.switch_model.specs.Lanes.{lane};
+ghost use Rattle.switch_model.specs.Legs.{Port, port, hops, at, holds_id};
 ghost use Rattle.switch_model.specs.Taken.{is_hop_leg, claimed_cells};
-ghost use Rattle.switch_model.specs.History.{is_live, sent, events};
-ghost use Rattle.switch_model.specs.Queues.{circuit_log, released, queue};
+ghost use Rattle.switch_model.specs.History.{is_live_circuit, sent, events};
+ghost use Rattle.switch_model.specs.Queues.{circuit_log, sealed_count, sendable, queue};
 ghost use Rattle.switch_model.specs.Returns.{Goes, closing_at, forward_of};
 ghost use Rattle.switch_model.specs.Start.{Start};
 ghost use Rattle.switch_model.specs.Past.{past, concerns};
 ghost use Rattle.switch_model.specs.Legal.{IsLegal};
-ghost use Rattle.switch_model.specs.Examples.{ended_channel, quiet_switch, one_circuit, bad_id, torn_while_claimed, crossing_destroys, hop_cell_then_return};
+ghost use Rattle.switch_model.specs.Examples.{closing_return, ended_channel, quiet_switch, one_circuit, bad_id, torn_while_claimed, two_claimed, crossing_destroys, hop_cell_then_return};
 
 /// A step leaves all that the history says of a circuit that it doesn't concern.
 #[tactic(auto, using(crate::proofs::Others::other_pasts))]
@@ -36,10 +41,10 @@ pub fn other_circuits_keep_their_past()
 /// What was sent on a leg and what waits there are together what the one-thread relay sends on it, as
 /// far as that may leave, wherever what was sent is its beginning.
 #[tactic(auto, using(crate::proofs::Waits::sent_and_queued))]
-pub fn sent_and_queued_are_released()
+pub fn sent_and_queued_are_sendable()
     ensures { (rules : Rules) (h : List Step) (c k : ℕ) (rest : List CircuitCell) →
-        is_live rules h c ≡ true → holds_id h c k ≡ true → sent rules h c k ++ rest ≡ released rules h c k →
-        sent rules h c k ++ queue rules h c k ≡ released rules h c k }
+        is_live_circuit rules h c ≡ true → holds_id h c k ≡ true → sent rules h c k ++ rest ≡ sendable (circuit_log rules h c) (sealed_count h c) k →
+        sent rules h c k ++ queue rules h c k ≡ sendable (circuit_log rules h c) (sealed_count h c) k }
 {}
 
 /// A forward cell has its place in its circuit's history at its return, not when it was taken: a body
@@ -60,6 +65,29 @@ pub fn next_hops_body_goes_first()
         ≡ behind (circuit_log rules h note.circ.0) ++ (circuit_cell from_hop).body ∷ answer ∷ [] }
 {}
 
+/// Two bodies come home together, a TRUNCATE and then one that closes: the TRUNCATE has ended the leg
+/// towards the next hop by then, so that leg is sent DESTROY with REQUESTED, whatever the reason is.
+#[tactic(auto, using(crate::proofs::Batches::truncated_then_closed))]
+pub fn a_truncated_leg_keeps_its_reason()
+    ensures { (rules : Rules) (h : List Step) (note : ClaimNote) (reason : ℕ) (truncate closer : CircuitCell) (client hop : Port) →
+        is_live_circuit rules h note.circ.0 ≡ true → hops h note.circ.0 ≡ 1 →
+        port h note.circ.0 0 ≡ Some client → port h note.circ.0 1 ≡ Some hop → (client.chan == hop.chan) ≡ false →
+        at h hop.chan hop.id ≡ Some (record { circ = note.circ.0; number = 1 }) →
+        is_absent (next_hop (circuit_log rules h note.circ.0)) ≡ false →
+        note.dir ≡ Forth → claimed_cells h note ≡ truncate ∷ closer ∷ [] →
+        closing_at rules (length (sent rules h note.circ.0 0)) (events rules h note.circ.0) truncate ≡ Goes →
+        effects rules (events rules h note.circ.0) (forward_of truncate) ≡ truncate_effects (circuit_log rules h note.circ.0) →
+        effects rules (forward_of truncate ∷ events rules h note.circ.0) (forward_of closer) ≡ closing reason →
+        lane rules (closing_return note reason h) hop.chan
+        ≡ lane rules h hop.chan ++ record { id = hop.id; reason = destroy_requested; refusal = false } ∷ [] }
+{}
+
+/// The first steps of a legal history are a legal history.
+#[tactic(auto, using(crate::proofs::Built::first_steps_legal))]
+pub fn first_steps_are_legal()
+    ensures { (start : Start) (newer older : List Step) → IsLegal start (newer ++ older) → IsLegal start older }
+{}
+
 /// A circuit is opened, and the answer to its opening is the first cell that leaves.
 pub fn answer_to_an_opening_leaves()
     ensures { (start : Start) (keys : LayerKeys) (reply : List ℕ) → IsLegal start (one_circuit keys reply) }
@@ -67,24 +95,32 @@ pub fn answer_to_an_opening_leaves()
 
 /// An opening at a CircID of the wrong side is refused, and DESTROY 1 leaves.
 pub fn bad_id_is_answered_by_destroy()
-    ensures { (start : Start) (keys : LayerKeys) (reply : Cell) → IsLegal start (bad_id keys reply) }
+    ensures { (start : Start) (keys : LayerKeys) (reply : List ℕ) → IsLegal start (bad_id keys reply) }
 {}
 
 /// A circuit is torn down while its cipher is at a worker: the return finds it gone, one DESTROY 3
 /// leaves, and nothing else of the circuit.
 pub fn torn_circuit_sends_one_destroy()
-    ensures { (start : Start) (keys : LayerKeys) (reply body : List ℕ) → IsLegal start (torn_while_claimed start keys reply body) }
+    ensures { (start : Start) (keys : LayerKeys) (reply body : List ℕ) → length body ≤ 65535 →
+        IsLegal start (torn_while_claimed start keys reply body) }
+{}
+
+/// A claim takes what waits in its direction, up to 32 bodies: here two.
+pub fn a_claim_takes_what_waits()
+    ensures { (start : Start) (keys : LayerKeys) (reply first second : List ℕ) → length first ≤ 65535 → length second ≤ 65535 →
+        IsLegal start (two_claimed start keys reply first second) }
 {}
 
 /// While our DESTROY waits its CircID is in use. The peer's DESTROY takes it away, and the CircID is free.
 pub fn crossing_destroy_frees_the_id()
-    ensures { (start : Start) (keys : LayerKeys) (refused : Cell) (reply reason : List ℕ) →
+    ensures { (start : Start) (keys : LayerKeys) (refused reply reason : List ℕ) → length reason ≤ 65535 →
         IsLegal start (crossing_destroys keys refused reply reason) }
 {}
 
 /// A channel that ends tears its circuits down, and nothing leaves on it any more.
 pub fn an_ended_channel_sends_nothing()
-    ensures { (start : Start) (keys : LayerKeys) (reply : List ℕ) (late : Cell) → IsLegal start (ended_channel keys reply late) }
+    ensures { (start : Start) (keys : LayerKeys) (reply : List ℕ) (late : Cell) → IsWellFormed late →
+        IsLegal start (ended_channel keys reply late) }
 {}
 
 /// A new switch has nothing to hand out. It halts once as many accepting slots have ended as there are.

@@ -19,14 +19,14 @@ ghost use Rattle.switch_model.specs.Start.{Start};
 ghost use Rattle.switch_model.specs.Names.{circ_no};
 ghost use Rattle.switch_model.specs.Channels.{channel_at, is_live_channel, live_channels};
 ghost use Rattle.switch_model.specs.Legs.{at};
-ghost use Rattle.switch_model.specs.History.{is_live};
+ghost use Rattle.switch_model.specs.History.{is_live_circuit};
 ghost use Rattle.switch_model.specs.Queues.{circuit_log, held};
 ghost use Rattle.tr_io.specs.declared.answers.EdgeAnswer.TheVariants.{Shut};
 ghost use Rattle.tr_io.specs.declared.answers.ShutWhy.{ShutWhy};
 ghost use Rattle.tr_io.specs.declared.names.StreamKey.{StreamKey};
 ghost use Rattle.tr_io.specs.declared.step.EventStep.{EventStep};
 ghost use Rattle.tr_io.specs.declared.step.Octets.{Octets};
-ghost use Rattle.circuit_model.specs.Places.{Joined};
+ghost use Rattle.circuit_model.specs.declared.places.Phase.TheVariants.{Joined};
 ghost use Rattle.circuit_model.specs.Windows.{circuit_packaged, circuit_grant, stream_packaged, stream_grant};
 ghost use Rattle.switch_model.specs.EdgeAnswers.{phase_of, edge_in_answer};
 ghost use Rattle.switch_model.specs.ChannelAnswers.{channel_up_answer};
@@ -60,7 +60,7 @@ pub fn a_foreign_job_is_a_strangers()
 pub fn one_cell_too_many_closes()
     ensures { (rules : Rules) (h : List Step) (chan : ℕ) (cell : Cell) (c : ℕ) →
         is_live_channel h chan ≡ true → cell.command ≡ relay_command →
-        at h chan cell.circ ≡ Some (record { circ = c; number = 0 }) → is_live rules h c ≡ true →
+        at h chan cell.circ ≡ Some (record { circ = c; number = 0 }) → is_live_circuit rules h c ≡ true →
         held rules h c Forth ≡ held_limit → take_answer rules h chan cell ≡ TakeAnswer.Down (circ_no c) destroy_resource_limit }
 {}
 
@@ -68,12 +68,12 @@ pub fn one_cell_too_many_closes()
 /// circuit's is, with the count of DATA at which that window stands.
 #[tactic(auto, using(crate::proofs::Fullness::stream_shut, crate::proofs::Fullness::circuit_shut))]
 pub fn a_used_up_window_is_shut()
-    ensures stream { (rules : Rules) (h : List Step) (key : StreamKey) (octets : Octets) → is_live rules h key.circ.0 ≡ true →
+    ensures stream { (rules : Rules) (h : List Step) (key : StreamKey) (octets : Octets) → is_live_circuit rules h key.circ.0 ≡ true →
         phase_of (circuit_log rules h key.circ.0) key ≡ Joined →
         stream_grant (circuit_log rules h key.circ.0) key.serial ≤ stream_packaged (circuit_log rules h key.circ.0) key.serial →
         edge_in_answer rules h key (EventStep.Data octets)
         ≡ Shut ShutWhy.Stream (stream_packaged (circuit_log rules h key.circ.0) key.serial) }
-    ensures circuit { (rules : Rules) (h : List Step) (key : StreamKey) (octets : Octets) → is_live rules h key.circ.0 ≡ true →
+    ensures circuit { (rules : Rules) (h : List Step) (key : StreamKey) (octets : Octets) → is_live_circuit rules h key.circ.0 ≡ true →
         phase_of (circuit_log rules h key.circ.0) key ≡ Joined →
         stream_packaged (circuit_log rules h key.circ.0) key.serial < stream_grant (circuit_log rules h key.circ.0) key.serial →
         circuit_grant rules (circuit_log rules h key.circ.0) ≤ circuit_packaged (circuit_log rules h key.circ.0) →
