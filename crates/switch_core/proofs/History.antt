@@ -1,8 +1,10 @@
 -- Each call of the machine as a step of the histories that a switch stands for.
 use Rattle.std.proofs.Common.{List, ◌≡◌, ◌≤◌, ◌+◌, ℕ, [], Option, sym, ap, subst, arith}
-use Rattle.std.specs.Prelude.{⊤}
+use Rattle.std.specs.Prelude.{⊤, false, IfSome, IsTrue}
+use Rattle.cell_codec.specs.Cells.{is_var}
 use Rattle.cell_codec.specs.declared.cell.Cell.{Cell}
 use Rattle.kdf_tor.specs.declared.LayerKeys.{LayerKeys}
+use Rattle.tor_spec.specs.CellCommands.{opens_circuit}
 use Rattle.tr_io.specs.declared.answers.OpenAnswer.{OpenAnswer}
 use Rattle.tr_io.specs.declared.answers.UpAnswer.{UpAnswer}
 use Rattle.tr_io.specs.declared.names.ChanNo.{ChanNo}
@@ -25,12 +27,14 @@ up_adds start old new slot side UpAnswer.Memory state answer = state
 up_adds start old new slot side (UpAnswer.Up n) state answer = channel_up_adds start old new slot side (UpAnswer.Up n) state answer
 up_adds start old new slot side (UpAnswer.Full n) state answer = channel_up_adds start old new slot side (UpAnswer.Full n) state answer
 
-pub opening_adds : (start : Start) (old new : State) (chan : ChanNo) (id : ℕ) (reply : Cell) (keys : Option LayerKeys) (pad : Option (List ℕ)) (a : OpenAnswer) →
+pub opening_adds : (start : Start) (old new : State) (chan : ChanNo) (id : ℕ) (reply : Cell) (keys : Option LayerKeys) (pad : Option (List ℕ)) (a : OpenAnswer) → is_var reply.body ≡ false → IfSome keys (λ _. IsTrue (opens_circuit reply.command)) →
     OpenCase a (new ≡ old) (new ≡ open_state old chan.0 id reply keys pad) → OpenCase a ⊤ (a ≡ open_result old chan.0 id keys) →
     OpenCase a (new ≡ old) (Adds start old new (OpenCircuit chan id reply keys pad a))
-opening_adds start old new chan id reply keys pad OpenAnswer.Memory state answer = state
-opening_adds start old new chan id reply keys pad (OpenAnswer.Opened n) state answer = open_adds start old new chan id reply keys pad (OpenAnswer.Opened n) state answer
-opening_adds start old new chan id reply keys pad (OpenAnswer.Refused why) state answer = open_adds start old new chan id reply keys pad (OpenAnswer.Refused why) state answer
+opening_adds start old new chan id reply keys pad OpenAnswer.Memory fixed command state answer = state
+opening_adds start old new chan id reply keys pad (OpenAnswer.Opened n) fixed command state answer =
+    open_adds start old new chan id reply keys pad (OpenAnswer.Opened n) (record { fixed = fixed; command = command }) state answer
+opening_adds start old new chan id reply keys pad (OpenAnswer.Refused why) fixed command state answer =
+    open_adds start old new chan id reply keys pad (OpenAnswer.Refused why) (record { fixed = fixed; command = command }) state answer
 
 pub up_stays : (start : Start) (old new : State) (slot : ℕ) (side : Side) (a : UpAnswer) → UpCase a (new ≡ old) (Adds start old new (ChannelUp slot side a)) → StandsForSome start old → StandsForSome start new
 up_stays start old new slot side UpAnswer.Memory is some = subst (StandsForSome start) (sym is) some

@@ -3,7 +3,7 @@ use Rattle.std.proofs.Common.{◌≡◌, ◌+◌, ◌++◌, ℕ, Bool, true, fal
 use Rattle.switch_model.specs.Counts.{least_of}
 use Rattle.switch_model.specs.State.{State, slot_at}
 use Rattle.switch_model.specs.Machine.{leg_at, legs_of}
-use Rattle.switch_model.specs.NextCellCall.{waits_on, leg_count_in, waiting_before}
+use Rattle.switch_model.specs.NextCellCall.{waits_on, cell_count_in, waiting_before}
 use Rattle.switch_model.proofs.PlainLists.{better, least_of-last, waiting_before-more}
 use Rattle.switch_core.specs.declared.pick.Waiting.{Waiting}
 use Rattle.switch_core.specs.Picking.{better_of, first_leg_of, leg_of, IsWaiting, Picks}
@@ -24,24 +24,24 @@ either-leg : (b : Bool) (x y : Waiting) → (if b then first_leg_of x.number els
 either-leg true x y = refl
 either-leg false x y = refl
 
-same_choice : (s : State) (given n : ℕ) (least : Option Waiting) (next : Waiting) → IfSome least (IsWaiting s given n) → next.count ≡ leg_count_in s given (first_leg_of next.number) →
-    better (leg_count_in s given) (leg_of least) (first_leg_of next.number) ≡ first_leg_of (better_of least next).number
+same_choice : (s : State) (given n : ℕ) (least : Option Waiting) (next : Waiting) → IfSome least (IsWaiting s given n) → next.count ≡ cell_count_in s given (first_leg_of next.number) →
+    better (cell_count_in s given) (leg_of least) (first_leg_of next.number) ≡ first_leg_of (better_of least next).number
 same_choice s given n None next waits count = refl
 same_choice s given n (Some least) next waits count =
-    let same : nat_lt (leg_count_in s given (first_leg_of next.number)) (leg_count_in s given (first_leg_of least.number)) ≡ nat_lt next.count least.count = rw (waits.count, count) refl in
+    let same : nat_lt (cell_count_in s given (first_leg_of next.number)) (cell_count_in s given (first_leg_of least.number)) ≡ nat_lt next.count least.count = rw (waits.count, count) refl in
     ap (λ (b : Bool). if b then first_leg_of next.number else first_leg_of least.number) same
     ∙ either-leg (nat_lt next.count least.count) next least
 
 -- no circuit was looked at
-pub none_yet : (s : State) (chan given : ℕ) → Picks s given 0 None (least_of (leg_count_in s given) (waiting_before s chan 0))
+pub none_yet : (s : State) (chan given : ℕ) → Picks s given 0 None (least_of (cell_count_in s given) (waiting_before s chan 0))
 none_yet s chan given = record { same = refl; waits = tt }
 
 -- a circuit that doesn't wait
 pub one_quiet : (s : State) (chan given n : ℕ) (least : Option Waiting) → legs_of (slot_at s.circuits n) ≡ 1 → waits_on chan (leg_at (slot_at s.circuits n) 0) ≡ false →
-    Picks s given n least (least_of (leg_count_in s given) (waiting_before s chan n)) → Picks s given (n + 1) least (least_of (leg_count_in s given) (waiting_before s chan (n + 1)))
+    Picks s given n least (least_of (cell_count_in s given) (waiting_before s chan n)) → Picks s given (n + 1) least (least_of (cell_count_in s given) (waiting_before s chan (n + 1)))
 one_quiet s chan given n least one quiet picks = record {
   same =
-      ap (least_of (leg_count_in s given))
+      ap (least_of (cell_count_in s given))
       (waiting_before-more s chan n one
       ∙ ap (λ b. waiting_before s chan n ++ (if b then first_leg_of n ∷ [] else [])) quiet
       ∙ append-nil (waiting_before s chan n))
@@ -51,15 +51,15 @@ one_quiet s chan given n least one quiet picks = record {
 
 -- a circuit that waits
 pub one_waits : (s : State) (chan given n count : ℕ) (least : Option Waiting) → legs_of (slot_at s.circuits n) ≡ 1 → waits_on chan (leg_at (slot_at s.circuits n) 0) ≡ true →
-    count ≡ leg_count_in s given (first_leg_of n) → Picks s given n least (least_of (leg_count_in s given) (waiting_before s chan n)) →
-    Picks s given (n + 1) (Some (better_of least (record { number = n; count = count }))) (least_of (leg_count_in s given) (waiting_before s chan (n + 1)))
+    count ≡ cell_count_in s given (first_leg_of n) → Picks s given n least (least_of (cell_count_in s given) (waiting_before s chan n)) →
+    Picks s given (n + 1) (Some (better_of least (record { number = n; count = count }))) (least_of (cell_count_in s given) (waiting_before s chan (n + 1)))
 one_waits s chan given n count least one waits counted picks = record {
   same =
-      ap (least_of (leg_count_in s given))
+      ap (least_of (cell_count_in s given))
       (waiting_before-more s chan n one
       ∙ ap (λ b. waiting_before s chan n ++ (if b then first_leg_of n ∷ [] else [])) waits)
-      ∙ least_of-last (leg_count_in s given) (waiting_before s chan n) (first_leg_of n)
-      ∙ ap (λ o. Some (better (leg_count_in s given) o (first_leg_of n))) picks.same
+      ∙ least_of-last (cell_count_in s given) (waiting_before s chan n) (first_leg_of n)
+      ∙ ap (λ o. Some (better (cell_count_in s given) o (first_leg_of n))) picks.same
       ∙ ap Some (same_choice s given n least (record { number = n; count = count }) picks.waits counted);
   waits = chosen s given n least (record { number = n; count = count }) picks.waits (record { inside = omega arith; count = counted });
 }

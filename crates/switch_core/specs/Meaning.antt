@@ -5,7 +5,6 @@ use Rattle.kdf_tor.specs.declared.LayerKeys.{LayerKeys}
 use Rattle.tr_io.specs.declared.names.Side.{Side}
 use Rattle.circuit_model.specs.Sent.{destroy}
 use Rattle.switch_model.specs.SendAnswers.{cell_at}
-use Rattle.switch_model.specs.Names.{circuit_keys}
 use Rattle.switch_model.specs.Lanes.{Destroy}
 use Rattle.switch_model.specs.Start.{Start}
 use Rattle.switch_model.specs.State.{ChannelState, LegState, CircuitState, State, with_slot}
@@ -28,7 +27,7 @@ channel_of side lane = record { side = side; to = None; given = 0; lane = lane }
 -- A circuit with its first leg alone.
 abbrev pub circuit_of : LayerKeys → Option (List ℕ) → LegState → CircuitState
 circuit_of keys pad leg = record {
-  relay = record { keys = circuit_keys keys; pad = pad };
+  relay = record { keys = keys; pad = pad };
   legs = Some leg ∷ [];
   forth = no_bodies;
   back = no_bodies;

@@ -7,7 +7,7 @@ use Rattle.switch_model.specs.Names.{Leg}
 use Rattle.switch_model.specs.Lanes.{Destroy}
 use Rattle.switch_model.specs.State.{ChannelState, LegState, CircuitState, State, slot_at, with_slot}
 use Rattle.switch_model.specs.Machine.{leg_at}
-use Rattle.switch_model.specs.NextCellCall.{leg_count_in, sent_first}
+use Rattle.switch_model.specs.NextCellCall.{cell_count_in, sent_first}
 use Rattle.switch_core.specs.declared.pick.Waiting.{Waiting}
 
 -- The one with the lesser count; the earlier where the counts are equal.
@@ -26,7 +26,7 @@ leg_of (Some waiting) = Some (first_leg_of waiting.number)
 -- One of the first n circuits, and its leg's count where this tick is given.
 pub record IsWaiting (s : State) (given n : ℕ) (waiting : Waiting) : Type 0 where
   pub inside : waiting.number < n
-  pub count : waiting.count ≡ leg_count_in s given (first_leg_of waiting.number)
+  pub count : waiting.count ≡ cell_count_in s given (first_leg_of waiting.number)
 
 -- The leg that was picked among the first n circuits.
 pub record Picks (s : State) (given n : ℕ) (least : Option Waiting) (leg : Option Leg) : Type 0 where

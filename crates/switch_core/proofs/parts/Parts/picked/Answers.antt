@@ -2,7 +2,7 @@ use Rattle.std.proofs.Common.{◌≡◌, ◌<◌, ◌+◌, length, max, Option, 
 use Rattle.switch_model.specs.Counts.{least_of}
 use Rattle.switch_model.specs.State.{CircuitState, slot_at}
 use Rattle.switch_model.specs.Machine.{leg_at, legs_of}
-use Rattle.switch_model.specs.NextCellCall.{waits_on, count_of_found, leg_count_in, waiting_before}
+use Rattle.switch_model.specs.NextCellCall.{waits_on, count_of_found, cell_count_in, waiting_before}
 use Rattle.switch_core.specs.declared.pick.Waiting.{Waiting}
 use Rattle.switch_core.specs.Picking.{first_leg_of, Picks}
 use Rattle.switch_core.proofs.Plain.{there}
@@ -24,15 +24,15 @@ loop-number-preserved c =
       c.loop-number.invariant.0,
       elim c.if-waits_on.branch [
         | then-waits_on w ↦
-            let counted : w.count_at-count.result ≡ leg_count_in c.args.self.now c.args.given (first_leg_of c.loop-number.number) =
+            let counted : w.count_at-count.result ≡ cell_count_in c.args.self.now c.args.given (first_leg_of c.loop-number.number) =
             w.count_at-count.ensures
             ∙ ap (λ now. count_of_found now (leg_at (Some circuit) 0)) c.loop-number.invariant.0
             ∙ ap (λ x. count_of_found (max c.args.self.now.tick c.args.given) (leg_at x 0)) (sym live) in
-            subst (λ (o : Option Waiting). Picks c.args.self.now c.args.given (c.loop-number.number + 1) o (least_of (leg_count_in c.args.self.now c.args.given) (waiting_before c.args.self.now c.args.chan.0 (c.loop-number.number + 1))))
+            subst (λ (o : Option Waiting). Picks c.args.self.now c.args.given (c.loop-number.number + 1) o (least_of (cell_count_in c.args.self.now c.args.given) (waiting_before c.args.self.now c.args.chan.0 (c.loop-number.number + 1))))
             (sym (w.least-is ∙ ap Some w.lesser.ensures))
             (one_waits c.args.self.now c.args.chan.0 c.args.given c.loop-number.number w.count_at-count.result c.loop-number.least one (waits ∙ w.if-waits_on.true) counted c.loop-number.invariant.1)
         | else-waits_on w ↦
-            subst (λ (o : Option Waiting). Picks c.args.self.now c.args.given (c.loop-number.number + 1) o (least_of (leg_count_in c.args.self.now c.args.given) (waiting_before c.args.self.now c.args.chan.0 (c.loop-number.number + 1))))
+            subst (λ (o : Option Waiting). Picks c.args.self.now c.args.given (c.loop-number.number + 1) o (least_of (cell_count_in c.args.self.now c.args.given) (waiting_before c.args.self.now c.args.chan.0 (c.loop-number.number + 1))))
             (sym w.least-is)
             (one_quiet c.args.self.now c.args.chan.0 c.args.given c.loop-number.number c.loop-number.least one (waits ∙ w.if-waits_on.false) c.loop-number.invariant.1)
       ],

@@ -1,10 +1,10 @@
 use Rattle.std.proofs.Common.{◌≡◌, max}
 use Rattle.switch_model.specs.Counts.{least_of}
-use Rattle.switch_model.specs.NextCellCall.{leg_count_in, waiting_before}
+use Rattle.switch_model.specs.NextCellCall.{cell_count_in, waiting_before}
 use Rattle.switch_core.specs.Picking.{Picks}
 use Rattle.switch_core.proofs.parts.Parts.picked.Given as goal
 
 abbrev pub invariant-loop-number : goal.invariant-loop-number
 invariant-loop-number l =
     (l.now ≡ max l.self.tick l.given)
-    × Picks l.self l.given l.number l.least (least_of (leg_count_in l.self l.given) (waiting_before l.self l.chan.0 l.number))
+    × Picks l.self l.given l.number l.least (least_of (cell_count_in l.self l.given) (waiting_before l.self l.chan.0 l.number))
