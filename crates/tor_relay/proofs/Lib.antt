@@ -2,6 +2,7 @@ pub mod Openings
 pub mod InputLaws
 pub mod OutputLaws
 pub mod Words
+pub mod Replies
 pub mod Tapes
 pub mod Readings
 pub mod Plays
@@ -9,3 +10,4 @@ pub mod Turns
 pub mod Spellings
 pub mod Spelled
 pub mod RuleSpellings
+pub mod Programs

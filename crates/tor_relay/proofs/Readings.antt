@@ -4,15 +4,18 @@ use Rattle.std.proofs.lemmas.List.{append-nil}
 use Rattle.circuit_model.specs.Rules.{Rules}
 use Rattle.tr_io.specs.declared.status.Status.{Status}
 use Rattle.tr_io.specs.declared.status.Status.TheVariants.{Done, Memory}
+use Rattle.switch_model.specs.Stands.{Stands}
+use Rattle.switch_model.specs.State.{State}
+use Rattle.switch_model.proofs.Prefix.{sent_prefix}
 use Rattle.tor_relay.specs.declared.tape.input.Ending.{Ending}
 use Rattle.tor_relay.specs.declared.tape.input.Ending.TheVariants.{End, Fault, Limit}
 use Rattle.tor_relay.specs.declared.tape.record.Record.{Record}
 use Rattle.tor_relay.specs.Records.{record_and, front_of}
 use Rattle.tor_relay.specs.TapeRules.{rules_and, rules_ahead}
-use Rattle.tor_relay.specs.Steps.{IsRecords, output}
+use Rattle.tor_relay.specs.Steps.{tape_start, steps_of, IsRecords, output}
 use Rattle.tor_relay.specs.Input.{EndCause, IsRead, NothingLeft, IsTape}
 use Rattle.tor_relay.specs.Output.{IsWritten}
-use Rattle.tor_relay.proofs.Tapes.{tape_legal, front_of_output}
+use Rattle.tor_relay.proofs.Tapes.{front_of_output}
 use Rattle.tor_relay.specs.Runs.{status_by, status_at, Reads, Writes, BeginsNone, SameReading, IsOnlyReading, IsFrontOfOutput, FirstRecords, Played, NotBegun, EndsPlay, IsRun, IsDone, IsGood, rules_status}
 
 pub one_reading : (bytes : List ℕ) (a b : List Record) (x y : List ℕ) → IsRecords bytes a x → IsRecords bytes b y → BeginsNone x → BeginsNone y → SameReading a b x y
@@ -90,7 +93,7 @@ played_done status ending tape bytes rules records r w good whole played =
     let same : SameReading played.records records played.rest [] = one_reading good.first played.records records played.rest [] read good.whole (status_stops _ _ _ _ played.ends) nothing_stops in
     let at_end : status_at End (length bytes - length played.rest) played.rest ≡ Some status = subst (λ e. status_at e (length bytes - length played.rest) played.rest ≡ Some status) whole.at_end played.ends in
     let written : IsWritten w.held (output rules played.records) w.held_after = subst (λ x. IsWritten w.held (output x played.records) w.held_after) start.rules played.written in
-    inl (end_done _ _ _ same.rest at_end, subst (λ rs. IsWritten w.held (output rules rs) w.held_after) same.records written)
+    inl (end_done _ _ _ same.rest at_end, subst (λ rs. IsWritten w.held (output rules rs) w.held_after) same.records written, played.flushed)
 
 -- A good tape's rules are whole.
 begun : (status : Status) (ending : Ending) (tape bytes : List ℕ) (rules : Rules) (records : List Record) (r : Reads) (w : Writes) → IsGood tape rules records r w → ReadWhole ending tape bytes → NotBegun status ending bytes w → ⊥
@@ -143,6 +146,14 @@ front_answers rules first records rest read all end whole ends =
     let front : (behind : List ℕ) × (output rules (records ++ left.0) ≡ output rules records ++ behind) = front_of_output rules records left.0 in
     (front.0, ap (output rules) left.1 ∙ front.1)
 
-pub first_records : (rules : Rules) (tape first rest : List ℕ) (records : List Record) → rules_ahead tape ≡ rules_and rules first → IsRecords first records rest → FirstRecords rules tape first rest records
-first_records rules tape first rest records ahead read =
-    record { ahead = ahead; read = read; legal = tape_legal rules records; front = front_answers rules first records rest read }
+pub first_records : (rules : Rules) (tape first rest : List ℕ) (records : List Record) (state : State) → rules_ahead tape ≡ rules_and rules first → IsRecords first records rest →
+    Stands (tape_start rules) state (steps_of rules records) → FirstRecords rules tape first rest records
+first_records rules tape first rest records state ahead read stands = record {
+  ahead = ahead;
+  read = read;
+  state = state;
+  stands = stands;
+  legal = stands.legal;
+  sends = sent_prefix (tape_start rules) state (steps_of rules records) stands;
+  front = front_answers rules first records rest read;
+}

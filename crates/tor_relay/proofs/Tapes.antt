@@ -3,11 +3,9 @@ use Rattle.std.proofs.Common.{◌≡◌, ℕ, List, [], ◌∷◌, ◌++◌, ref
 use Rattle.std.proofs.lemmas.List.{append-nil}
 use Rattle.circuit_model.specs.Rules.{Rules}
 use Rattle.tr_io.specs.declared.step.Step.{Step}
-use Rattle.switch_model.specs.Legal.{IsAnswered, IsLegal}
 use Rattle.tor_relay.specs.declared.tape.record.Record.{Record}
-use Rattle.tor_relay.specs.declared.tape.record.Record.TheVariants.{ChannelUp, OpenCircuit, NextCell}
 use Rattle.tor_relay.specs.Records.{record_and, front_of}
-use Rattle.tor_relay.specs.Steps.{tape_start, step_of, answer_of, steps_behind, answers_behind, steps_of, output, IsRecords}
+use Rattle.tor_relay.specs.Steps.{step_of, answer_of, steps_behind, answers_behind, steps_of, output, IsRecords}
 
 -- One record more was read.
 pub records_more : (bytes : List ℕ) (records : List Record) (rest behind : List ℕ) (r : Record) → IsRecords bytes records rest → front_of rest ≡ record_and r behind → IsRecords bytes (records ++ r ∷ []) behind
@@ -29,20 +27,7 @@ answers_more rules h (first ∷ more) r =
     ap (λ xs. answer_of rules h first ++ xs) (answers_more rules (step_of rules h first ∷ h) more r)
     ∙ sym (append_assoc (answer_of rules h first) (answers_behind rules (step_of rules h first ∷ h) more) (answer_of rules (steps_behind rules (step_of rules h first ∷ h) more) r))
 
--- Each step has the right answer.
-answered : (rules : Rules) (h : List Step) (r : Record) → IsAnswered (tape_start rules) h (step_of rules h r)
-answered rules h (ChannelUp slot side) = refl
-answered rules h (OpenCircuit chan y pad request) = refl
-answered rules h (NextCell chan tick) = refl
-
-pub steps_legal : (rules : Rules) (h : List Step) (records : List Record) → IsLegal (tape_start rules) h → IsLegal (tape_start rules) (steps_behind rules h records)
-unfolding steps_behind
-steps_legal rules h [] legal = legal
-steps_legal rules h (r ∷ more) legal = steps_legal rules (step_of rules h r ∷ h) more (answered rules h r, legal)
-
-pub tape_legal : (rules : Rules) (records : List Record) → IsLegal (tape_start rules) (steps_of rules records)
-tape_legal rules records = steps_legal rules [] records tt
-
+-- The answers of some records and of those behind them.
 answers_append : (rules : Rules) (h : List Step) (records more : List Record) → answers_behind rules h (records ++ more) ≡ answers_behind rules h records ++ answers_behind rules (steps_behind rules h records) more
 unfolding steps_behind answers_behind
 answers_append rules h [] more = refl

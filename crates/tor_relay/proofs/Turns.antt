@@ -17,7 +17,7 @@ use Rattle.tor_relay.specs.Records.{record_and, less, no_record, unbuilt, front_
 use Rattle.tor_relay.specs.TapeRules.{rules_and, less_than_rules, no_rules, rules_ahead}
 use Rattle.tor_relay.specs.Steps.{tape_start, answer_of, steps_behind, answers_behind, steps_of, output, IsRecords}
 use Rattle.tor_relay.specs.Output.{IsWritten, IsPartWritten}
-use Rattle.tor_relay.specs.Runs.{cut_status, status_by, status_at, rules_status, Writes, FirstRecords, EndsPlay}
+use Rattle.tor_relay.specs.Runs.{cut_status, status_by, status_at, rules_status, Writes, IsFlushed, FirstRecords, EndsPlay}
 use Rattle.tor_relay.specs.Playing.{PlaysOn, HandedOn, Gathered, Stopped, Broken}
 use Rattle.tor_relay.proofs.OutputLaws.{starts_empty, whole_behind, part_behind}
 use Rattle.tor_relay.proofs.Readings.{status_stops, only_reading, first_records}
@@ -32,9 +32,6 @@ pub record Turn (rules : Rules) (tape first rest : List ℕ) (made : Start) (sta
   pub records : List Record
   pub stands : Stands (tape_start rules) state (steps_of rules records)
   pub gathered : Gathered rules first rest records answers held now
-
-pub nothing_handed : (answers : List ℕ) (held : Option (List ℕ)) → HandedOn answers answers held held
-nothing_handed answers held = record { piece = []; written = starts_empty held; whole = refl }
 
 pub first_turn : (rules : Rules) (tape first : List ℕ) (start : Start) (state : State) (answers : List ℕ) (held : Option (List ℕ)) (faults : ℕ) → length first ≤ length tape → start ≡ tape_start rules → state ≡ new_state → answers ≡ [] →
     Turn rules tape first first start state answers held held faults faults
@@ -84,11 +81,13 @@ handed_more rules first rest records answers left held now after gathered handed
 }
 
 -- The sink failed in the midst.
-pub breaks : (rules : Rules) (first rest : List ℕ) (records : List Record) (answers : List ℕ) (held now after : Option (List ℕ)) (faults faults_now : ℕ) → Gathered rules first rest records answers held now → IsPartWritten now answers after → Rose faults faults_now → Broken rules first held after faults faults_now
-breaks rules first rest records answers held now after faults faults_now gathered part rose = record {
+pub breaks : (rules : Rules) (first rest : List ℕ) (records : List Record) (state : State) (answers : List ℕ) (held now after : Option (List ℕ)) (faults faults_now : ℕ) → Stands (tape_start rules) state (steps_of rules records) → Gathered rules first rest records answers held now → IsPartWritten now answers after → Rose faults faults_now → Broken rules first held after faults faults_now
+breaks rules first rest records state answers held now after faults faults_now stands gathered part rose = record {
   cause = rose;
   records = records;
   rest = rest;
+  state = state;
+  stands = stands;
   read = gathered.read;
   written = part_behind held now after gathered.handed.piece answers (output rules records) gathered.handed.written part gathered.handed.whole;
 }
@@ -124,7 +123,8 @@ turn_of rules a b tape first rest answers held now faults faults_now is turn =
 pub turn_breaks : (rules : Rules) (tape first rest behind : List ℕ) (made : Start) (old new : State) (r : Record) (answers more : List ℕ) (held now after : Option (List ℕ)) (faults faults_now faults_after : ℕ) → Turn rules tape first rest made old answers held now faults faults_now →
     record_and r behind ≡ front_of rest → PlaysOn made.rules r old new answers more → IsPartWritten now more after → Rose faults_now faults_after → Broken rules first held after faults faults_after
 turn_breaks rules tape first rest behind made old new r answers more held now after faults faults_now faults_after turn front plays part rose =
-    breaks rules first behind (turn.records ++ r ∷ []) more held now after faults faults_after
+    breaks rules first behind (turn.records ++ r ∷ []) new more held now after faults faults_after
+    (stands_more rules turn.records r answers more old new turn.stands (played_under rules made r old new answers more turn.start plays))
     (played_more rules first rest behind turn.records r answers more (steps_of rules turn.records) old new held now refl turn.stands (played_under rules made r old new answers more turn.start plays) (sym front) turn.gathered)
     part (omega (arith, turn.counted, rose))
 
@@ -144,19 +144,24 @@ unbuilt_at ending tape rest kind front = ap (status_by ending (length tape - len
 pub stops : (rules : Rules) (status : Status) (ending : Ending) (tape first rest : List ℕ) (made : Start) (state : State) (answers : List ℕ) (held now : Option (List ℕ)) (faults faults_now : ℕ) → Turn rules tape first rest made state answers held now faults faults_now →
     status_at ending (length tape - length rest) rest ≡ Some status → Stopped rules status ending tape first answers held now
 stops rules status ending tape first rest made state answers held now faults faults_now turn at =
-    record { records = turn.records; rest = rest; gathered = turn.gathered; cause = inl at }
+    record { records = turn.records; rest = rest; state = state; stands = turn.stands; gathered = turn.gathered; cause = inl at }
+
+pub stops_short : (rules : Rules) (status : Status) (ending : Ending) (tape first rest : List ℕ) (made : Start) (state : State) (answers : List ℕ) (held now : Option (List ℕ)) (faults faults_now : ℕ) → Turn rules tape first rest made state answers held now faults faults_now →
+    status ≡ Memory → Stopped rules status ending tape first answers held now
+stops_short rules status ending tape first rest made state answers held now faults faults_now turn memory =
+    record { records = turn.records; rest = rest; state = state; stands = turn.stands; gathered = turn.gathered; cause = inr memory }
 
 -- The rules that a tape says are those of the switch that was made for them.
 pub ahead_of : (rules : Rules) (made : Start) (tape first : List ℕ) → made ≡ tape_start rules → rules_and rules first ≡ rules_ahead tape → rules_ahead tape ≡ rules_and made.rules first
 ahead_of rules made tape first is ahead = sym ahead ∙ ap (λ (s : Start). rules_and s.rules first) (sym is)
 
 -- How the playing ends, once the last answers are written or the sink failed.
-pub ends_whole : (rules : Rules) (status : Status) (ending : Ending) (tape first answers last : List ℕ) (now : Option (List ℕ)) (w : Writes) → rules_ahead tape ≡ rules_and rules first → Stopped rules status ending tape first answers w.held now → last ≡ answers → IsWritten now last w.held_after → EndsPlay status ending tape w
-ends_whole rules status ending tape first answers last now w ahead stopped all written_last =
+pub ends_whole : (rules : Rules) (status : Status) (ending : Ending) (tape first answers last : List ℕ) (now : Option (List ℕ)) (w : Writes) → rules_ahead tape ≡ rules_and rules first → Stopped rules status ending tape first answers w.held now → last ≡ answers → IsWritten now last w.held_after → IsFlushed w → EndsPlay status ending tape w
+ends_whole rules status ending tape first answers last now w ahead stopped all written_last flushed =
     let written : IsWritten now answers w.held_after = subst (λ xs. IsWritten now xs w.held_after) all written_last in
     let out : IsWritten w.held (output rules stopped.records) w.held_after =
     whole_behind w.held now w.held_after stopped.gathered.handed.piece answers (output rules stopped.records) stopped.gathered.handed.written written stopped.gathered.handed.whole in
-    let read : FirstRecords rules tape first stopped.rest stopped.records = first_records rules tape first stopped.rest stopped.records ahead stopped.gathered.read in
+    let read : FirstRecords rules tape first stopped.rest stopped.records = first_records rules tape first stopped.rest stopped.records stopped.state ahead stopped.gathered.read stopped.stands in
     elim stopped.cause [
       | inl at ↦ inl (record {
         rules = rules;
@@ -167,6 +172,7 @@ ends_whole rules status ending tape first answers last now w ahead stopped all w
         ends = at;
         only = only_reading first stopped.records stopped.rest stopped.gathered.read (status_stops ending (length tape - length stopped.rest) stopped.rest status at);
         written = out;
+        flushed = flushed;
       })
       | inr memory ↦ inr (inr (inl (record { is = memory; rules = rules; first = first; records = stopped.records; rest = stopped.rest; read = read; written = out })))
     ]
@@ -179,26 +185,26 @@ ends_cut rules status ending tape first w ahead is broken = inr (inl (record {
   first = first;
   records = broken.records;
   rest = broken.rest;
-  read = first_records rules tape first broken.rest broken.records ahead broken.read;
+  read = first_records rules tape first broken.rest broken.records broken.state ahead broken.read broken.stands;
   written = broken.written;
 }))
 
 pub ends_broken : (rules : Rules) (status : Status) (ending : Ending) (tape first answers last : List ℕ) (now : Option (List ℕ)) (w : Writes) → rules_ahead tape ≡ rules_and rules first → Stopped rules status ending tape first answers w.held now → last ≡ answers → IsPartWritten now last w.held_after → Rose w.faults w.faults_after → EndsPlay WriteFault ending tape w
 ends_broken rules status ending tape first answers last now w ahead stopped all part rose =
     ends_cut rules WriteFault ending tape first w ahead refl
-    (breaks rules first stopped.rest stopped.records answers w.held now w.held_after w.faults w.faults_after stopped.gathered
+    (breaks rules first stopped.rest stopped.records stopped.state answers w.held now w.held_after w.faults w.faults_after stopped.stands stopped.gathered
     (subst (λ xs. IsPartWritten now xs w.held_after) all part) rose)
 
 -- Memory was wanting before the first record.
 pub ends_early : (rules : Rules) (ending : Ending) (tape first : List ℕ) (w : Writes) → rules_ahead tape ≡ rules_and rules first → w.held_after ≡ w.held → EndsPlay Memory ending tape w
-unfolding IsRecords answers_behind
+unfolding IsRecords answers_behind steps_behind
 ends_early rules ending tape first w ahead same = inr (inr (inl (record {
   is = refl;
   rules = rules;
   first = first;
   records = [];
   rest = first;
-  read = first_records rules tape first first [] ahead refl;
+  read = first_records rules tape first first [] new_state ahead refl (stands_new (tape_start rules) new_state refl);
   written = subst (λ o. IsWritten w.held [] o) (sym same) (starts_empty w.held);
 })))
 

@@ -8,3 +8,4 @@ pub mod Steps
 pub mod Runs
 pub mod Playing
 pub mod Spelling
+pub mod Program

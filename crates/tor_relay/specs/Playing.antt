@@ -9,7 +9,7 @@ use Rattle.switch_model.specs.State.{State}
 use Rattle.switch_model.specs.Stands.{Stands}
 use Rattle.tor_relay.specs.declared.tape.input.Ending.{Ending}
 use Rattle.tor_relay.specs.declared.tape.record.Record.{Record}
-use Rattle.tor_relay.specs.Steps.{tape_start, step_of, answer_of, output, IsRecords}
+use Rattle.tor_relay.specs.Steps.{tape_start, step_of, steps_of, answer_of, output, IsRecords}
 use Rattle.tor_relay.specs.Output.{IsWritten, IsPartWritten}
 use Rattle.tor_relay.specs.Runs.{status_at}
 
@@ -34,6 +34,8 @@ pub record Gathered (rules : Rules) (first rest : List ℕ) (records : List Reco
 pub record Stopped (rules : Rules) (status : Status) (ending : Ending) (tape first answers : List ℕ) (held now : Option (List ℕ)) : Type 0 where
   pub records : List Record
   pub rest : List ℕ
+  pub state : State
+  pub stands : Stands (tape_start rules) state (steps_of rules records)
   pub gathered : Gathered rules first rest records answers held now
   pub cause : (status_at ending (length tape - length rest) rest ≡ Some status) ⊎ (status ≡ Memory)
 
@@ -42,5 +44,7 @@ pub record Broken (rules : Rules) (first : List ℕ) (held now : Option (List �
   pub cause : Rose faults faults_now
   pub records : List Record
   pub rest : List ℕ
+  pub state : State
+  pub stands : Stands (tape_start rules) state (steps_of rules records)
   pub read : IsRecords first records rest
   pub written : IsPartWritten held (output rules records) now

@@ -8,7 +8,15 @@ use Rattle.tor_relay.specs.declared.tape.input.Ending.{Ending}
 use Rattle.tor_relay.specs.declared.tape.input.Ending.TheVariants.{End, Fault, Limit}
 use Rattle.tor_relay.specs.declared.tape.record.Record.{Record}
 use Rattle.tor_relay.specs.Records.{FrontOf, record_and, less, no_record, unbuilt, front_of}
+use Rattle.circuit_model.specs.Events.{CircuitCell}
+use Rattle.circuit_model.specs.Sent.{one}
+use Rattle.tr_io.specs.declared.step.Step.{Step}
+use Rattle.switch_model.specs.History.{sent}
+use Rattle.switch_model.specs.Queues.{circuit_log}
 use Rattle.switch_model.specs.Legal.{IsLegal}
+use Rattle.switch_model.specs.Stands.{Stands}
+use Rattle.switch_model.specs.Start.{Start}
+use Rattle.switch_model.specs.State.{State}
 use Rattle.tor_relay.specs.TapeRules.{RulesFrontOf, rules_and, less_than_rules, no_rules, rules_ahead}
 use Rattle.tor_relay.specs.Steps.{tape_start, steps_of, IsRecords, output}
 use Rattle.tor_relay.specs.Input.{tape_limit, EndCause, IsRead, IsTape}
@@ -25,16 +33,21 @@ abbrev pub reads : Option (List ℕ) → ℕ → Option (List ℕ) → ℕ → R
 reads left faults left_after faults_after =
     record { left = left; faults = faults; left_after = left_after; faults_after = faults_after }
 
--- The same of a sink.
+-- The same of a sink's, and which of them are flushed after it.
 pub record Writes : Type 0 where
   pub held : Option (List ℕ)
   pub faults : ℕ
   pub held_after : Option (List ℕ)
+  pub flushed_after : Option (List ℕ)
   pub faults_after : ℕ
 
-abbrev pub writes : Option (List ℕ) → ℕ → Option (List ℕ) → ℕ → Writes
-writes held faults held_after faults_after =
-    record { held = held; faults = faults; held_after = held_after; faults_after = faults_after }
+abbrev pub writes : Option (List ℕ) → ℕ → Option (List ℕ) → Option (List ℕ) → ℕ → Writes
+writes held faults held_after flushed_after faults_after =
+    record { held = held; faults = faults; held_after = held_after; flushed_after = flushed_after; faults_after = faults_after }
+
+-- All that the sink has taken is flushed.
+abbrev pub IsFlushed : Writes → Type 0
+IsFlushed w = w.flushed_after ≡ w.held_after
 
 -- The status where the bytes that are left are less than a record, at this place.
 abbrev pub cut_status : Ending → ℕ → List ℕ → Status
@@ -79,15 +92,25 @@ abbrev pub IsFrontOfOutput : Rules → List ℕ → List ℕ → Type 0
 IsFrontOfOutput rules first answers =
     (all : List Record) (rest : List ℕ) → IsRecords first all rest → BeginsNone rest → (behind : List ℕ) × (output rules all ≡ answers ++ behind)
 
+-- What was sent on leg k of circuit c begins what the one-thread relay sends there.
+abbrev pub BeginsOnLeg : Start → List Step → ℕ → ℕ → Type 0
+BeginsOnLeg start h c k =
+    (rest : List CircuitCell) × (sent start.rules h c k ++ rest ≡ one (circuit_log start.rules h c) k)
+
 -- Behind its rules the tape has these records. Their steps, each with its answer, are a legal history
--- of a switch with these rules.
+-- of a switch with these rules, which some state of the switch stands for. What they send on any leg of
+-- any circuit begins what the one-thread relay sends there.
 pub record FirstRecords (rules : Rules) (tape first rest : List ℕ) (records : List Record) : Type 0 where
   pub ahead : rules_ahead tape ≡ rules_and rules first
   pub read : IsRecords first records rest
+  pub state : State
+  pub stands : Stands (tape_start rules) state (steps_of rules records)
   pub legal : IsLegal (tape_start rules) (steps_of rules records)
+  pub sends : (c k : ℕ) → BeginsOnLeg (tape_start rules) (steps_of rules records) c k
   pub front : IsFrontOfOutput rules first (output rules records)
 
--- All of the tape's records were played, up to the first place that begins none, and answered.
+-- All of the tape's records were played, up to the first place that begins none, and answered, and
+-- the answers are flushed.
 pub record Played (status : Status) (ending : Ending) (tape : List ℕ) (w : Writes) : Type 0 where
   pub rules : Rules
   pub first : List ℕ
@@ -97,6 +120,7 @@ pub record Played (status : Status) (ending : Ending) (tape : List ℕ) (w : Wri
   pub ends : status_at ending (length tape - length rest) rest ≡ Some status
   pub only : IsOnlyReading first records rest
   pub written : IsWritten w.held (output rules records) w.held_after
+  pub flushed : IsFlushed w
 
 -- The sink failed: a front of the output was written.
 pub record CutOff (status : Status) (tape : List ℕ) (w : Writes) : Type 0 where
@@ -148,9 +172,10 @@ unfoldable pub IsRun : Status → Reads → Writes → Type 0
 IsRun status r w = Finished status r w ⊎ Unread status r w
 
 -- A run of a tape that is rules and these records and nothing else: all is done, and all answers are
--- written, unless memory was wanting.
+-- written and flushed, unless memory was wanting.
 unfoldable pub IsDone : Status → Rules → List Record → Writes → Type 0
-IsDone status rules records w = ((status ≡ Done) × IsWritten w.held (output rules records) w.held_after) ⊎ (status ≡ Memory)
+IsDone status rules records w =
+    ((status ≡ Done) × IsWritten w.held (output rules records) w.held_after × IsFlushed w) ⊎ (status ≡ Memory)
 
 -- What makes a run end so: the source tells a tape that is rules and these records and nothing else, it
 -- isn't too long, and neither source nor sink failed.

@@ -4,31 +4,27 @@
 //! makes the calls, and writes their answers to standard output (docs/FORMATS.md).
 #![tactic(auto)]
 
+mod program;
 mod tape;
+#[cfg(test)]
+mod tests;
 
+use program::{end_program, end_without_words, run_program};
 use std::env;
 use std::process::ExitCode;
-use tape::tape_main;
 use tr_io::standard::{ReaderSource, WriterSink};
-use tr_io::status::Status;
 
-/// The command lines, as the usage text shows them.
-const USAGE: &str = "tape | gen COUNT SEED | serve PATH";
-
+/// Hands the real words, standard input, output and error to `run_program`, and its number on. No
+/// contract covers this function and `command_line`.
 fn main(rt: HostRuntime) -> ExitCode {
-    let status = run(&rt);
-    report(&rt, status);
-    ExitCode::from(status.number())
-}
-
-/// Runs the command line over standard input and output.
-fn run(rt: &HostRuntime) -> Status {
-    let Ok(words) = command_line(rt) else {
-        return Status::Usage;
-    };
     let mut source = ReaderSource::new(rt.stdin());
     let mut sink = WriterSink::new(rt.stdout());
-    tape_main(rt.alloc(), &words, &mut source, &mut sink)
+    let mut errors = WriterSink::new(rt.stderr());
+    let number = match command_line(&rt) {
+        Ok(words) => run_program(rt.alloc(), &words, &mut source, &mut sink, &mut errors),
+        Err(error) => end_program(end_without_words(&error), &mut errors),
+    };
+    ExitCode::from(number)
 }
 
 /// The words after the program's name.
@@ -38,13 +34,4 @@ fn command_line(rt: &HostRuntime) -> std::io::Result<Vec<String>> {
         words.push(word)?;
     }
     Ok(words)
-}
-
-/// Says on standard error how the program ended, unless all was done.
-fn report(rt: &HostRuntime, status: Status) {
-    let _ = match status {
-        Status::Done => Ok(()),
-        Status::Usage => eprintln!(rt; "tor_relay: {status}\n{USAGE}"),
-        _ => eprintln!(rt; "tor_relay: {status}"),
-    };
 }

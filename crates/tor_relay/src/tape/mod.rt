@@ -15,4 +15,5 @@ mod run;
 #[cfg(test)]
 mod tests;
 
+pub use output::write_all;
 pub use run::tape_main;

@@ -27,9 +27,10 @@ pub fn write_all<K: Sink>(piece: &[u8], sink: &mut K) -> Result<(), WriteFault>
     Ok(())
 }
 
-/// Has the sink send on what it took.
+/// Has the sink flush what it took.
 pub fn flush<K: Sink>(sink: &mut K) -> Result<(), WriteFault>
     ensures written { K.written sink.new ≡ K.written sink.old }
+    ensures flushed { OnOk result (K.flushed sink.new ≡ K.written sink.new) }
     ensures counted { K.faults sink.old ≤ K.faults sink.new }
     ensures cause { OnErr result (Rose (K.faults sink.old) (K.faults sink.new)) }
 {

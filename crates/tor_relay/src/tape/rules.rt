@@ -2,8 +2,8 @@
 ghost use Rattle.std.specs.Prelude.{◌≡◌, ◌≤◌};
 ghost use Rattle.tor_spec.specs.CircuitWindow.{circuit_start, least_start};
 
-/// Where the window of a circuit begins unless a tape says otherwise, which is as far as it may (tor-spec,
-/// "Circuit-level flow control").
+/// Where the window of a circuit begins unless a tape says otherwise, which is as far as it may
+/// (tor-spec, "Circuit-level flow control").
 pub const STANDARD_WINDOW: u32 = 1000;
 
 /// The least window that a circuit may begin with.

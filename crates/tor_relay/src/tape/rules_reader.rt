@@ -6,8 +6,8 @@ ghost use Rattle.tor_relay.specs.TapeRules.{tape_rules, rules_and, rules_ahead, 
 use crate::tape::reader::field;
 use crate::tape::rules::{LEAST_WINDOW, RulesFront, STANDARD_WINDOW, TapeRules};
 
-/// Reads the rules at the front of a tape: whatever spells rules is read as them, and what is read as
-/// rules spells them, or says none and has the standard's.
+/// Reads the rules at the front of a tape: whatever spells rules is read as them, and what is read
+/// as rules spells them, or says none and has the standard's.
 #[tactic(auto, using(crate::proofs::RuleSpellings::spelled_is_rules))]
 pub fn read_rules(tape: &[u8]) -> RulesFront<'_>
     ensures front { RulesFrontIs result (rules_ahead tape.now) }

@@ -43,11 +43,11 @@ pub fn tape_main<S: Source, K: Sink>(
     ensures write { result ≡ Status.WriteFault → Rose (K.faults sink.old) (K.faults sink.new) }
     ensures run { is_tape_line (map string_bytes words.now) ≡ true → IsRun result
         (reads (S.left source.old) (S.faults source.old) (S.left source.new) (S.faults source.new))
-        (writes (K.written sink.old) (K.faults sink.old) (K.written sink.new) (K.faults sink.new)) }
+        (writes (K.written sink.old) (K.faults sink.old) (K.written sink.new) (K.flushed sink.new) (K.faults sink.new)) }
     ensures done { is_tape_line (map string_bytes words.now) ≡ true → (tape : List ℕ) (rules : Rules) (records : List Record) → IsGood tape rules records
         (reads (S.left source.old) (S.faults source.old) (S.left source.new) (S.faults source.new))
-        (writes (K.written sink.old) (K.faults sink.old) (K.written sink.new) (K.faults sink.new)) →
-        IsDone result rules records (writes (K.written sink.old) (K.faults sink.old) (K.written sink.new) (K.faults sink.new)) }
+        (writes (K.written sink.old) (K.faults sink.old) (K.written sink.new) (K.flushed sink.new) (K.faults sink.new)) →
+        IsDone result rules records (writes (K.written sink.old) (K.faults sink.old) (K.written sink.new) (K.flushed sink.new) (K.faults sink.new)) }
 {
     if !is_tape_line(words) {
         return Status::Usage;
@@ -73,7 +73,7 @@ fn play<K: Sink>(alloc: Global, input: &Input, sink: &mut K) -> Status
     ensures status { IsRunStatus result }
     ensures read { result ≡ Status.ReadFault → input.now.ending ≡ Ending.Fault }
     ensures write { result ≡ Status.WriteFault → Rose (K.faults sink.old) (K.faults sink.new) }
-    ensures play { EndsPlay result input.now.ending input.now.bytes.items (writes (K.written sink.old) (K.faults sink.old) (K.written sink.new) (K.faults sink.new)) }
+    ensures play { EndsPlay result input.now.ending input.now.bytes.items (writes (K.written sink.old) (K.faults sink.old) (K.written sink.new) (K.flushed sink.new) (K.faults sink.new)) }
 {
     let tape = input.bytes.as_slice();
     match read_rules(tape) {
@@ -97,7 +97,7 @@ fn play_under<K: Sink>(
     ensures status { IsRunStatus result }
     ensures read { result ≡ Status.ReadFault → input.now.ending ≡ Ending.Fault }
     ensures write { result ≡ Status.WriteFault → Rose (K.faults sink.old) (K.faults sink.new) }
-    ensures play { EndsPlay result input.now.ending input.now.bytes.items (writes (K.written sink.old) (K.faults sink.old) (K.written sink.new) (K.faults sink.new)) }
+    ensures play { EndsPlay result input.now.ending input.now.bytes.items (writes (K.written sink.old) (K.faults sink.old) (K.written sink.new) (K.flushed sink.new) (K.faults sink.new)) }
 {
     let Ok(mut player) = Player::new(alloc, rules) else {
         return Status::Memory;
@@ -178,10 +178,11 @@ fn hand_on<K: Sink>(player: &mut Player, sink: &mut K) -> Result<(), WriteFault>
     Ok(())
 }
 
-/// Writes the last answers, and has the sink send on all of them.
+/// Writes the last answers, and has the sink flush all of them.
 fn write_rest<K: Sink>(answers: &[u8], sink: &mut K) -> Result<(), WriteFault>
     ensures counted { K.faults sink.old ≤ K.faults sink.new }
     ensures ok { OnOk result (IsWritten (K.written sink.old) answers.now (K.written sink.new)) }
+    ensures flushed { OnOk result (K.flushed sink.new ≡ K.written sink.new) }
     ensures err { OnErr result (IsPartWritten (K.written sink.old) answers.now (K.written sink.new)) }
     ensures cause { OnErr result (Rose (K.faults sink.old) (K.faults sink.new)) }
 {

@@ -139,8 +139,8 @@ fn one_padded_opening_is_answered(rt: HostRuntime) -> Result<(), Fail> {
     Ok(())
 }
 
-/// A tape with rules in front gives what it gives without them, as long as no circuit packages so many
-/// DATA cells.
+/// A tape with rules in front gives what it gives without them, as long as no circuit packages so
+/// many DATA cells.
 #[test]
 fn rules_have_no_answer(rt: HostRuntime) -> Result<(), Fail> {
     let plain = tape(rt.alloc(), [0x80, 0, 0, 1])?;

@@ -10,7 +10,7 @@ play_records-requires-clause-start g c = made_so _ _ c.in-Ok.ensures.start
 
 pub returns-in-Ok-write_rest-clause-play : goal.returns-in-Ok-write_rest-clause-play
 returns-in-Ok-write_rest-clause-play g c =
-    ends_whole _ _ _ _ _ _ _ _ _ (ahead_of _ _ _ _ c.in-Ok.ensures.start c.requires.ahead) c.in-Ok-play_records.ensures.stopped c.answers.ensures c.in-Ok-write_rest.ensures.ok
+    ends_whole _ _ _ _ _ _ _ _ _ (ahead_of _ _ _ _ c.in-Ok.ensures.start c.requires.ahead) c.in-Ok-play_records.ensures.stopped c.answers.ensures c.in-Ok-write_rest.ensures.ok c.in-Ok-write_rest.ensures.flushed
 
 pub returns-clause-play : goal.returns-clause-play
 returns-clause-play g c =
