@@ -1,0 +1,10 @@
+pub mod AddressText
+pub mod Addresses
+pub mod Keys
+pub mod Lines
+pub mod NumberValues
+pub mod Numbers
+pub mod Rules
+pub mod Settings
+pub mod Types
+pub mod Values
