@@ -1,9 +1,16 @@
-# demo: builds the relay and shows what it answers to one CREATE_FAST cell.
-# test: the merge gate, which proves every crate and runs every test and program.
-.PHONY: demo test
+# demo: proves and builds the relay and shows what it answers to one CREATE_FAST cell.
+# try: shows the same with nothing proved.
+# test: the merge gate. It looks whether all that the documents name stands in the tree, then proves every crate and runs
+# every test and program, and then plays the built relay to each of its ends.
+.PHONY: demo try test
 
 test:
+	.ci/check_names
 	rt ci
+	examples/ends
 
 demo:
 	examples/demo
+
+try:
+	examples/demo unproved
