@@ -11,7 +11,7 @@ use tr_io::names::{ChanNo, CircNo};
 
 /// The legs of all circuits, with their counts.
 ///
-/// Contracts see a finite map from a leg, which its circuit's number and its own name, to its channel,
+/// Contracts see a finite map from a leg, named by its circuit's number and its own, to its channel,
 /// its count at the tick in force, and whether it has something queued. The tick in force is the
 /// greatest that `join` or `pick` was given, and 0 at first; a count is in 65,536ths of a cell.
 #[derive(Drop)]
