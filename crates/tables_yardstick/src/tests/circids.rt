@@ -45,7 +45,7 @@ impl PlainTable {
     }
 }
 
-/// Both find the same at each port.
+/// Both find the same at each CircID of each channel.
 fn compare(rt: &impl Abort, table: &CircuitTable, plain: &PlainTable) {
     for chan in 0..5 {
         for id in 0..40 {
