@@ -33,7 +33,7 @@ abbrev pub reads : Option (List ℕ) → ℕ → Option (List ℕ) → ℕ → R
 reads left faults left_after faults_after =
     record { left = left; faults = faults; left_after = left_after; faults_after = faults_after }
 
--- The same of a sink's, and which of them are flushed after it.
+-- What a sink tells of its bytes and faults, before and after a run, and which bytes are flushed after it.
 pub record Writes : Type 0 where
   pub held : Option (List ℕ)
   pub faults : ℕ

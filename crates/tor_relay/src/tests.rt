@@ -1,4 +1,4 @@
-//! The program's exit number and its words on standard error, for each end but want of memory.
+//! The program's exit number and its words on standard error, for each end but an input that is too long.
 ghost use Rattle.std.specs.Prelude.{◌≤◌};
 
 use crate::program::{end_program, end_without_words, run_program};
