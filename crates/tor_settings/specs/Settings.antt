@@ -73,8 +73,7 @@ pub data BreaksFirst (text : List ℕ) : ℕ → Type 0 where
       → length text ≤ most_bytes → Reads text members → broken_rule members ≡ Some rule
       → BreaksFirst text rule
 
--- A rule is named exactly where it is the first that is broken, and memory wanting only for a text that isn't
--- too long.
+-- A rule that is named is the first that is broken. Memory may be wanting only for a text that isn't too long.
 abbrev pub TellsFault : List ℕ → SettingsFault → Type 0
 TellsFault text (Rule rule) = BreaksFirst text rule
 TellsFault text Memory = length text ≤ most_bytes
