@@ -72,6 +72,7 @@ handshake_reply payload =
 unfoldable pub handshake_reply_payload : List ℕ → List ℕ
 handshake_reply_payload handshake = to_be_bytes w16 (length handshake) ++ handshake
 
+-- The client's half of a handshake as EXTEND2 and CREATE2 carry it: HTYPE (2 bytes), HLEN (2), HDATA (HLEN).
 abbrev pub handshake_request_payload : ℕ → List ℕ → List ℕ
 handshake_request_payload handshake_type handshake = to_be_bytes w16 handshake_type ++ handshake_reply_payload handshake
 
