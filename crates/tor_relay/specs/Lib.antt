@@ -1,11 +1,1 @@
-pub mod Records
-pub mod TapeRules
-pub mod Answers
-pub mod Input
-pub mod Output
-pub mod Causes
-pub mod Steps
-pub mod Runs
-pub mod Playing
-pub mod Spelling
 pub mod Program

@@ -5,10 +5,10 @@ use Rattle.tr_io.specs.declared.status.Status.{Status}
 use Rattle.tr_io.specs.declared.status.Status.TheVariants.{Done, Usage, Settings, ReadFault, WriteFault, BadTape, NotBuilt, TooLong, DoorFault, CrewFault, Memory, LinkRefused, CircuitClosed, StreamEnded}
 use Rattle.tr_io.specs.Faults.{Rose}
 use Rattle.tr_io.specs.Statuses.{status_number, status_text}
-use Rattle.tor_relay.specs.declared.tape.record.Record.{Record}
-use Rattle.tor_relay.specs.Causes.{is_tape_line, IsRunStatus}
-use Rattle.tor_relay.specs.Output.{IsWritten, IsPartWritten}
-use Rattle.tor_relay.specs.Runs.{Reads, Writes, IsRun, IsGood, IsDone}
+use Rattle.tape.specs.declared.record.Record.{Record}
+use Rattle.tape.specs.Causes.{is_tape_line, IsRunStatus}
+use Rattle.tape.specs.Output.{IsWritten, IsPartWritten}
+use Rattle.tape.specs.Runs.{Reads, Writes, IsRun, IsGood, IsDone}
 
 -- The command lines, which are said behind `usage`.
 abbrev pub usage_line : Status → List ℕ

@@ -5,7 +5,6 @@
 #![tactic(auto)]
 
 mod program;
-mod tape;
 #[cfg(test)]
 mod tests;
 

@@ -2,9 +2,9 @@
 ghost use Rattle.std.specs.Prelude.{◌≡◌, ◌⊎◌, ◌≤◌, ◌+◌, ◌++◌, map, length, string_bytes};
 ghost use Rattle.tr_io.specs.Statuses.{number_text};
 ghost use Rattle.tor_relay.specs.Program.{message, end_message, usage_line, IsSaid, Tells, IsProgramRun};
-ghost use Rattle.tor_relay.specs.Runs.{reads, writes};
+ghost use Rattle.tape.specs.Runs.{reads, writes};
 
-use crate::tape::{tape_main, write_all};
+use tape::{tape_main, write_all};
 use arrayvec::ArrayString;
 use itoa::Buffer;
 use std::alloc::Global;

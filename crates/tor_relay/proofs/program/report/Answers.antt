@@ -1,5 +1,5 @@
 use Rattle.std.proofs.Common.{◌∙◌}
-use Rattle.tor_relay.specs.Runs.{Writes, writes}
+use Rattle.tape.specs.Runs.{Writes, writes}
 use Rattle.tor_relay.proofs.Programs.{says_end}
 use Rattle.tor_relay.proofs.program.report.Goals as goal
 

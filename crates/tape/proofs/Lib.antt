@@ -1,0 +1,12 @@
+pub mod Openings
+pub mod InputLaws
+pub mod OutputLaws
+pub mod Words
+pub mod Replies
+pub mod Tapes
+pub mod Readings
+pub mod Plays
+pub mod Turns
+pub mod Spellings
+pub mod Spelled
+pub mod RuleSpellings

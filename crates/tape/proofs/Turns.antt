@@ -1,0 +1,218 @@
+-- The turns of a tape's playing.
+use Rattle.std.proofs.Common.{◌≡◌, inl, inr, ℕ, ◌+◌, ◌-◌, ◌<◌, ◌≤◌, List, [], ◌∷◌, ◌++◌, length, Option, Some, refl, sym, ap, ◌∙◌, subst, append_assoc, arith}
+use Rattle.circuit_model.specs.Rules.{Rules}
+use Rattle.tr_io.specs.Faults.{Rose}
+use Rattle.tr_io.specs.declared.status.Status.{Status}
+use Rattle.tr_io.specs.declared.status.Status.TheVariants.{WriteFault, BadTape, NotBuilt, Memory}
+use Rattle.tr_io.specs.declared.step.Step.{Step}
+use Rattle.switch_core.specs.Started.{Started}
+use Rattle.switch_model.specs.Stands.{Stands}
+use Rattle.switch_model.specs.Start.{Start}
+use Rattle.switch_model.specs.State.{State}
+use Rattle.switch_model.specs.Machine.{new_state}
+use Rattle.switch_model.proofs.Laws.{stands_new}
+use Rattle.tape.specs.declared.input.Ending.{Ending}
+use Rattle.tape.specs.declared.record.Record.{Record}
+use Rattle.tape.specs.Records.{record_and, less, no_record, unbuilt, front_of}
+use Rattle.tape.specs.TapeRules.{rules_and, less_than_rules, no_rules, rules_ahead}
+use Rattle.tape.specs.Steps.{tape_start, answer_of, steps_behind, answers_behind, steps_of, output, IsRecords}
+use Rattle.tape.specs.Output.{IsWritten, IsPartWritten}
+use Rattle.tape.specs.Runs.{cut_status, status_by, status_at, rules_status, Writes, IsFlushed, FirstRecords, EndsPlay}
+use Rattle.tape.specs.Playing.{PlaysOn, HandedOn, Gathered, Stopped, Broken}
+use Rattle.tape.proofs.OutputLaws.{starts_empty, whole_behind, part_behind}
+use Rattle.tape.proofs.Readings.{status_stops, only_reading, first_records}
+use Rattle.tape.proofs.Tapes.{records_more, steps_more, answers_more}
+
+-- What holds at each turn: the switch stands for the steps of the records that were played, of which
+-- there is at most one for each byte.
+pub record Turn (rules : Rules) (tape first rest : List ℕ) (made : Start) (state : State) (answers : List ℕ) (held now : Option (List ℕ)) (faults faults_now : ℕ) : Type 0 where
+  pub counted : faults ≤ faults_now
+  pub paid : state.steps + length rest ≤ length tape
+  pub start : made ≡ tape_start rules
+  pub records : List Record
+  pub stands : Stands (tape_start rules) state (steps_of rules records)
+  pub gathered : Gathered rules first rest records answers held now
+
+pub first_turn : (rules : Rules) (tape first : List ℕ) (start : Start) (state : State) (answers : List ℕ) (held : Option (List ℕ)) (faults : ℕ) → length first ≤ length tape → start ≡ tape_start rules → state ≡ new_state → answers ≡ [] →
+    Turn rules tape first first start state answers held held faults faults
+unfolding IsRecords answers_behind steps_behind
+first_turn rules tape first start state answers held faults within started new none = record {
+  counted = omega arith;
+  paid = (let zero : state.steps ≡ 0 = ap (λ s. s.steps) new in omega (arith, zero, within));
+  start = started;
+  records = [];
+  stands = stands_new (tape_start rules) state new;
+  gathered = record { read = refl; handed = record { piece = []; written = starts_empty held; whole = none } };
+}
+
+-- A record was played.
+pub played_more : (rules : Rules) (first rest behind : List ℕ) (records : List Record) (r : Record) (answers more : List ℕ) (h : List Step) (old new : State) (held now : Option (List ℕ)) → h ≡ steps_of rules records → Stands (tape_start rules) old h → PlaysOn rules r old new answers more →
+    front_of rest ≡ record_and r behind → Gathered rules first rest records answers held now → Gathered rules first behind (records ++ r ∷ []) more held now
+played_more rules first rest behind records r answers more h old new held now is stands plays front gathered = record {
+  read = records_more first records rest behind r gathered.read front;
+  handed = record {
+    piece = gathered.handed.piece;
+    written = gathered.handed.written;
+    whole =
+        ap (λ xs. gathered.handed.piece ++ xs) (plays.answer h stands)
+        ∙ sym (append_assoc gathered.handed.piece answers (answer_of rules h r))
+        ∙ ap (λ xs. xs ++ answer_of rules h r) gathered.handed.whole
+        ∙ ap (λ x. output rules records ++ answer_of rules x r) is
+        ∙ sym (answers_more rules [] records r);
+  };
+}
+
+pub stands_more : (rules : Rules) (records : List Record) (r : Record) (answers more : List ℕ) (old new : State) → Stands (tape_start rules) old (steps_of rules records) → PlaysOn rules r old new answers more → Stands (tape_start rules) new (steps_of rules (records ++ r ∷ []))
+stands_more rules records r answers more old new stands plays =
+    subst (λ h. Stands (tape_start rules) new h) (sym (steps_more rules [] records r)) (plays.stands (steps_of rules records) stands)
+
+-- Answers were handed on.
+pub handed_more : (rules : Rules) (first rest : List ℕ) (records : List Record) (answers left : List ℕ) (held now after : Option (List ℕ)) → Gathered rules first rest records answers held now → HandedOn answers left now after → Gathered rules first rest records left held after
+handed_more rules first rest records answers left held now after gathered handed = record {
+  read = gathered.read;
+  handed = record {
+    piece = gathered.handed.piece ++ handed.piece;
+    written = whole_behind held now after gathered.handed.piece handed.piece _ gathered.handed.written handed.written refl;
+    whole =
+        append_assoc gathered.handed.piece handed.piece left
+        ∙ ap (λ xs. gathered.handed.piece ++ xs) handed.whole
+        ∙ gathered.handed.whole;
+  };
+}
+
+-- The sink failed in the midst.
+pub breaks : (rules : Rules) (first rest : List ℕ) (records : List Record) (state : State) (answers : List ℕ) (held now after : Option (List ℕ)) (faults faults_now : ℕ) → Stands (tape_start rules) state (steps_of rules records) → Gathered rules first rest records answers held now → IsPartWritten now answers after → Rose faults faults_now → Broken rules first held after faults faults_now
+breaks rules first rest records state answers held now after faults faults_now stands gathered part rose = record {
+  cause = rose;
+  records = records;
+  rest = rest;
+  state = state;
+  stands = stands;
+  read = gathered.read;
+  written = part_behind held now after gathered.handed.piece answers (output rules records) gathered.handed.written part gathered.handed.whole;
+}
+
+-- A switch that was made for a tape's rules has them.
+pub made_so : (rules : Rules) (made : Start) → made ≡ tape_start rules → made ≡ tape_start made.rules
+made_so rules made is = is ∙ ap (λ (s : Start). tape_start s.rules) (sym is)
+
+played_under : (rules : Rules) (made : Start) (r : Record) (old new : State) (answers more : List ℕ) → made ≡ tape_start rules → PlaysOn made.rules r old new answers more → PlaysOn rules r old new answers more
+played_under rules made r old new answers more is plays = subst (λ (s : Start). PlaysOn s.rules r old new answers more) is plays
+
+-- The next turn.
+pub next_turn : (rules : Rules) (tape first rest behind : List ℕ) (made made_now : Start) (old new : State) (r : Record) (answers more left : List ℕ) (held now after : Option (List ℕ)) (faults faults_now faults_after : ℕ) → Turn rules tape first rest made old answers held now faults faults_now →
+    record_and r behind ≡ front_of rest → length behind < length rest → PlaysOn made.rules r old new answers more → made_now ≡ made → new.steps ≤ old.steps + 1 → HandedOn more left now after → faults_now ≤ faults_after →
+    Turn rules tape first behind made_now new left held after faults faults_after
+next_turn rules tape first rest behind made made_now old new r answers more left held now after faults faults_now faults_after turn front shorter plays started step handed counted = record {
+  counted = omega (arith, turn.counted, counted);
+  paid = omega (arith, turn.paid, shorter, step);
+  start = started ∙ turn.start;
+  records = turn.records ++ r ∷ [];
+  stands = stands_more rules turn.records r answers more old new turn.stands (played_under rules made r old new answers more turn.start plays);
+  gathered = handed_more rules first behind (turn.records ++ r ∷ []) more left held now after
+      (played_more rules first rest behind turn.records r answers more (steps_of rules turn.records) old new held now refl turn.stands (played_under rules made r old new answers more turn.start plays) (sym front) turn.gathered)
+      handed;
+}
+
+-- The same turn by what the switch was equal to.
+pub turn_of : (rules : Rules) (a b : Started) (tape first rest : List ℕ) (answers : List ℕ) (held now : Option (List ℕ)) (faults faults_now : ℕ) → a ≡ b → Turn rules tape first rest b.start b.state answers held now faults faults_now → Turn rules tape first rest a.start a.state answers held now faults faults_now
+turn_of rules a b tape first rest answers held now faults faults_now is turn =
+    subst (λ s. Turn rules tape first rest s.start s.state answers held now faults faults_now) (sym is) turn
+
+-- A turn in which the sink fails.
+pub turn_breaks : (rules : Rules) (tape first rest behind : List ℕ) (made : Start) (old new : State) (r : Record) (answers more : List ℕ) (held now after : Option (List ℕ)) (faults faults_now faults_after : ℕ) → Turn rules tape first rest made old answers held now faults faults_now →
+    record_and r behind ≡ front_of rest → PlaysOn made.rules r old new answers more → IsPartWritten now more after → Rose faults_now faults_after → Broken rules first held after faults faults_after
+turn_breaks rules tape first rest behind made old new r answers more held now after faults faults_now faults_after turn front plays part rose =
+    breaks rules first behind (turn.records ++ r ∷ []) new more held now after faults faults_after
+    (stands_more rules turn.records r answers more old new turn.stands (played_under rules made r old new answers more turn.start plays))
+    (played_more rules first rest behind turn.records r answers more (steps_of rules turn.records) old new held now refl turn.stands (played_under rules made r old new answers more turn.start plays) (sym front) turn.gathered)
+    part (omega (arith, turn.counted, rose))
+
+-- The status at a place that begins no record which is built.
+pub cut_at : (ending : Ending) (tape rest : List ℕ) (status : Status) → less ≡ front_of rest → status ≡ cut_status ending (length tape - length rest) rest → status_at ending (length tape - length rest) rest ≡ Some status
+unfolding status_at
+cut_at ending tape rest status front is = ap (status_by ending (length tape - length rest) rest) (sym front) ∙ ap Some (sym is)
+
+pub bad_at : (ending : Ending) (tape rest : List ℕ) (place : ℕ) → place ≡ length tape - length rest → no_record ≡ front_of rest → status_at ending (length tape - length rest) rest ≡ Some (BadTape place)
+unfolding status_at
+bad_at ending tape rest place at front = ap (status_by ending (length tape - length rest) rest) (sym front) ∙ ap (λ p. Some (BadTape p)) (sym at)
+
+pub unbuilt_at : (ending : Ending) (tape rest : List ℕ) (kind : ℕ) → unbuilt kind ≡ front_of rest → status_at ending (length tape - length rest) rest ≡ Some (NotBuilt kind)
+unfolding status_at
+unbuilt_at ending tape rest kind front = ap (status_by ending (length tape - length rest) rest) (sym front)
+
+pub stops : (rules : Rules) (status : Status) (ending : Ending) (tape first rest : List ℕ) (made : Start) (state : State) (answers : List ℕ) (held now : Option (List ℕ)) (faults faults_now : ℕ) → Turn rules tape first rest made state answers held now faults faults_now →
+    status_at ending (length tape - length rest) rest ≡ Some status → Stopped rules status ending tape first answers held now
+stops rules status ending tape first rest made state answers held now faults faults_now turn at =
+    record { records = turn.records; rest = rest; state = state; stands = turn.stands; gathered = turn.gathered; cause = inl at }
+
+pub stops_short : (rules : Rules) (status : Status) (ending : Ending) (tape first rest : List ℕ) (made : Start) (state : State) (answers : List ℕ) (held now : Option (List ℕ)) (faults faults_now : ℕ) → Turn rules tape first rest made state answers held now faults faults_now →
+    status ≡ Memory → Stopped rules status ending tape first answers held now
+stops_short rules status ending tape first rest made state answers held now faults faults_now turn memory =
+    record { records = turn.records; rest = rest; state = state; stands = turn.stands; gathered = turn.gathered; cause = inr memory }
+
+-- The rules that a tape says are those of the switch that was made for them.
+pub ahead_of : (rules : Rules) (made : Start) (tape first : List ℕ) → made ≡ tape_start rules → rules_and rules first ≡ rules_ahead tape → rules_ahead tape ≡ rules_and made.rules first
+ahead_of rules made tape first is ahead = sym ahead ∙ ap (λ (s : Start). rules_and s.rules first) (sym is)
+
+-- How the playing ends, once the last answers are written or the sink failed.
+pub ends_whole : (rules : Rules) (status : Status) (ending : Ending) (tape first answers last : List ℕ) (now : Option (List ℕ)) (w : Writes) → rules_ahead tape ≡ rules_and rules first → Stopped rules status ending tape first answers w.held now → last ≡ answers → IsWritten now last w.held_after → IsFlushed w → EndsPlay status ending tape w
+ends_whole rules status ending tape first answers last now w ahead stopped all written_last flushed =
+    let written : IsWritten now answers w.held_after = subst (λ xs. IsWritten now xs w.held_after) all written_last in
+    let out : IsWritten w.held (output rules stopped.records) w.held_after =
+    whole_behind w.held now w.held_after stopped.gathered.handed.piece answers (output rules stopped.records) stopped.gathered.handed.written written stopped.gathered.handed.whole in
+    let read : FirstRecords rules tape first stopped.rest stopped.records = first_records rules tape first stopped.rest stopped.records stopped.state ahead stopped.gathered.read stopped.stands in
+    elim stopped.cause [
+      | inl at ↦ inl (record {
+        rules = rules;
+        first = first;
+        records = stopped.records;
+        rest = stopped.rest;
+        read = read;
+        ends = at;
+        only = only_reading first stopped.records stopped.rest stopped.gathered.read (status_stops ending (length tape - length stopped.rest) stopped.rest status at);
+        written = out;
+        flushed = flushed;
+      })
+      | inr memory ↦ inr (inr (inl (record { is = memory; rules = rules; first = first; records = stopped.records; rest = stopped.rest; read = read; written = out })))
+    ]
+
+pub ends_cut : (rules : Rules) (status : Status) (ending : Ending) (tape first : List ℕ) (w : Writes) → rules_ahead tape ≡ rules_and rules first → status ≡ WriteFault → Broken rules first w.held w.held_after w.faults w.faults_after → EndsPlay status ending tape w
+ends_cut rules status ending tape first w ahead is broken = inr (inl (record {
+  is = is;
+  cause = broken.cause;
+  rules = rules;
+  first = first;
+  records = broken.records;
+  rest = broken.rest;
+  read = first_records rules tape first broken.rest broken.records broken.state ahead broken.read broken.stands;
+  written = broken.written;
+}))
+
+pub ends_broken : (rules : Rules) (status : Status) (ending : Ending) (tape first answers last : List ℕ) (now : Option (List ℕ)) (w : Writes) → rules_ahead tape ≡ rules_and rules first → Stopped rules status ending tape first answers w.held now → last ≡ answers → IsPartWritten now last w.held_after → Rose w.faults w.faults_after → EndsPlay WriteFault ending tape w
+ends_broken rules status ending tape first answers last now w ahead stopped all part rose =
+    ends_cut rules WriteFault ending tape first w ahead refl
+    (breaks rules first stopped.rest stopped.records stopped.state answers w.held now w.held_after w.faults w.faults_after stopped.stands stopped.gathered
+    (subst (λ xs. IsPartWritten now xs w.held_after) all part) rose)
+
+-- Memory was wanting before the first record.
+pub ends_early : (rules : Rules) (ending : Ending) (tape first : List ℕ) (w : Writes) → rules_ahead tape ≡ rules_and rules first → w.held_after ≡ w.held → EndsPlay Memory ending tape w
+unfolding IsRecords answers_behind steps_behind
+ends_early rules ending tape first w ahead same = inr (inr (inl (record {
+  is = refl;
+  rules = rules;
+  first = first;
+  records = [];
+  rest = first;
+  read = first_records rules tape first first [] new_state ahead refl (stands_new (tape_start rules) new_state refl);
+  written = subst (λ o. IsWritten w.held [] o) (sym same) (starts_empty w.held);
+})))
+
+-- The tape's rules are cut, or are none.
+pub ends_cut_short : (status : Status) (ending : Ending) (tape : List ℕ) (w : Writes) → less_than_rules ≡ rules_ahead tape → status ≡ cut_status ending 0 tape → w.held_after ≡ w.held → EndsPlay status ending tape w
+ends_cut_short status ending tape w front is same =
+    inr (inr (inr (record { ends = ap (rules_status ending tape) (sym front) ∙ ap Some (sym is); held = same })))
+
+pub ends_ruleless : (ending : Ending) (tape : List ℕ) (w : Writes) → no_rules ≡ rules_ahead tape → w.held_after ≡ w.held → EndsPlay (BadTape 0) ending tape w
+ends_ruleless ending tape w front same =
+    inr (inr (inr (record { ends = ap (rules_status ending tape) (sym front); held = same })))

@@ -1,0 +1,50 @@
+-- What holds while the records of a tape, from its first one on, are played under its rules.
+use Rattle.std.specs.Prelude.{◌≡◌, ◌⊎◌, ℕ, ◌-◌, List, ◌∷◌, ◌++◌, length, Option, Some}
+use Rattle.circuit_model.specs.Rules.{Rules}
+use Rattle.tr_io.specs.declared.status.Status.{Status}
+use Rattle.tr_io.specs.declared.status.Status.TheVariants.{Memory}
+use Rattle.tr_io.specs.Faults.{Rose}
+use Rattle.tr_io.specs.declared.step.Step.{Step}
+use Rattle.switch_model.specs.State.{State}
+use Rattle.switch_model.specs.Stands.{Stands}
+use Rattle.tape.specs.declared.input.Ending.{Ending}
+use Rattle.tape.specs.declared.record.Record.{Record}
+use Rattle.tape.specs.Steps.{tape_start, step_of, steps_of, answer_of, output, IsRecords}
+use Rattle.tape.specs.Output.{IsWritten, IsPartWritten}
+use Rattle.tape.specs.Runs.{status_at}
+
+-- Whatever history the switch stood for, it stands for it with the record's step, whose answer is
+-- behind the others.
+pub record PlaysOn (rules : Rules) (r : Record) (old new : State) (answers more : List ℕ) : Type 0 where
+  pub stands : (h : List Step) → Stands (tape_start rules) old h → Stands (tape_start rules) new (step_of rules h r ∷ h)
+  pub answer : (h : List Step) → Stands (tape_start rules) old h → more ≡ answers ++ answer_of rules h r
+
+-- The front of the answers was written, and the others are left.
+pub record HandedOn (answers left : List ℕ) (held now : Option (List ℕ)) : Type 0 where
+  pub piece : List ℕ
+  pub written : IsWritten held piece now
+  pub whole : piece ++ left ≡ answers
+
+-- These records were played: their answers are written, but for those that are gathered.
+pub record Gathered (rules : Rules) (first rest : List ℕ) (records : List Record) (answers : List ℕ) (held now : Option (List ℕ)) : Type 0 where
+  pub read : IsRecords first records rest
+  pub handed : HandedOn (output rules records) answers held now
+
+-- The playing stopped at a place that begins no record which is built, or for want of memory.
+pub record Stopped (rules : Rules) (status : Status) (ending : Ending) (tape first answers : List ℕ) (held now : Option (List ℕ)) : Type 0 where
+  pub records : List Record
+  pub rest : List ℕ
+  pub state : State
+  pub stands : Stands (tape_start rules) state (steps_of rules records)
+  pub gathered : Gathered rules first rest records answers held now
+  pub cause : (status_at ending (length tape - length rest) rest ≡ Some status) ⊎ (status ≡ Memory)
+
+-- The playing stopped at a fault of the sink.
+pub record Broken (rules : Rules) (first : List ℕ) (held now : Option (List ℕ)) (faults faults_now : ℕ) : Type 0 where
+  pub cause : Rose faults faults_now
+  pub records : List Record
+  pub rest : List ℕ
+  pub state : State
+  pub stands : Stands (tape_start rules) state (steps_of rules records)
+  pub read : IsRecords first records rest
+  pub written : IsPartWritten held (output rules records) now

@@ -1,0 +1,65 @@
+-- The records of a tape as steps of a switch, and the answers that are written.
+use Rattle.std.specs.Prelude.{◌≡◌, ℕ, List, [], ◌∷◌, ◌++◌, Option}
+use Rattle.hop_handshake.specs.declared.opening.Opening.{Opening}
+use Rattle.hop_handshake.specs.Fast.{fast_rule}
+use Rattle.hop_handshake.specs.Opening.{cell_with, opening_under}
+use Rattle.circuit_model.specs.Rules.{Rules}
+use Rattle.tr_io.specs.declared.step.Step.{Step}
+use Rattle.tr_io.specs.declared.step.Step.TheVariants as Steps
+use Rattle.switch_model.specs.Start.{Start}
+use Rattle.switch_model.specs.ChannelAnswers.{channel_up_answer}
+use Rattle.switch_model.specs.CircuitAnswers.{open_answer}
+use Rattle.switch_model.specs.SendAnswers.{next_cell_answer}
+use Rattle.tape.specs.declared.record.CircuitRequest.{CircuitRequest}
+use Rattle.tape.specs.declared.record.Record.{Record}
+use Rattle.tape.specs.declared.record.Record.TheVariants.{ChannelUp, OpenCircuit, NextCell}
+use Rattle.tape.specs.Records.{record_and, front_of}
+use Rattle.tape.specs.Spelling.{command_byte, opening_kind}
+use Rattle.tape.specs.Answers.{up_bytes, open_bytes, next_bytes}
+
+-- The switch that a tape is played on: its name is 0.
+abbrev pub tape_start : Rules → Start
+tape_start rules = record { name = 0; rules = rules }
+
+-- What a cell that asks for a circuit comes to under the relay's Y, where CREATE2 carries the
+-- handshake of CREATE_FAST.
+abbrev pub opening_for : CircuitRequest → List ℕ → Option (List ℕ) → Opening
+opening_for request y pad = opening_under fast_rule y pad (cell_with request.id (command_byte request.command) request.payload)
+
+-- The step that a record makes behind these steps, newest first: its call with the right answer.
+abbrev pub step_of : Rules → List Step → Record → Step
+step_of rules h (ChannelUp slot side) = Steps.ChannelUp slot side (channel_up_answer h)
+step_of rules h (OpenCircuit chan y pad request) =
+    Steps.OpenCircuit chan request.id (opening_for request y pad).reply (opening_for request y pad).keys (opening_for request y pad).pad
+    (open_answer rules h chan.0 request.id (opening_for request y pad).keys)
+step_of rules h (NextCell chan tick) = Steps.NextCell chan tick (next_cell_answer rules h chan.0 tick)
+
+-- How that answer is written.
+abbrev pub answer_of : Rules → List Step → Record → List ℕ
+answer_of rules h (ChannelUp slot side) = up_bytes (channel_up_answer h)
+answer_of rules h (OpenCircuit chan y pad request) =
+    open_bytes (opening_kind pad) (open_answer rules h chan.0 request.id (opening_for request y pad).keys)
+answer_of rules h (NextCell chan tick) = next_bytes (next_cell_answer rules h chan.0 tick)
+
+-- The steps of records behind these steps, newest first.
+unfoldable pub steps_behind : Rules → List Step → List Record → List Step
+steps_behind rules h [] = h
+steps_behind rules h (r ∷ more) = steps_behind rules (step_of rules h r ∷ h) more
+
+-- Their answers, one after another.
+unfoldable pub answers_behind : Rules → List Step → List Record → List ℕ
+answers_behind rules h [] = []
+answers_behind rules h (r ∷ more) = answer_of rules h r ++ answers_behind rules (step_of rules h r ∷ h) more
+
+-- The steps of a tape's records, newest first, and all of its output.
+abbrev pub steps_of : Rules → List Record → List Step
+steps_of rules records = steps_behind rules [] records
+
+abbrev pub output : Rules → List Record → List ℕ
+output rules records = answers_behind rules [] records
+
+-- The bytes are these records, one after another, and then the rest.
+unfoldable pub IsRecords : List ℕ → List Record → List ℕ → Type 0
+IsRecords bytes [] rest = bytes ≡ rest
+IsRecords bytes (r ∷ more) rest =
+    (behind : List ℕ) × ((front_of bytes ≡ record_and r behind) × IsRecords behind more rest)

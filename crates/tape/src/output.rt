@@ -1,0 +1,41 @@
+//! Writes whole pieces to a sink.
+ghost use Rattle.std.specs.Prelude.{◌≡◌, ◌≤◌, OnOk, OnErr};
+ghost use Rattle.tr_io.specs.Faults.{Rose};
+ghost use Rattle.tape.specs.Output.{IsWritten, IsPartWritten};
+
+use tr_io::sink::{Sink, WriteAnswer};
+
+/// A sink failed.
+#[derive(Clone, Copy)]
+pub struct WriteFault;
+
+/// Writes all of a piece, as the sink takes it. Where the sink fails, the front of the piece is
+/// written.
+pub fn write_all<K: Sink>(piece: &[u8], sink: &mut K) -> Result<(), WriteFault>
+    ensures ok { OnOk result (IsWritten (K.written sink.old) piece.now (K.written sink.new)) }
+    ensures err { OnErr result (IsPartWritten (K.written sink.old) piece.now (K.written sink.new)) }
+    ensures counted { K.faults sink.old ≤ K.faults sink.new }
+    ensures cause { OnErr result (Rose (K.faults sink.old) (K.faults sink.new)) }
+{
+    let mut left = piece;
+    while !left.is_empty() {
+        match sink.write(left) {
+            WriteAnswer::Took(count) => left = &left[count..],
+            WriteAnswer::Failed => return Err(WriteFault),
+        }
+    }
+    Ok(())
+}
+
+/// Has the sink flush what it took.
+pub fn flush<K: Sink>(sink: &mut K) -> Result<(), WriteFault>
+    ensures written { K.written sink.new ≡ K.written sink.old }
+    ensures flushed { OnOk result (K.flushed sink.new ≡ K.written sink.new) }
+    ensures counted { K.faults sink.old ≤ K.faults sink.new }
+    ensures cause { OnErr result (Rose (K.faults sink.old) (K.faults sink.new)) }
+{
+    match sink.flush() {
+        WriteAnswer::Took(_) => Ok(()),
+        WriteAnswer::Failed => Err(WriteFault),
+    }
+}

@@ -1,0 +1,121 @@
+//! Makes the calls of a tape's records, and gathers their answers.
+ghost use Rattle.std.specs.Prelude.{◌≡◌, ◌+◌, ◌<◌, ◌≤◌, ◌^◌, [], IfOk, OnOk, OnErr};
+ghost use Rattle.circ_relay.specs.Values.{rules_of};
+ghost use Rattle.switch_model.specs.Machine.{new_state};
+ghost use Rattle.tape.specs.Playing.{PlaysOn};
+ghost use Rattle.tape.specs.Spelling.{opening_kind};
+ghost use Rattle.tape.specs.Steps.{tape_start};
+ghost use Rattle.tape.specs.TapeRules.{tape_rules};
+
+use crate::answers::{write_next, write_open, write_up};
+use crate::record::Record;
+use crate::rules::TapeRules;
+use cell_codec::{Body, Bytes, Cell, List};
+use circ_relay::{Allow, Rules};
+use hop_handshake::{FastHandshake, opening_of};
+use std::alloc::{AllocError, Global};
+use switch_core::Switch;
+use tr_io::answers::{OpenAnswer, UpAnswer};
+use tr_io::names::Dest;
+
+/// A switch that a tape is played on, and the answers that aren't written yet.
+#[derive(Drop)]
+pub struct Player {
+    alloc: Global,
+    switch: Switch,
+    answers: Vec<u8>,
+}
+
+impl Player {
+    /// A player over the tape's switch: its name is 0, and it has the tape's rules.
+    pub fn new(alloc: Global, rules: &TapeRules) -> Result<Player, AllocError>
+        ensures start { IfOk result (λ p. p.switch.start ≡ tape_start (tape_rules rules.now.window rules.now.least)) }
+        ensures state { IfOk result (λ p. p.switch.state ≡ new_state) }
+        ensures answers { IfOk result (λ p. p.answers.items ≡ []) }
+    {
+        Ok(Player {
+            alloc,
+            switch: Switch::new(alloc, 0, switch_rules(alloc, rules)?)?,
+            answers: Vec::new(alloc),
+        })
+    }
+
+    /// The answers that aren't written yet.
+    pub fn answers(&self) -> &[u8]
+        ensures { result.now ≡ self.now.answers.items }
+    {
+        self.answers.as_slice()
+    }
+
+    /// Forgets the answers, once they are written.
+    pub fn forget_answers(&mut self)
+        ensures switch { self.new.switch ≡ self.old.switch }
+        ensures answers { self.new.answers.items ≡ [] }
+    {
+        self.answers.clear();
+    }
+
+    /// Makes a record's call, and gathers its answer. Where memory is wanting, the answers before
+    /// it stay.
+    pub fn play(&mut self, record: Record) -> Result<(), AllocError>
+        requires start { self.old.switch.start ≡ tape_start self.old.switch.start.rules }
+        requires steps { self.old.switch.state.steps < 2 ^ 62 }
+        ensures start { self.new.switch.start ≡ self.old.switch.start }
+        ensures steps { self.new.switch.state.steps ≤ self.old.switch.state.steps + 1 }
+        ensures ok { OnOk result (PlaysOn self.old.switch.start.rules «record» self.old.switch.state self.new.switch.state self.old.answers.items self.new.answers.items) }
+        ensures err { OnErr result (self.new.answers.items ≡ self.old.answers.items) }
+    {
+        match record {
+            Record::ChannelUp(slot, side) => match self.switch.channel_up(slot, side) {
+                UpAnswer::Memory => Err(AllocError),
+                answer => write_up(answer, &mut self.answers),
+            },
+            Record::OpenCircuit(chan, y, pad, request) => {
+                let cell = Cell {
+                    circ: request.id,
+                    command: request.command.byte(),
+                    body: Body::Fixed(request.payload),
+                };
+                let opening = opening_of(self.alloc, &cell, &FastHandshake, &y, pad)?;
+                match self.switch.open_circuit(chan, cell.circ, &opening) {
+                    OpenAnswer::Memory => Err(AllocError),
+                    answer => write_open(opening_kind(pad), answer, &mut self.answers),
+                }
+            }
+            Record::NextCell(chan, tick) => {
+                let answer = self.switch.next_cell(chan, tick);
+                write_next(&answer, &mut self.answers)
+            }
+        }
+    }
+}
+
+/// The kind of an opening's record, with or without a key of the padding.
+fn opening_kind(pad: Option<[u8; 16]>) -> u8
+    ensures { result ≡ opening_kind pad }
+{
+    match pad {
+        Some(_) => 0x0f,
+        None => 0x03,
+    }
+}
+
+/// The switch's rules: those of the tape, and `echo.test`, port 7, leads to 127.0.0.1, port 7.
+fn switch_rules(alloc: Global, rules: &TapeRules) -> Result<Rules, AllocError>
+    ensures { IfOk result (λ r. rules_of r ≡ tape_rules rules.now.window rules.now.least) }
+{
+    let mut allow = List::new(alloc);
+    allow.push(Allow {
+        host: Bytes::of(alloc, b"echo.test")?,
+        port: 7,
+        to: Dest {
+            ip: [127, 0, 0, 1],
+            port: 7,
+        },
+    })?;
+    Ok(Rules {
+        allow,
+        window: rules.window,
+        least: rules.least,
+    })
+}

@@ -1,0 +1,65 @@
+//! The records of a tape.
+ghost use Rattle.std.specs.Prelude.{◌≡◌, IsTrue};
+ghost use Rattle.tor_spec.specs.CellCommands.{asks_for_circuit};
+ghost use Rattle.tape.specs.Spelling.{command_byte};
+
+use cell_codec::command::{CREATE, CREATE_FAST, CREATE2};
+use tr_io::names::{ChanNo, Side};
+
+/// The commands that ask for a circuit (tor-spec, "Cell format").
+#[derive(Clone, Copy)]
+pub enum CreateCommand {
+    Create,
+    CreateFast,
+    Create2,
+}
+
+impl CreateCommand {
+    /// 1, 5 or 10.
+    pub fn byte(self) -> u8
+        ensures byte { result ≡ command_byte self }
+        ensures asks { IsTrue (asks_for_circuit result) }
+    {
+        match self {
+            CreateCommand::Create => CREATE,
+            CreateCommand::CreateFast => CREATE_FAST,
+            CreateCommand::Create2 => CREATE2,
+        }
+    }
+}
+
+/// A fixed cell that asks for a circuit.
+#[derive(Drop)]
+pub struct CircuitRequest {
+    /// The CircID.
+    pub id: u32,
+    /// The command.
+    pub command: CreateCommand,
+    /// The payload.
+    pub payload: [u8; 509],
+}
+
+/// A record: a call of the switch, with its arguments.
+#[derive(Drop)]
+pub enum Record {
+    /// `channel_up`: the slot, and the side that opened the connection.
+    ChannelUp(u32, Side),
+    /// `open_circuit`: the channel, the relay's Y, the key of the padding, if there is one, and the
+    /// cell that asks for the circuit.
+    OpenCircuit(ChanNo, [u8; 20], Option<[u8; 16]>, CircuitRequest),
+    /// `next_cell`: the channel, the tick.
+    NextCell(ChanNo, u64),
+}
+
+/// What the bytes of a tape begin with.
+#[derive(Drop)]
+pub enum Front<'a> {
+    /// A whole record, and the bytes behind it.
+    Whole(Record, &'a [u8]),
+    /// Less than a record, as far as the bytes go.
+    Cut,
+    /// Bytes that begin no record.
+    Bad,
+    /// A record of this kind, which isn't built.
+    NotBuilt(u8),
+}

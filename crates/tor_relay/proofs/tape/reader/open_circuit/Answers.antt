@@ -1,6 +1,0 @@
-use Rattle.std.proofs.Common.{arith}
-use Rattle.tor_relay.proofs.Openings.{cut_opening}
-use Rattle.tor_relay.proofs.tape.reader.open_circuit.Goals as goal
-
-pub returns-in-None-clause-front : goal.returns-in-None-clause-front
-returns-in-None-clause-front c = cut_opening _ _ 28 c.args.fields.now (omega (arith, c.in-None.ensures.cases))
