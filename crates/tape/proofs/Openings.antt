@@ -4,7 +4,8 @@ use Rattle.std.proofs.lemmas.Bool.{le-ltb, lt-ltb}
 use Rattle.std.proofs.lemmas.List.{drop-drop}
 use Rattle.tape.specs.declared.record.CreateCommand.{CreateCommand}
 use Rattle.tape.specs.declared.record.Front.{Front}
-use Rattle.tape.specs.Records.{record_and, less, FrontIs, field, opening_front, padded_circuit_front, open_circuit_record, front_with_command, command_of}
+use Rattle.tape.specs.Fronts.{record_and, less, FrontIs, field}
+use Rattle.tape.specs.Kinds.OpenCircuit.{opening_front, padded_circuit_front, open_circuit_record, front_with_command, command_of}
 
 -- The front where the fields end before a cell's command.
 pub cut_opening : (head : List ℕ) (pad : Option (List ℕ)) (place : ℕ) (fields : List ℕ) → length fields < place + 5 → less ≡ opening_front head pad (drop place fields)

@@ -19,10 +19,13 @@ use Rattle.switch_model.specs.State.{State}
 use Rattle.tape.specs.declared.record.CircuitRequest.{CircuitRequest}
 use Rattle.tape.specs.declared.record.Record.{Record}
 use Rattle.tape.specs.declared.record.Record.TheVariants.{ChannelUp, OpenCircuit, NextCell}
-use Rattle.tape.specs.Spelling.{command_byte, opening_kind}
-use Rattle.tape.specs.Answers.{up_bytes, open_bytes, next_bytes}
+use Rattle.tape.specs.Kinds.OpenCircuit.{command_byte, opening_kind}
+use Rattle.tape.specs.Kinds.ChannelUp.{up_bytes}
+use Rattle.tape.specs.Kinds.OpenCircuit.{open_bytes}
+use Rattle.tape.specs.Kinds.NextCell.{next_bytes}
 use Rattle.tape.specs.Playing.{PlaysOn}
-use Rattle.tape.specs.Steps.{tape_start, opening_for}
+use Rattle.tape.specs.Steps.{tape_start}
+use Rattle.tape.specs.Kinds.OpenCircuit.{opening_for}
 
 -- An answer other than Memory has the second fact.
 up_second : (P Q : Type 0) (a : UpAnswer) → (a ≡ UpAnswer.Memory → ⊥) → UpCase a P Q → Q

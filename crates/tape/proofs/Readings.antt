@@ -10,7 +10,8 @@ use Rattle.switch_model.proofs.Prefix.{sent_prefix}
 use Rattle.tape.specs.declared.input.Ending.{Ending}
 use Rattle.tape.specs.declared.input.Ending.TheVariants.{End, Fault, Limit}
 use Rattle.tape.specs.declared.record.Record.{Record}
-use Rattle.tape.specs.Records.{record_and, front_of}
+use Rattle.tape.specs.Fronts.{record_and}
+use Rattle.tape.specs.Records.{front_of}
 use Rattle.tape.specs.TapeRules.{rules_and, rules_ahead}
 use Rattle.tape.specs.Steps.{tape_start, steps_of, IsRecords, output}
 use Rattle.tape.specs.Input.{EndCause, IsRead, NothingLeft, IsTape}

@@ -9,7 +9,7 @@ use Rattle.circuit_model.specs.Rules.{Rules}
 use Rattle.tor_spec.specs.CellStream.{IsBytes}
 use Rattle.tor_spec.specs.CircuitWindow.{circuit_start, least_start}
 use Rattle.tape.specs.declared.rules.RulesFront.{RulesFront}
-use Rattle.tape.specs.Records.{field}
+use Rattle.tape.specs.Fronts.{field}
 use Rattle.tape.specs.TapeRules.{RulesFrontOf, RulesFrontIs, rules_and, less_than_rules, no_rules, are_rules, said_rules, rules_ahead, rules_spelling, tape_rules, standard_rules, AreRules, SaysRules}
 use Rattle.tape.proofs.Spelled.{field_bytes, part}
 

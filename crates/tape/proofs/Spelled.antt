@@ -10,11 +10,16 @@ use Rattle.tape.specs.declared.record.CreateCommand.{CreateCommand}
 use Rattle.tape.specs.declared.record.CreateCommand.TheVariants.{Create, CreateFast, Create2}
 use Rattle.tape.specs.declared.record.Record.{Record}
 use Rattle.tape.specs.declared.record.Record.TheVariants.{ChannelUp, NextCell}
-use Rattle.tape.specs.Records.{FrontIs, record_and, less, no_record, unbuilt, front_of, field, channel_up_front, open_circuit_front, padded_circuit_front, opening_front, next_cell_front, open_circuit_record, front_with_command, command_of}
+use Rattle.tape.specs.Fronts.{FrontIs, record_and, less, no_record, unbuilt, field}
+use Rattle.tape.specs.Records.{front_of}
+use Rattle.tape.specs.Kinds.ChannelUp.{channel_up_front}
+use Rattle.tape.specs.Kinds.OpenCircuit.{open_circuit_front, padded_circuit_front, opening_front, open_circuit_record, front_with_command, command_of}
+use Rattle.tape.specs.Kinds.NextCell.{next_cell_front}
 use Rattle.tor_spec.specs.CellStream.{IsBytes}
 use Rattle.tape.specs.declared.record.Front.{Front}
 use Rattle.tape.proofs.OutputLaws.{take_all}
-use Rattle.tape.specs.Spelling.{command_byte, opening_kind, pad_bytes, spelling}
+use Rattle.tape.specs.Kinds.OpenCircuit.{command_byte, opening_kind, pad_bytes}
+use Rattle.tape.specs.Spelling.{spelling}
 
 pub field_bytes : (at n : ℕ) (fields : List ℕ) → IsBytes fields → IsBytes (field at n fields)
 field_bytes at n fields bytes i = elim (cases_lt i n) [

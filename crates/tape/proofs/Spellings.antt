@@ -9,12 +9,18 @@ use Rattle.tr_io.specs.declared.names.Side.{Side}
 use Rattle.tr_io.specs.declared.names.Side.TheVariants.{PeerOpened, WeOpened}
 use Rattle.tape.specs.declared.record.Record.{Record}
 use Rattle.tape.specs.declared.record.Record.TheVariants.{ChannelUp, OpenCircuit, NextCell}
-use Rattle.tape.specs.Records.{FrontOf, FrontIs, record_and, front_of, field, channel_up_front, open_circuit_front, padded_circuit_front, opening_front, next_cell_front, command_of}
+use Rattle.tape.specs.Fronts.{FrontOf, FrontIs, record_and, field}
+use Rattle.tape.specs.Records.{front_of}
+use Rattle.tape.specs.Kinds.ChannelUp.{channel_up_front}
+use Rattle.tape.specs.Kinds.OpenCircuit.{open_circuit_front, padded_circuit_front, opening_front, command_of}
+use Rattle.tape.specs.Kinds.NextCell.{next_cell_front}
 use Rattle.tape.specs.declared.record.CircuitRequest.{CircuitRequest}
 use Rattle.tape.specs.declared.record.CreateCommand.{CreateCommand}
 use Rattle.tape.specs.declared.record.CreateCommand.TheVariants.{Create, CreateFast, Create2}
 use Rattle.tape.specs.declared.record.Front.{Front}
-use Rattle.tape.specs.Spelling.{side_byte, command_byte, spelling, FitsFields}
+use Rattle.tape.specs.Kinds.ChannelUp.{side_byte}
+use Rattle.tape.specs.Kinds.OpenCircuit.{command_byte}
+use Rattle.tape.specs.Spelling.{spelling, FitsFields}
 use Rattle.tape.proofs.Openings.{opened}
 
 -- A field between what is before and behind it.

@@ -4,7 +4,8 @@ use Rattle.std.proofs.lemmas.List.{append-nil}
 use Rattle.circuit_model.specs.Rules.{Rules}
 use Rattle.tr_io.specs.declared.step.Step.{Step}
 use Rattle.tape.specs.declared.record.Record.{Record}
-use Rattle.tape.specs.Records.{record_and, front_of}
+use Rattle.tape.specs.Fronts.{record_and}
+use Rattle.tape.specs.Records.{front_of}
 use Rattle.tape.specs.Steps.{step_of, answer_of, steps_behind, answers_behind, steps_of, output, IsRecords}
 
 -- One record more was read.

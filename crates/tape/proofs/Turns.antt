@@ -13,7 +13,8 @@ use Rattle.switch_model.specs.Machine.{new_state}
 use Rattle.switch_model.proofs.Laws.{stands_new}
 use Rattle.tape.specs.declared.input.Ending.{Ending}
 use Rattle.tape.specs.declared.record.Record.{Record}
-use Rattle.tape.specs.Records.{record_and, less, no_record, unbuilt, front_of}
+use Rattle.tape.specs.Fronts.{record_and, less, no_record, unbuilt}
+use Rattle.tape.specs.Records.{front_of}
 use Rattle.tape.specs.TapeRules.{rules_and, less_than_rules, no_rules, rules_ahead}
 use Rattle.tape.specs.Steps.{tape_start, answer_of, steps_behind, answers_behind, steps_of, output, IsRecords}
 use Rattle.tape.specs.Output.{IsWritten, IsPartWritten}

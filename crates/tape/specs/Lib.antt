@@ -1,6 +1,7 @@
+pub mod Fronts
+pub mod Kinds
 pub mod Records
 pub mod TapeRules
-pub mod Answers
 pub mod Input
 pub mod Output
 pub mod Causes

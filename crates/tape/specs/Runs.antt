@@ -7,7 +7,8 @@ use Rattle.tr_io.specs.Faults.{Rose}
 use Rattle.tape.specs.declared.input.Ending.{Ending}
 use Rattle.tape.specs.declared.input.Ending.TheVariants.{End, Fault, Limit}
 use Rattle.tape.specs.declared.record.Record.{Record}
-use Rattle.tape.specs.Records.{FrontOf, record_and, less, no_record, unbuilt, front_of}
+use Rattle.tape.specs.Fronts.{FrontOf, record_and, less, no_record, unbuilt}
+use Rattle.tape.specs.Records.{front_of}
 use Rattle.circuit_model.specs.Events.{CircuitCell}
 use Rattle.circuit_model.specs.Sent.{one}
 use Rattle.tr_io.specs.declared.step.Step.{Step}

@@ -1,8 +1,5 @@
 -- The records of a tape as steps of a switch, and the answers that are written.
-use Rattle.std.specs.Prelude.{◌≡◌, ℕ, List, [], ◌∷◌, ◌++◌, Option}
-use Rattle.hop_handshake.specs.declared.opening.Opening.{Opening}
-use Rattle.hop_handshake.specs.Fast.{fast_rule}
-use Rattle.hop_handshake.specs.Opening.{cell_with, opening_under}
+use Rattle.std.specs.Prelude.{◌≡◌, ℕ, List, [], ◌∷◌, ◌++◌}
 use Rattle.circuit_model.specs.Rules.{Rules}
 use Rattle.tr_io.specs.declared.step.Step.{Step}
 use Rattle.tr_io.specs.declared.step.Step.TheVariants as Steps
@@ -10,21 +7,17 @@ use Rattle.switch_model.specs.Start.{Start}
 use Rattle.switch_model.specs.ChannelAnswers.{channel_up_answer}
 use Rattle.switch_model.specs.CircuitAnswers.{open_answer}
 use Rattle.switch_model.specs.SendAnswers.{next_cell_answer}
-use Rattle.tape.specs.declared.record.CircuitRequest.{CircuitRequest}
 use Rattle.tape.specs.declared.record.Record.{Record}
 use Rattle.tape.specs.declared.record.Record.TheVariants.{ChannelUp, OpenCircuit, NextCell}
-use Rattle.tape.specs.Records.{record_and, front_of}
-use Rattle.tape.specs.Spelling.{command_byte, opening_kind}
-use Rattle.tape.specs.Answers.{up_bytes, open_bytes, next_bytes}
+use Rattle.tape.specs.Fronts.{record_and}
+use Rattle.tape.specs.Records.{front_of}
+use Rattle.tape.specs.Kinds.ChannelUp.{up_bytes}
+use Rattle.tape.specs.Kinds.OpenCircuit.{opening_for, open_bytes, opening_kind}
+use Rattle.tape.specs.Kinds.NextCell.{next_bytes}
 
 -- The switch that a tape is played on: its name is 0.
 abbrev pub tape_start : Rules → Start
 tape_start rules = record { name = 0; rules = rules }
-
--- What a cell that asks for a circuit comes to under the relay's Y, where CREATE2 carries the
--- handshake of CREATE_FAST.
-abbrev pub opening_for : CircuitRequest → List ℕ → Option (List ℕ) → Opening
-opening_for request y pad = opening_under fast_rule y pad (cell_with request.id (command_byte request.command) request.payload)
 
 -- The step that a record makes behind these steps, newest first: its call with the right answer.
 abbrev pub step_of : Rules → List Step → Record → Step

@@ -6,7 +6,7 @@ use Rattle.circuit_model.specs.Rules.{Rules}
 use Rattle.tor_spec.specs.CircuitWindow.{circuit_start, least_start}
 use Rattle.tape.specs.declared.rules.RulesFront.{RulesFront}
 use Rattle.tape.specs.declared.rules.RulesFront.TheVariants.{Whole, Cut, Bad}
-use Rattle.tape.specs.Records.{field}
+use Rattle.tape.specs.Fronts.{field}
 
 -- echo.test, port 7, leads to 127.0.0.1, port 7. A circuit may package so many DATA cells before its
 -- first SENDME, and a circuit's SENDME has this version at least.

@@ -1,13 +1,14 @@
 //! The tape: records of calls of a switch, read from a source, and their answers, written to a sink
 //! (docs/FORMATS.md).
 //!
-//! `input` reads the tape's bytes, `rules_reader` reads the rules in front of them, `reader` the
-//! records; `player` makes their calls, `answers` spells the answers, `output` writes them, and `run`
-//! goes from the first to the last.
+//! `input` reads the tape's bytes, `rules_reader` reads the rules in front of them, `reader` the records;
+//! `player` makes their calls, `output` writes the answers, and `run` goes from the first to the last. What
+//! one kind of record has for itself, its fields and its answer, stands in a file of `kinds`.
 #![tactic(auto)]
 
-mod answers;
+mod field;
 pub mod input;
+pub mod kinds;
 pub mod output;
 mod player;
 mod reader;

@@ -3,11 +3,12 @@ ghost use Rattle.std.specs.Prelude.{◌≡◌, ◌+◌, ◌<◌, ◌≤◌, ◌^
 ghost use Rattle.circ_relay.specs.Values.{rules_of};
 ghost use Rattle.switch_model.specs.Machine.{new_state};
 ghost use Rattle.tape.specs.Playing.{PlaysOn};
-ghost use Rattle.tape.specs.Spelling.{opening_kind};
 ghost use Rattle.tape.specs.Steps.{tape_start};
 ghost use Rattle.tape.specs.TapeRules.{tape_rules};
 
-use crate::answers::{write_next, write_open, write_up};
+use crate::kinds::channel_up::write_up;
+use crate::kinds::next_cell::write_next;
+use crate::kinds::open_circuit::{opening_kind, write_open};
 use crate::record::Record;
 use crate::rules::TapeRules;
 use cell_codec::{Body, Bytes, Cell, List};
@@ -87,16 +88,6 @@ impl Player {
                 write_next(&answer, &mut self.answers)
             }
         }
-    }
-}
-
-/// The kind of an opening's record, with or without a key of the padding.
-fn opening_kind(pad: Option<[u8; 16]>) -> u8
-    ensures { result ≡ opening_kind pad }
-{
-    match pad {
-        Some(_) => 0x0f,
-        None => 0x03,
     }
 }
 

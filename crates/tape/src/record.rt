@@ -1,7 +1,7 @@
 //! The records of a tape.
 ghost use Rattle.std.specs.Prelude.{◌≡◌, IsTrue};
 ghost use Rattle.tor_spec.specs.CellCommands.{asks_for_circuit};
-ghost use Rattle.tape.specs.Spelling.{command_byte};
+ghost use Rattle.tape.specs.Kinds.OpenCircuit.{command_byte};
 
 use cell_codec::command::{CREATE, CREATE_FAST, CREATE2};
 use tr_io::names::{ChanNo, Side};

@@ -3,7 +3,7 @@ ghost use Rattle.std.specs.Prelude.{◌≡◌, ◌++◌, ℕ, List, length};
 ghost use Rattle.circuit_model.specs.Rules.{Rules};
 ghost use Rattle.tape.specs.TapeRules.{tape_rules, rules_and, rules_ahead, said_rules, rules_spelling, AreRules, SaysRules, RulesFrontIs, RestIsWithin};
 
-use crate::reader::field;
+use crate::field::field;
 use crate::rules::{LEAST_WINDOW, RulesFront, STANDARD_WINDOW, TapeRules};
 
 /// Reads the rules at the front of a tape: whatever spells rules is read as them, and what is read

@@ -1,6 +1,6 @@
 use Rattle.std.proofs.Common.{arith}
 use Rattle.tape.proofs.Openings.{cut_opening, padded_opening}
-use Rattle.tape.proofs.reader.padded_circuit.Goals as goal
+use Rattle.tape.proofs.kinds.open_circuit.read_padded.Goals as goal
 
 pub returns-in_default-clause-front : goal.returns-in_default-clause-front
 returns-in_default-clause-front c = cut_opening _ _ 44 c.args.fields.now (omega (arith, c.in_default.ensures.cases))
