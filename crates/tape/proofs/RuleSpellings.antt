@@ -1,5 +1,5 @@
 -- What spells a tape's rules is read as them, and what is read as rules spells them.
-use Rattle.std.proofs.Common.{◌≡◌, inl, inr, ℕ, suc, ◌<◌, ◌≤◌, ◌^◌, ◌==◌, ◌&&◌, if◌then◌else◌, nat_le, nat_lt, Bool, true, false, List, [], ◌∷◌, ◌++◌, length, drop, slice_index, sym, ap, ◌∙◌, arith, append_assoc, length-append, refl}
+use Rattle.std.proofs.Common.{◌≡◌, inl, inr, ℕ, suc, ◌<◌, ◌≤◌, ◌^◌, ◌==◌, if◌then◌else◌, nat_lt, Bool, true, false, List, [], ◌∷◌, ◌++◌, length, drop, slice_index, sym, ap, ◌∙◌, arith, append_assoc, length-append, refl}
 use Rattle.std.proofs.lemmas.Bool.{le-ltb, le-leb, ltb-false, eqb-true, and_from, and_parts}
 use Rattle.std.proofs.lemmas.List.{length-take-le}
 use Rattle.std.proofs.lemmas.Nat.{be_bytes_2, from_be_bytes-to_be_bytes_2}
@@ -10,7 +10,7 @@ use Rattle.tor_spec.specs.CellStream.{IsBytes}
 use Rattle.tor_spec.specs.CircuitWindow.{circuit_start, least_start}
 use Rattle.tape.specs.declared.rules.RulesFront.{RulesFront}
 use Rattle.tape.specs.Fronts.{field}
-use Rattle.tape.specs.TapeRules.{RulesFrontOf, RulesFrontIs, rules_and, less_than_rules, no_rules, are_rules, said_rules, rules_ahead, rules_spelling, tape_rules, standard_rules, AreRules, SaysRules}
+use Rattle.tape.specs.TapeRules.{RulesFrontIs, rules_and, less_than_rules, no_rules, are_rules, said_rules, rules_ahead, rules_spelling, tape_rules, standard_rules, AreRules, SaysRules}
 use Rattle.tape.proofs.Spelled.{field_bytes, part}
 
 in_range : (window least : ℕ) → AreRules window least → are_rules window least 0 ≡ true

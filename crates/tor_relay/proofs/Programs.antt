@@ -1,9 +1,7 @@
 -- What is said of an end, and how a run ends whose command line is known.
-use Rattle.std.proofs.Common.{◌≡◌, inl, inr, ℕ, List, [], Option, refl, sym, subst}
-use Rattle.tr_io.specs.Faults.{Rose}
+use Rattle.std.proofs.Common.{◌≡◌, inl, ℕ, List, Option, refl, sym, subst}
 use Rattle.tr_io.specs.declared.status.Status.{Status}
 use Rattle.tr_io.specs.declared.status.Status.TheVariants.{Done, Usage, Settings, ReadFault, WriteFault, BadTape, NotBuilt, TooLong, DoorFault, CrewFault, Memory, LinkRefused, CircuitClosed, StreamEnded}
-use Rattle.tape.specs.Output.{IsWritten, IsPartWritten}
 use Rattle.tor_relay.specs.Program.{message, end_message, IsSaid}
 use Rattle.tape.specs.Runs.{Writes, writes}
 use Rattle.tape.proofs.OutputLaws.{starts_empty}

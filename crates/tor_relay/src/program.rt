@@ -4,11 +4,11 @@ ghost use Rattle.tr_io.specs.Statuses.{number_text};
 ghost use Rattle.tor_relay.specs.Program.{message, end_message, usage_line, IsSaid, Tells, IsProgramRun};
 ghost use Rattle.tape.specs.Runs.{reads, writes};
 
-use tape::{tape_main, write_all};
 use arrayvec::ArrayString;
 use itoa::Buffer;
 use std::alloc::Global;
 use std::io;
+use tape::{tape_main, write_all};
 use tr_io::sink::Sink;
 use tr_io::source::Source;
 use tr_io::status::Status;
