@@ -3,11 +3,11 @@
 -- CREATED2, carries the answer.
 use Rattle.std.specs.Prelude.{ℕ, ◌+◌, zero, suc, [], ◌∷◌, ◌++◌, List, length, Bool, ◌==◌, ◌&&◌, true, nat_le, if◌then◌else◌, Option, Some, None, option_map, option_and_then, take, drop, find}
 use Rattle.std.specs.Int.{w16, to_be_bytes, from_be_bytes}
+use Rattle.tor_spec.specs.declared.address.Address.{Address as Declared}
 
 -- An IPv4 address of 4 bytes, and a port.
-pub record Address : Type 0 where
-  pub ip : List ℕ
-  pub port : ℕ
+abbrev pub Address : Type 0
+Address = Declared
 
 -- What an EXTEND2 asks for. `to` is the first IPv4 address among its link specifiers.
 pub record Extend : Type 0 where

@@ -2,3 +2,7 @@
 //! relay cells and their payloads. The definitions stand in `specs/`, on lists of bytes;
 //! contracts of the code crates cite them.
 #![tactic(auto)]
+
+mod address;
+
+pub use address::Address;
