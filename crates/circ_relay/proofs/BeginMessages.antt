@@ -12,7 +12,8 @@ use Rattle.stream_edge.specs.Streams.{begun, is_free}
 use Rattle.stream_edge.specs.declared.held.Held.{Held}
 use Rattle.circuit_model.specs.Events.{Forward}
 use Rattle.circuit_model.specs.Rules.{Rules, allowed_address}
-use Rattle.circuit_model.specs.Log.{Entry, Log, Message, Reach, Effects, no_effects, closing, ordering}
+use Rattle.circuit_model.specs.Log.{Entry, Log, Message, Effects, no_effects, closing, ordering}
+use Rattle.circuit_model.specs.declared.effects.Order.TheVariants.{Reach}
 use Rattle.circuit_model.specs.NextHop.{hop_by_effects}
 use Rattle.circuit_model.specs.Packaged.{finished}
 use Rattle.circuit_model.specs.Places.{Place, place_of, places, place_at, live_place, taken_places}

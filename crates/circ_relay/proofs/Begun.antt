@@ -8,7 +8,8 @@ use Rattle.tor_spec.specs.RelayCell.{begin_command, sendme_command}
 use Rattle.tor_spec.specs.Extend.{Address}
 use Rattle.circuit_model.specs.Events.{Event}
 use Rattle.circuit_model.specs.Rules.{Rules}
-use Rattle.circuit_model.specs.Log.{Entry, Log, Message, Reach, pushed}
+use Rattle.circuit_model.specs.Log.{Entry, Log, Message, pushed}
+use Rattle.circuit_model.specs.declared.effects.Order.TheVariants.{Reach}
 use Rattle.circuit_model.specs.declared.places.Phase.TheVariants.{Free}
 use Rattle.circuit_model.specs.Places.{Place, places, place_at, place_of, phase, closes_place}
 use Rattle.circuit_model.specs.Windows.{carries}

@@ -12,7 +12,8 @@ use Rattle.stream_edge.specs.PlacesState.{PlacesState, held_at, with_held}
 use Rattle.stream_edge.specs.declared.held.Held.{Held}
 use Rattle.circuit_model.specs.Events.{Forward}
 use Rattle.circuit_model.specs.Rules.{Rules}
-use Rattle.circuit_model.specs.Log.{Log, Message, Effects, no_effects, Carry, closing}
+use Rattle.circuit_model.specs.Log.{Log, Message, Effects, no_effects, closing}
+use Rattle.circuit_model.specs.declared.effects.Order.TheVariants.{Carry}
 use Rattle.circuit_model.specs.Places.{place_of}
 use Rattle.circuit_model.specs.Effects.{effects_after}
 use Rattle.circ_relay.specs.declared.circuit.Circuit.{Circuit}

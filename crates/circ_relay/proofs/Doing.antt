@@ -8,7 +8,8 @@ use Rattle.tor_spec.specs.Ends.{end_reason}
 use Rattle.tor_spec.specs.Extend.{Address}
 use Rattle.circuit_model.specs.Events.{Event, Connected, Data, Ended, Drained}
 use Rattle.circuit_model.specs.Rules.{Rules, allowed_address}
-use Rattle.circuit_model.specs.Log.{Entry, Log, Message, Reach, Carry, Close, Effects, StreamKey, no_effects, closing, ordering, is_closed, pushed}
+use Rattle.circuit_model.specs.Log.{Entry, Log, Message, Effects, StreamKey, no_effects, closing, ordering, is_closed, pushed}
+use Rattle.circuit_model.specs.declared.effects.Order.TheVariants.{Reach, Carry, Close}
 use Rattle.circuit_model.specs.Places.{Place, places, place_at, place_of, taken_places}
 use Rattle.circuit_model.specs.Packaged.{packaging}
 use Rattle.circuit_model.specs.Windows.{carried, drained, accept_grant as log_accept_grant}

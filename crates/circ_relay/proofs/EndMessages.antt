@@ -6,7 +6,8 @@ use Rattle.stream_edge.specs.PlacesState.{PlacesState, held_at, with_held}
 use Rattle.stream_edge.specs.declared.held.Held.{Held}
 use Rattle.circuit_model.specs.Events.{Forward}
 use Rattle.circuit_model.specs.Rules.{Rules}
-use Rattle.circuit_model.specs.Log.{Log, Message, Effects, no_effects, Close, ordering}
+use Rattle.circuit_model.specs.Log.{Log, Message, Effects, no_effects, ordering}
+use Rattle.circuit_model.specs.declared.effects.Order.TheVariants.{Close}
 use Rattle.circ_relay.specs.declared.circuit.Circuit.{Circuit}
 use Rattle.circ_relay.specs.BroughtMessages.{after_cell, IsBrought}
 use Rattle.circ_relay.specs.CircuitOfLog.{HasParts}

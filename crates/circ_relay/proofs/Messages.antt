@@ -6,7 +6,8 @@ use Rattle.tor_spec.specs.Ends.{end_reason}
 use Rattle.tor_spec.specs.StreamWindow.{stream_start, stream_step}
 use Rattle.circuit_model.specs.Events.{Event, Born, Forward, Backward, Connected, Data, Ended, Drained, Freed, Linked, Answered, Failed}
 use Rattle.circuit_model.specs.Rules.{Rules}
-use Rattle.circuit_model.specs.Log.{Entry, Log, Message, Carry, Close, Effects, StreamKey, no_effects, closing, ordering, is_closed}
+use Rattle.circuit_model.specs.Log.{Entry, Log, Message, Effects, StreamKey, no_effects, closing, ordering, is_closed}
+use Rattle.circuit_model.specs.declared.effects.Order.TheVariants.{Carry, Close}
 use Rattle.circuit_model.specs.Places.{place_of, connects, frees, closes_place}
 use Rattle.circuit_model.specs.Windows.{is_data_of, is_accepted, has_command, is_serial, has_place, carries, drains, accept_grant as log_accept_grant, carried, stream_packaged, stream_grant}
 use Rattle.circuit_model.specs.Received.{message_at}

@@ -8,7 +8,8 @@ use Rattle.tor_spec.specs.Extend.{Address}
 use Rattle.tor_spec.specs.CellCommands.{relay_early_command}
 use Rattle.circuit_model.specs.Events.{Event, Born, Forward, Backward, Connected, Data, Ended, Drained, Freed, Linked, Answered, Failed}
 use Rattle.circuit_model.specs.Rules.{Rules, allowed_address}
-use Rattle.circuit_model.specs.Log.{Entry, Log, Message, Order, Reach, Carry, Close, Effects, StreamKey, no_effects, closing, is_closed}
+use Rattle.circuit_model.specs.Log.{Entry, Log, Message, Order, Effects, StreamKey, no_effects, closing, is_closed}
+use Rattle.circuit_model.specs.declared.effects.Order.TheVariants.{Reach, Carry, Close}
 use Rattle.circuit_model.specs.Opened.{plain_body, recognises}
 use Rattle.circuit_model.specs.Places.{Place, places, place_at, place_of, phase, is_live, is_live_phase, live_place, taken_places, connects, frees, closes_place, is_connected, is_ended, is_freed}
 use Rattle.circuit_model.specs.Windows.{accept_grant, carried}

@@ -4,7 +4,8 @@ use Rattle.std.proofs.Common.{◌≡◌, ◌≢◌, ℕ, ◌+◌, ◌==◌, ◌&
 use Rattle.tor_spec.specs.RelayCell.{sendme_command}
 use Rattle.circuit_model.specs.Events.{Connected, Data, Ended, Drained, Freed}
 use Rattle.circuit_model.specs.Rules.{Rules}
-use Rattle.circuit_model.specs.Log.{Entry, Log, Message, Close, Effects, StreamKey, no_effects, is_closed}
+use Rattle.circuit_model.specs.Log.{Entry, Log, Message, Effects, StreamKey, no_effects, is_closed}
+use Rattle.circuit_model.specs.declared.effects.Order.TheVariants.{Close}
 use Rattle.circuit_model.specs.declared.places.Phase.TheVariants.{Free}
 use Rattle.circuit_model.specs.Places.{Place, place_of, place_at, connects, frees, closes_place}
 use Rattle.circuit_model.specs.Windows.{is_data_of, is_accepted, has_place, carries, drains}

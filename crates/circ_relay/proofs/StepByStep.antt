@@ -6,7 +6,8 @@ use Rattle.tor_spec.specs.RelayCell.{begin_command, data_command, end_command, s
 use Rattle.tor_spec.specs.Extend.{Address}
 use Rattle.circuit_model.specs.Events.{Event, Connected, Data, Drained, Ended, Freed}
 use Rattle.circuit_model.specs.Rules.{Rules}
-use Rattle.circuit_model.specs.Log.{Log, Message, Reach, closing, is_closed}
+use Rattle.circuit_model.specs.Log.{Log, Message, closing, is_closed}
+use Rattle.circuit_model.specs.declared.effects.Order.TheVariants.{Reach}
 use Rattle.circuit_model.specs.Places.{places}
 use Rattle.circuit_model.specs.Received.{message_at}
 use Rattle.circuit_model.specs.Effects.{effects_after}

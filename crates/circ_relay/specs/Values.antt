@@ -3,7 +3,8 @@ use Rattle.std.specs.Prelude.{ℕ, List, map, option_map}
 use Rattle.tor_spec.specs.Extend.{Address}
 use Rattle.circuit_model.specs.Events.{CircuitCell}
 use Rattle.circuit_model.specs.Rules.{Allow as ModelAllow, Rules as ModelRules}
-use Rattle.circuit_model.specs.Log.{StreamKey as ModelKey, Order, Reach as reach, Carry as carry, Close as close_order, Effects as ModelEffects}
+use Rattle.circuit_model.specs.Log.{StreamKey as ModelKey, Order, Effects as ModelEffects}
+use Rattle.circuit_model.specs.declared.effects.Order.TheVariants.{Reach as reach, Carry as carry, Close as close_order}
 use Rattle.tr_io.specs.declared.names.Dest.{Dest}
 use Rattle.tr_io.specs.declared.names.StreamKey.{StreamKey}
 use Rattle.tr_io.specs.declared.edges.EdgeOrder.{EdgeOrder}

@@ -9,7 +9,8 @@ ghost use Rattle.tor_spec.specs.Reasons.{destroy_protocol, end_exit_policy, end_
 ghost use Rattle.tor_spec.specs.Extend.{Address};
 ghost use Rattle.circuit_model.specs.Events.{Event, Connected, Data, Drained, Ended};
 ghost use Rattle.circuit_model.specs.Rules.{Rules, allowed_address};
-ghost use Rattle.circuit_model.specs.Log.{Log, Message, Reach, Carry, Close, closing, is_closed, no_effects, ordering};
+ghost use Rattle.circuit_model.specs.Log.{Log, Message, closing, is_closed, no_effects, ordering};
+ghost use Rattle.circuit_model.specs.declared.effects.Order.TheVariants.{Reach, Carry, Close};
 ghost use Rattle.circuit_model.specs.Places.{Place, place_at};
 ghost use Rattle.circuit_model.specs.Packaged.{packaging};
 ghost use Rattle.circuit_model.specs.Received.{message_at};

@@ -6,7 +6,8 @@ ghost use Rattle.tor_spec.specs.RelayCell.{begin_command, data_command, end_comm
 ghost use Rattle.tor_spec.specs.Extend.{Address};
 ghost use Rattle.circuit_model.specs.Events.{Event, Connected, Data, Drained, Ended, Freed};
 ghost use Rattle.circuit_model.specs.Rules.{Rules};
-ghost use Rattle.circuit_model.specs.Log.{Log, Message, Reach, closing, is_closed};
+ghost use Rattle.circuit_model.specs.Log.{Log, Message, closing, is_closed};
+ghost use Rattle.circuit_model.specs.declared.effects.Order.TheVariants.{Reach};
 ghost use Rattle.circuit_model.specs.Places.{places};
 ghost use Rattle.circuit_model.specs.Received.{message_at};
 ghost use Rattle.circuit_model.specs.Effects.{effects_after};

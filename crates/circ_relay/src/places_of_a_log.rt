@@ -4,7 +4,8 @@ ghost use Rattle.std.specs.Prelude.{◌≡◌, ◌≢◌, ◌<◌, ◌+◌, ◌�
 ghost use Rattle.tor_spec.specs.RelayCell.{begin_command, data_command, end_command, sendme_command};
 ghost use Rattle.tor_spec.specs.Extend.{Address};
 ghost use Rattle.circuit_model.specs.Events.{Event, Connected, Data, Drained, Ended, Freed};
-ghost use Rattle.circuit_model.specs.Log.{Log, Entry, Message, Reach, StreamKey, closing, is_closed};
+ghost use Rattle.circuit_model.specs.Log.{Log, Entry, Message, StreamKey, closing, is_closed};
+ghost use Rattle.circuit_model.specs.declared.effects.Order.TheVariants.{Reach};
 ghost use Rattle.circuit_model.specs.Rules.{Rules};
 ghost use Rattle.circuit_model.specs.Places.{Place, live_place, place_at, place_of, places};
 ghost use Rattle.circuit_model.specs.Received.{message_at};

@@ -6,7 +6,8 @@ use Rattle.tor_spec.specs.Extend.{Address}
 use Rattle.tor_spec.specs.RelayCell.{begin_command}
 use Rattle.circuit_model.specs.Events.{Event}
 use Rattle.circuit_model.specs.Rules.{Rules, Allow, allows, allowed_address}
-use Rattle.circuit_model.specs.Log.{Log, Message, ordering, Reach}
+use Rattle.circuit_model.specs.Log.{Log, Message, ordering}
+use Rattle.circuit_model.specs.declared.effects.Order.TheVariants.{Reach}
 use Rattle.circuit_model.specs.Places.{places, taken_places}
 use Rattle.circuit_model.specs.Received.{message_at}
 use Rattle.circuit_model.specs.Effects.{message_effects, effects_after}

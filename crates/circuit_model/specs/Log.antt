@@ -4,9 +4,10 @@
 use Rattle.std.specs.Prelude.{ℕ, ◌+◌, [], ◌∷◌, ◌++◌, List, Bool, false, if◌then◌else◌, Option, Some, None, is_some}
 use Rattle.std.specs.List.{list_any}
 use Rattle.std.specs.Option.{option_or}
-use Rattle.tor_spec.specs.Extend.{Address}
-use Rattle.circuit_model.specs.declared.places.StreamKey.{StreamKey as Declared}
-use Rattle.circuit_model.specs.Events.{Event, CircuitCell}
+use Rattle.circuit_model.specs.declared.effects.Effects.{Effects as DeclaredEffects}
+use Rattle.circuit_model.specs.declared.effects.Order.{Order as DeclaredOrder}
+use Rattle.circuit_model.specs.declared.places.StreamKey.{StreamKey as DeclaredKey}
+use Rattle.circuit_model.specs.Events.{Event}
 
 -- A relay message that is for this relay: a recognised relay cell of a fitting Length.
 pub record Message : Type 0 where
@@ -23,29 +24,15 @@ pub record Message : Type 0 where
 
 -- The name of a stream at the edge: its StreamID and the serial of its place.
 abbrev pub StreamKey : Type 0
-StreamKey = Declared
+StreamKey = DeclaredKey
 
 -- What the edge is to do: make a connection, write bytes to it, close it with a reason.
-pub data Order : Type 0 where
-  Reach : (key : StreamKey) (to : Address) → Order
-  Carry : (key : StreamKey) (bytes : List ℕ) → Order
-  Close : (key : StreamKey) (reason : ℕ) → Order
+abbrev pub Order : Type 0
+Order = DeclaredOrder
 
 -- What an event has the relay do.
-pub record Effects : Type 0 where
-  -- a relay body towards the client, with its Digest and not yet encrypted: packaged here, or the
-  -- next hop's as it came
-  pub back : Option (List ℕ)
-  -- a cell on the current leg towards a next hop
-  pub forth : Option CircuitCell
-  -- an order for the edge
-  pub edge : Option Order
-  -- a next hop to dial
-  pub dial : Option Address
-  -- whether the next hop, or the dialling of one, is given up
-  pub cut : Bool
-  -- the circuit is closed, with this reason of DESTROY
-  pub close : Option ℕ
+abbrev pub Effects : Type 0
+Effects = DeclaredEffects
 
 pub record Entry : Type 0 where
   pub event : Event

@@ -7,7 +7,8 @@ use Rattle.tor_spec.specs.Extend.{Address}
 use Rattle.circuit_model.specs.declared.places.Phase.{Phase}
 use Rattle.circuit_model.specs.declared.places.Phase.TheVariants.{Reaching, Joined, Ending, Free}
 use Rattle.circuit_model.specs.Events.{Event, Connected, Freed}
-use Rattle.circuit_model.specs.Log.{Log, StreamKey, Order, Reach, Close, collected}
+use Rattle.circuit_model.specs.Log.{Log, StreamKey, Order, collected}
+use Rattle.circuit_model.specs.declared.effects.Order.TheVariants.{Reach, Close}
 
 pub record Place : Type 0 where
   pub key : StreamKey

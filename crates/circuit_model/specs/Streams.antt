@@ -12,7 +12,8 @@ use Rattle.tor_spec.specs.Resolve.{resolve_host, resolved_payload}
 use Rattle.tor_spec.specs.Sendme.{sendme_payload}
 use Rattle.tor_spec.specs.StreamWindow.{stream_start, stream_step}
 use Rattle.circuit_model.specs.Rules.{Rules, allowed_address, resolved_address}
-use Rattle.circuit_model.specs.Log.{Log, Message, Reach, Carry, Close, Effects, no_effects, closing, ordering}
+use Rattle.circuit_model.specs.Log.{Log, Message, Effects, no_effects, closing, ordering}
+use Rattle.circuit_model.specs.declared.effects.Order.TheVariants.{Reach, Carry, Close}
 use Rattle.circuit_model.specs.Places.{Place, places, taken_places}
 use Rattle.circuit_model.specs.Packaged.{packaging}
 use Rattle.circuit_model.specs.Windows.{stream_packaged, stream_grant, accepted_data, carried, accept_grant, drained}

@@ -6,7 +6,8 @@ use Rattle.tor_spec.specs.RelayCell.{data_command, sendme_command, relay_head}
 use Rattle.tor_spec.specs.StreamWindow.{stream_start, stream_step}
 use Rattle.circuit_model.specs.Events.{Event, Data, Drained}
 use Rattle.circuit_model.specs.Rules.{Rules}
-use Rattle.circuit_model.specs.Log.{Entry, Log, Order, Carry, Message, count_of}
+use Rattle.circuit_model.specs.Log.{Entry, Log, Order, Message, count_of}
+use Rattle.circuit_model.specs.declared.effects.Order.TheVariants.{Carry}
 use Rattle.circuit_model.specs.Packaged.{packaged_by}
 
 abbrev pub has_command : ℕ → Option Message → Bool

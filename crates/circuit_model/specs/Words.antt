@@ -21,7 +21,8 @@
 use Rattle.std.specs.Prelude.{ℕ, ◌==◌, [], ◌∷◌, ◌++◌, List, Bool, if◌then◌else◌, Option, Some, None, is_some}
 use Rattle.circuit_model.specs.Events.{Event}
 use Rattle.circuit_model.specs.Rules.{Rules}
-use Rattle.circuit_model.specs.Log.{Entry, Log, Order, Reach, Carry, Close, Effects, collected}
+use Rattle.circuit_model.specs.Log.{Entry, Log, Order, Effects, collected}
+use Rattle.circuit_model.specs.declared.effects.Order.TheVariants.{Reach, Carry, Close}
 use Rattle.circuit_model.specs.Packaged.{packaged_by}
 use Rattle.circuit_model.specs.Received.{message_at}
 use Rattle.circuit_model.specs.Effects.{effects_after}

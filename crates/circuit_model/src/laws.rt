@@ -11,7 +11,8 @@ ghost use Rattle.tor_spec.specs.RelayCell.{begin_command, sendme_command, trunca
 ghost use Rattle.tor_spec.specs.Sendme.{is_version_0, needs_no_proof, sendme_proof};
 ghost use Rattle.circuit_model.specs.Events.{Event, Forward, Backward, Data, CircuitCell};
 ghost use Rattle.circuit_model.specs.Rules.{Rules, allowed_address};
-ghost use Rattle.circuit_model.specs.Log.{Log, Message, Reach, no_effects, closing, is_closed};
+ghost use Rattle.circuit_model.specs.Log.{Log, Message, no_effects, closing, is_closed};
+ghost use Rattle.circuit_model.specs.declared.effects.Order.TheVariants.{Reach};
 ghost use Rattle.circuit_model.specs.Opened.{born_keys, keys_in, forward_count, plain_body, recognised_bodies, recognises};
 ghost use Rattle.circuit_model.specs.PathLayers.{PathHop, layered_for, digested_for};
 ghost use Rattle.circuit_model.specs.NextHop.{next_hop, has_leg, is_linked, leg_count};

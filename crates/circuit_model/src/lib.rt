@@ -7,10 +7,14 @@
 #![tactic(auto)]
 
 mod cell;
+mod effects;
 pub mod laws;
 mod next_hop;
+mod payload;
 mod places;
 
 pub use cell::CircuitCell;
+pub use effects::{Effects, Order};
 pub use next_hop::NextHop;
+pub use payload::Payload;
 pub use places::{Phase, StreamKey};

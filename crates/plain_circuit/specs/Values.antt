@@ -1,17 +1,12 @@
 -- What the program's values are in the definitions.
 use Rattle.std.specs.Prelude.{List, map, option_map}
-use Rattle.tor_spec.specs.Extend.{Address as ModelAddress}
 use Rattle.circuit_model.specs.Events.{Event as ModelEvent, Born as born, Forward as forward, Backward as backward, Connected as connected, Data as edge_data, Ended as ended, Drained as drained, Freed as freed, Linked as linked, Answered as answered, Failed as failed}
 use Rattle.circuit_model.specs.Rules.{Allow as ModelAllow, Rules as ModelRules}
-use Rattle.circuit_model.specs.Log.{Message as ModelMessage, Order as ModelOrder, Reach as reach, Carry as carry, Close as close_order, Effects as ModelEffects, Entry as ModelEntry, Log}
+use Rattle.circuit_model.specs.Log.{Message as ModelMessage, Entry as ModelEntry, Log}
 use Rattle.circuit_model.specs.Places.{Place as ModelPlace}
 use Rattle.circuit_model.specs.Words.{in_order}
 use Rattle.plain_circuit.specs.declared.event.Event.{Event}
 use Rattle.plain_circuit.specs.declared.event.Event.TheVariants.{Born, Forward, Backward, Connected, Data, Ended, Drained, Freed, Linked, Answered, Failed}
-use Rattle.plain_circuit.specs.declared.effects.Address.{Address}
-use Rattle.plain_circuit.specs.declared.effects.Order.{Order}
-use Rattle.plain_circuit.specs.declared.effects.Order.TheVariants.{Reach, Carry, Close}
-use Rattle.plain_circuit.specs.declared.effects.Effects.{Effects}
 use Rattle.plain_circuit.specs.declared.rules.Allow.{Allow}
 use Rattle.plain_circuit.specs.declared.rules.Rules.{Rules}
 use Rattle.plain_circuit.specs.declared.log.Message.{Message}
@@ -35,29 +30,11 @@ event_of Failed = failed
 abbrev pub history_of : List Event → List ModelEvent
 history_of events = in_order (map event_of events)
 
-abbrev pub address_of : Address → ModelAddress
-address_of a = record { ip = a.ip; port = a.port }
-
 abbrev pub allow_of : Allow → ModelAllow
-allow_of line = record { host = line.host.items; port = line.port; to = address_of line.to }
+allow_of line = record { host = line.host.items; port = line.port; to = line.to }
 
 abbrev pub rules_of : Rules → ModelRules
 rules_of rules = record { allow = map allow_of rules.allow.items; window = rules.window; least = rules.least }
-
-abbrev pub order_of : Order → ModelOrder
-order_of (Reach key to) = reach key (address_of to)
-order_of (Carry key bytes) = carry key bytes.items
-order_of (Close key reason) = close_order key reason
-
-abbrev pub effects_of : Effects → ModelEffects
-effects_of e = record {
-  back = e.back;
-  forth = e.forth;
-  edge = option_map order_of e.edge;
-  dial = option_map address_of e.dial;
-  cut = e.cut;
-  close = e.close;
-}
 
 abbrev pub message_of : Message → ModelMessage
 message_of m = record {
@@ -73,7 +50,7 @@ abbrev pub entry_of : Entry → ModelEntry
 entry_of e = record {
   event = event_of e.event.now;
   message = option_map message_of e.message;
-  effects = effects_of e.effects;
+  effects = e.effects;
 }
 
 -- The log that the entries are, the oldest of them first.
@@ -81,4 +58,4 @@ abbrev pub log_of : List Entry → Log
 log_of entries = in_order (map entry_of entries)
 
 abbrev pub place_of : Place → ModelPlace
-place_of p = record { key = p.key; to = address_of p.to }
+place_of p = record { key = p.key; to = p.to }

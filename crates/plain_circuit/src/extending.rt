@@ -6,16 +6,16 @@ ghost use Rattle.tor_spec.specs.Extend.{extend_request, handshake_request_payloa
 ghost use Rattle.relay_cell.specs.Extend.{extend_of};
 ghost use Rattle.circuit_model.specs.NextHop.{next_hop, is_absent};
 ghost use Rattle.circuit_model.specs.Extending.{address_asked, extend_effects, truncate_effects, accepted_request, create2, filled, linked_effects, answered_effects};
-ghost use Rattle.plain_circuit.specs.Values.{log_of, message_of, entry_of, effects_of, address_of};
+ghost use Rattle.plain_circuit.specs.Values.{log_of, message_of, entry_of};
 
-use crate::effects::{Address, Effects};
 use crate::log::{Entry, Message};
 use crate::next_hop::next_hop;
 use crate::packaged::packaging;
 use cell_codec::{command, destroy_reason};
-use circuit_model::{CircuitCell, NextHop};
+use circuit_model::{CircuitCell, Effects, NextHop};
 use relay_cell::{Extend2, extended2_body, read_extend2, read_handshake_reply, truncated_body};
 use std::alloc::{AllocError, Global};
+use tor_spec::Address;
 
 fn is_absent(log: &[Entry<'_>]) -> bool
     ensures { result ≡ is_absent (next_hop (log_of log.now)) }
@@ -25,7 +25,7 @@ fn is_absent(log: &[Entry<'_>]) -> bool
 
 /// The first IPv4 address that an EXTEND2 names.
 fn address_asked(message: &Message) -> Option<Address>
-    ensures { option_map address_of result ≡ address_asked (message_of message.now) }
+    ensures { result ≡ address_asked (message_of message.now) }
 {
     let extend = read_extend2(&message.payload)?;
     let (ip, port) = extend.to?;
@@ -37,7 +37,7 @@ const MOST_HDATA: usize = 496;
 
 /// EXTEND2: in RELAY_EARLY, with no next hop before it, and with an IPv4 address.
 pub fn extend_effects(log: &[Entry<'_>], message: &Message) -> Effects
-    ensures { effects_of result ≡ extend_effects (log_of log.now) (message_of message.now) }
+    ensures { result ≡ extend_effects (log_of log.now) (message_of message.now) }
 {
     if !message.early || !is_absent(log) {
         return Effects::closing(destroy_reason::PROTOCOL);
@@ -54,7 +54,7 @@ pub fn extend_effects(log: &[Entry<'_>], message: &Message) -> Effects
 /// TRUNCATE.
 #[tactic(auto, using(tor_spec::proofs::Bodies::relay_body_fits))]
 pub fn truncate_effects(alloc: Global, log: &[Entry<'_>]) -> Result<Effects, AllocError>
-    ensures { IfOk result (λ effects. effects_of effects ≡ truncate_effects (log_of log.now)) }
+    ensures { IfOk result (λ effects. effects ≡ truncate_effects (log_of log.now)) }
 {
     let answered = packaging(alloc, log, &truncated_body(destroy_reason::REQUESTED))?;
     Ok(Effects {
@@ -119,7 +119,7 @@ fn create2(request: &Extend2<'_>) -> CircuitCell
 
 /// A linked next hop is sent what the last accepted EXTEND2 asked.
 pub fn linked_effects(log: &[Entry<'_>]) -> Effects
-    ensures { effects_of result ≡ linked_effects (log_of log.now) }
+    ensures { result ≡ linked_effects (log_of log.now) }
 {
     let mut asked = None;
     for entry in log {
@@ -143,7 +143,7 @@ pub fn answered_effects(
     log: &[Entry<'_>],
     payload: &[u8; 509],
 ) -> Result<Effects, AllocError>
-    ensures { IfOk result (λ effects. effects_of effects ≡ answered_effects (log_of log.now) payload.now) }
+    ensures { IfOk result (λ effects. effects ≡ answered_effects (log_of log.now) payload.now) }
 {
     let Some(handshake) = read_handshake_reply(payload) else {
         return Ok(Effects::closing(destroy_reason::PROTOCOL));

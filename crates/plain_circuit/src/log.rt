@@ -2,8 +2,8 @@
 
 ghost use Rattle.std.specs.Prelude.{◌≤◌, vec_len};
 
-use crate::effects::Effects;
 use crate::event::Event;
+use circuit_model::Effects;
 
 /// A recognised relay cell of a fitting Length.
 #[derive(Drop)]

@@ -2,16 +2,15 @@
 
 ghost use Rattle.std.specs.Prelude.{◌≡◌};
 ghost use Rattle.circuit_model.specs.NextHop.{hop_by, next_hop};
-ghost use Rattle.plain_circuit.specs.Values.{log_of, event_of, effects_of};
+ghost use Rattle.plain_circuit.specs.Values.{log_of, event_of};
 
-use crate::effects::Effects;
 use crate::event::Event;
 use crate::log::Entry;
-use circuit_model::NextHop;
+use circuit_model::{Effects, NextHop};
 
 /// What an event makes of the next hop.
 fn hop_by(event: &Event, effects: &Effects) -> Option<NextHop>
-    ensures { result ≡ hop_by (event_of event.now) (effects_of effects.now) }
+    ensures { result ≡ hop_by (event_of event.now) effects.now }
 {
     match event {
         Event::Linked => Some(NextHop::Waiting),

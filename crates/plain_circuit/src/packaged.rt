@@ -4,12 +4,12 @@ ghost use Rattle.std.specs.Prelude.{◌≡◌, IfOk, IsTrue, Some};
 ghost use Rattle.tor_spec.specs.RelayCell.{fits_length};
 ghost use Rattle.circuit_model.specs.Log.{no_effects};
 ghost use Rattle.circuit_model.specs.Packaged.{packaged_by, own, digested, padded_by, finished};
-ghost use Rattle.plain_circuit.specs.Values.{log_of, event_of, effects_of};
+ghost use Rattle.plain_circuit.specs.Values.{log_of, event_of};
 
-use crate::effects::Effects;
 use crate::event::Event;
 use crate::log::Entry;
 use crate::opened::{born_keys, born_pad, digest_of, keystream_for};
+use circuit_model::Effects;
 use relay_cell::{put_digest, put_padding};
 use std::alloc::{AllocError, Global};
 
@@ -74,7 +74,7 @@ fn finished(alloc: Global, log: &[Entry<'_>], body: &[u8; 509]) -> Result<[u8; 5
 /// Packages this body.
 pub fn packaging(alloc: Global, log: &[Entry<'_>], body: &[u8; 509]) -> Result<Effects, AllocError>
     requires { IsTrue (fits_length body.now) }
-    ensures { IfOk result (λ effects. effects_of effects ≡ record no_effects { back = Some (finished (log_of log.now) body.now) }) }
+    ensures { IfOk result (λ effects. effects ≡ record no_effects { back = Some (finished (log_of log.now) body.now) }) }
 {
     let body = finished(alloc, log, body)?;
     Ok(Effects {

@@ -2,13 +2,13 @@
 
 ghost use Rattle.std.specs.Prelude.{◌≡◌, ◌≤◌, ◌==◌, ◌&&◌, IfOk, length, filter, find, map, option_map, slice_get};
 ghost use Rattle.circuit_model.specs.Places.{place_of as place_made_by, connects, frees, closes_place, is_connected, is_ended, is_freed, phase, is_live, is_taken_phase, places, place_at, live_place, taken_places};
-ghost use Rattle.plain_circuit.specs.Values.{log_of, event_of, order_of, place_of};
+ghost use Rattle.plain_circuit.specs.Values.{log_of, event_of, place_of};
 
-use crate::effects::{Address, Order};
 use crate::event::Event;
 use crate::log::Entry;
-use circuit_model::{Phase, StreamKey};
+use circuit_model::{Order, Phase, StreamKey};
 use std::alloc::{AllocError, Global};
+use tor_spec::Address;
 
 #[derive(Clone, Copy)]
 pub struct Place {
@@ -30,7 +30,7 @@ fn frees(serial: usize, event: &Event) -> bool
 }
 
 fn closes_place(serial: usize, order: &Option<Order>) -> bool
-    ensures { result ≡ closes_place serial (option_map order_of order.now) }
+    ensures { result ≡ closes_place serial order.now }
 {
     matches!(order, Some(Order::Close(key, _)) if key.serial == serial)
 }
@@ -104,7 +104,7 @@ fn is_taken(log: &[Entry<'_>], place: &Place) -> bool
 
 /// A Reach order makes a place.
 fn place_made(order: &Option<Order>) -> Option<Place>
-    ensures { option_map place_of result ≡ place_made_by (option_map order_of order.now) }
+    ensures { option_map place_of result ≡ place_made_by order.now }
 {
     match order {
         Some(Order::Reach(key, to)) => Some(Place { key: *key, to: *to }),

@@ -3,10 +3,9 @@
 ghost use Rattle.std.specs.Prelude.{◌≡◌, IfOk};
 ghost use Rattle.circuit_model.specs.Effects.{message_effects, passed_on, forward_effects, open_effects};
 ghost use Rattle.circuit_model.specs.Words.{entry_after, log, effects};
-ghost use Rattle.plain_circuit.specs.Values.{history_of, log_of, rules_of, event_of, message_of, effects_of, entry_of};
+ghost use Rattle.plain_circuit.specs.Values.{history_of, log_of, rules_of, event_of, message_of, entry_of};
 ghost use Rattle.plain_circuit.specs.Received.{received_of};
 
-use crate::effects::Effects;
 use crate::event::Event;
 use crate::extending::{answered_effects, extend_effects, linked_effects, truncate_effects};
 use crate::log::{Entry, Message};
@@ -19,7 +18,7 @@ use crate::streams::{
     end_effects, ended_effects, ending, resolve_effects, sendme_effects,
 };
 use cell_codec::destroy_reason;
-use circuit_model::{CircuitCell, NextHop};
+use circuit_model::{CircuitCell, Effects, NextHop};
 use relay_cell::{command, stream_end};
 use std::alloc::{AllocError, Global};
 
@@ -31,7 +30,7 @@ fn message_effects(
     log: &[Entry<'_>],
     message: &Message,
 ) -> Result<Effects, AllocError>
-    ensures { IfOk result (λ effects. effects_of effects ≡ message_effects (rules_of rules.now) (log_of log.now) (message_of message.now)) }
+    ensures { IfOk result (λ effects. effects ≡ message_effects (rules_of rules.now) (log_of log.now) (message_of message.now)) }
 {
     match message.command {
         command::BEGIN => begin_effects(alloc, rules, log, message),
@@ -48,7 +47,7 @@ fn message_effects(
 
 /// A body for another hop goes on with the command of its cell, if there is a next hop.
 fn passed_on(hop: NextHop, cell: CircuitCell) -> Effects
-    ensures { effects_of result ≡ passed_on hop cell }
+    ensures { result ≡ passed_on hop cell }
 {
     match hop {
         NextHop::There => Effects {
@@ -67,7 +66,7 @@ fn forward_effects(
     command: u8,
     cell: &Received,
 ) -> Result<Effects, AllocError>
-    ensures { IfOk result (λ effects. effects_of effects ≡ forward_effects (rules_of rules.now) (log_of log.now) command (received_of cell.now)) }
+    ensures { IfOk result (λ effects. effects ≡ forward_effects (rules_of rules.now) (log_of log.now) command (received_of cell.now)) }
 {
     match cell {
         Received::TooManyEarly => Ok(Effects::closing(destroy_reason::PROTOCOL)),
@@ -91,7 +90,7 @@ fn open_effects(
     log: &[Entry<'_>],
     event: &Event,
 ) -> Result<Effects, AllocError>
-    ensures { IfOk result (λ effects. effects_of effects ≡ open_effects (rules_of rules.now) (log_of log.now) (event_of event.now)) }
+    ensures { IfOk result (λ effects. effects ≡ open_effects (rules_of rules.now) (log_of log.now) (event_of event.now)) }
 {
     match event {
         Event::Born(_, _, _) => Ok(Effects::none()),
@@ -185,7 +184,7 @@ pub fn effects(
     history: &[Event],
     event: &Event,
 ) -> Result<Effects, AllocError>
-    ensures { IfOk result (λ given. effects_of given ≡ effects (rules_of rules.now) (history_of history.now) (event_of event.now)) }
+    ensures { IfOk result (λ given. given ≡ effects (rules_of rules.now) (history_of history.now) (event_of event.now)) }
 {
     let log = log_of(alloc, rules, history)?;
     let entry = entry_after(alloc, rules, &log, event)?;

@@ -2,9 +2,9 @@
 
 ghost use Rattle.std.specs.Prelude.{◌≡◌, find, map, option_map};
 ghost use Rattle.circuit_model.specs.Rules.{allows, has_host, allowed_address, resolved_address};
-ghost use Rattle.plain_circuit.specs.Values.{address_of, allow_of, rules_of};
+ghost use Rattle.plain_circuit.specs.Values.{allow_of, rules_of};
 
-use crate::effects::Address;
+use tor_spec::Address;
 
 /// One allowed name: host and port, and the address that a stream to it is connected to.
 #[derive(Drop)]
@@ -38,7 +38,7 @@ fn allows(host: &[u8], port: u16, line: &Allow) -> bool
 
 /// The address of the first of these lines that has this host and port.
 fn allowed_among(lines: &[Allow], host: &[u8], port: u16) -> Option<Address>
-    ensures { option_map address_of result ≡ option_map (λ line. line.to) (find (allows (record { host = host.now; port = port })) (map allow_of lines.now)) }
+    ensures { result ≡ option_map (λ line. line.to) (find (allows (record { host = host.now; port = port })) (map allow_of lines.now)) }
 {
     let (line, rest) = lines.split_first()?;
     if allows(host, port, line) {
@@ -50,7 +50,7 @@ fn allowed_among(lines: &[Allow], host: &[u8], port: u16) -> Option<Address>
 
 /// The address of the first of these lines that has this host.
 fn resolved_among(lines: &[Allow], host: &[u8]) -> Option<Address>
-    ensures { option_map address_of result ≡ option_map (λ line. line.to) (find (has_host host.now) (map allow_of lines.now)) }
+    ensures { result ≡ option_map (λ line. line.to) (find (has_host host.now) (map allow_of lines.now)) }
 {
     let (line, rest) = lines.split_first()?;
     if has_host(host, line) {
@@ -63,7 +63,7 @@ fn resolved_among(lines: &[Allow], host: &[u8]) -> Option<Address>
 /// Where a stream to this host and port leads.
 #[tactic(auto, unfolding(circuit_model::specs::Rules::allowed_address))]
 pub fn allowed_address(rules: &Rules, host: &[u8], port: u16) -> Option<Address>
-    ensures { option_map address_of result ≡ allowed_address (rules_of rules.now) (record { host = host.now; port = port }) }
+    ensures { result ≡ allowed_address (rules_of rules.now) (record { host = host.now; port = port }) }
 {
     allowed_among(&rules.allow, host, port)
 }
@@ -71,7 +71,7 @@ pub fn allowed_address(rules: &Rules, host: &[u8], port: u16) -> Option<Address>
 /// What a host name resolves to.
 #[tactic(auto, unfolding(circuit_model::specs::Rules::resolved_address))]
 pub fn resolved_address(rules: &Rules, host: &[u8]) -> Option<Address>
-    ensures { option_map address_of result ≡ resolved_address (rules_of rules.now) host.now }
+    ensures { result ≡ resolved_address (rules_of rules.now) host.now }
 {
     resolved_among(&rules.allow, host)
 }

@@ -5,9 +5,8 @@ ghost use Rattle.tor_spec.specs.RelayCell.{fits_length, relay_body, resolved_com
 ghost use Rattle.tor_spec.specs.Resolve.{resolve_host};
 ghost use Rattle.circuit_model.specs.Rules.{resolved_address};
 ghost use Rattle.circuit_model.specs.Streams.{ending, begin_effects, acknowledging, data_effects, end_effects, stream_sendme_at, sendme_effects, resolved_value, resolve_effects, connected_effects, edge_data_effects, ended_effects, drained_effects};
-ghost use Rattle.plain_circuit.specs.Values.{log_of, rules_of, message_of, effects_of, address_of, place_of};
+ghost use Rattle.plain_circuit.specs.Values.{log_of, rules_of, message_of, place_of};
 
-use crate::effects::{Address, Effects, Order};
 use crate::event::Piece;
 use crate::log::{Entry, Message};
 use crate::packaged::packaging;
@@ -19,12 +18,13 @@ use crate::windows::{
     grant_for, packed_for,
 };
 use cell_codec::destroy_reason;
-use circuit_model::StreamKey;
+use circuit_model::{Effects, Order, Payload, StreamKey};
 use relay_cell::{
     circuit_sendme_body, connected_body, data_body, end_body, end_reason, read_begin, read_resolve,
     resolved_body, resolved_type, stream_end, stream_sendme_body,
 };
 use std::alloc::{AllocError, Global};
+use tor_spec::Address;
 
 /// The places that a circuit has room for.
 const PLACE_LIMIT: usize = 32;
@@ -40,7 +40,7 @@ pub fn ending(
     stream: u16,
     reason: u8,
 ) -> Result<Effects, AllocError>
-    ensures { IfOk result (λ effects. effects_of effects ≡ ending (log_of log.now) stream reason) }
+    ensures { IfOk result (λ effects. effects ≡ ending (log_of log.now) stream reason) }
 {
     packaging(alloc, log, &end_body(stream, reason))
 }
@@ -52,7 +52,7 @@ pub fn begin_effects(
     log: &[Entry<'_>],
     message: &Message,
 ) -> Result<Effects, AllocError>
-    ensures { IfOk result (λ effects. effects_of effects ≡ begin_effects (rules_of rules.now) (log_of log.now) (message_of message.now)) }
+    ensures { IfOk result (λ effects. effects ≡ begin_effects (rules_of rules.now) (log_of log.now) (message_of message.now)) }
 {
     if message.stream == 0 || message.place.is_some() {
         return Ok(Effects::closing(destroy_reason::PROTOCOL));
@@ -77,7 +77,7 @@ pub fn begin_effects(
 /// Each 100th DATA that the circuit accepts is acknowledged with the digest of its body.
 #[tactic(auto, using(tor_spec::proofs::Fitting::body_fits, tor_spec::proofs::Fitting::proof_fits))]
 fn acknowledging(alloc: Global, log: &[Entry<'_>], message: &Message) -> Result<Effects, AllocError>
-    ensures { IfOk result (λ effects. effects_of effects ≡ acknowledging (log_of log.now) (message_of message.now)) }
+    ensures { IfOk result (λ effects. effects ≡ acknowledging (log_of log.now) (message_of message.now)) }
 {
     if (accepted_data(log) as u128 + 1) % CIRCUIT_STEP == 0 {
         packaging(alloc, log, &circuit_sendme_body(&message.digest))
@@ -92,7 +92,7 @@ pub fn data_effects(
     log: &[Entry<'_>],
     message: &Message,
 ) -> Result<Effects, AllocError>
-    ensures { IfOk result (λ effects. effects_of effects ≡ data_effects (log_of log.now) (message_of message.now)) }
+    ensures { IfOk result (λ effects. effects ≡ data_effects (log_of log.now) (message_of message.now)) }
 {
     let Some(serial) = message.place else {
         return acknowledging(alloc, log, message);
@@ -100,7 +100,7 @@ pub fn data_effects(
     if accept_grant(log, serial) <= carried(log, serial) as u128 {
         return Ok(Effects::closing(destroy_reason::PROTOCOL));
     }
-    let bytes = Vec::from_slice(alloc, &message.payload)?;
+    let bytes = Payload::of(alloc, &message.payload)?;
     let key = StreamKey {
         stream: message.stream,
         serial,
@@ -114,7 +114,7 @@ pub fn data_effects(
 
 /// END.
 pub fn end_effects(message: &Message) -> Effects
-    ensures { effects_of result ≡ end_effects (message_of message.now) }
+    ensures { result ≡ end_effects (message_of message.now) }
 {
     match message.place {
         Some(serial) => {
@@ -130,7 +130,7 @@ pub fn end_effects(message: &Message) -> Effects
 
 /// A SENDME of a stream. Its window stays at or below 500.
 fn stream_sendme_effects(log: &[Entry<'_>], place: Option<usize>) -> Effects
-    ensures { effects_of result ≡ stream_sendme_at (log_of log.now) place }
+    ensures { result ≡ stream_sendme_at (log_of log.now) place }
 {
     match place {
         Some(serial)
@@ -149,7 +149,7 @@ pub fn sendme_effects(
     log: &[Entry<'_>],
     message: &Message,
 ) -> Result<Effects, AllocError>
-    ensures { IfOk result (λ effects. effects_of effects ≡ sendme_effects (rules_of rules.now) (log_of log.now) (message_of message.now)) }
+    ensures { IfOk result (λ effects. effects ≡ sendme_effects (rules_of rules.now) (log_of log.now) (message_of message.now)) }
 {
     if message.stream != 0 {
         return Ok(stream_sendme_effects(log, message.place));
@@ -163,7 +163,7 @@ pub fn sendme_effects(
 
 /// The address of the name that a RESOLVE asks for.
 fn looked_up(rules: &Rules, payload: &[u8]) -> Option<Address>
-    ensures { option_map address_of result ≡ option_and_then (resolved_address (rules_of rules.now)) (resolve_host payload.now) }
+    ensures { result ≡ option_and_then (resolved_address (rules_of rules.now)) (resolve_host payload.now) }
 {
     match read_resolve(payload) {
         Some(host) => resolved_address(rules, host),
@@ -174,7 +174,7 @@ fn looked_up(rules: &Rules, payload: &[u8]) -> Option<Address>
 /// The RESOLVED with this address, or with a lasting error.
 #[tactic(auto, using(tor_spec::proofs::Fitting::body_fits, tor_spec::proofs::Fitting::answer_fits))]
 fn answer_body(stream: u16, to: Option<Address>) -> [u8; 509]
-    ensures body { result ≡ relay_body resolved_command stream (resolved_value (option_map address_of to)) }
+    ensures body { result ≡ relay_body resolved_command stream (resolved_value to) }
     ensures fits { IsTrue (fits_length result) }
 {
     match to {
@@ -190,7 +190,7 @@ pub fn resolve_effects(
     log: &[Entry<'_>],
     message: &Message,
 ) -> Result<Effects, AllocError>
-    ensures { IfOk result (λ effects. effects_of effects ≡ resolve_effects (rules_of rules.now) (log_of log.now) (message_of message.now)) }
+    ensures { IfOk result (λ effects. effects ≡ resolve_effects (rules_of rules.now) (log_of log.now) (message_of message.now)) }
 {
     let to = looked_up(rules, &message.payload);
     packaging(alloc, log, &answer_body(message.stream, to))
@@ -203,7 +203,7 @@ pub fn connected_effects(
     log: &[Entry<'_>],
     place: Option<Place>,
 ) -> Result<Effects, AllocError>
-    ensures { IfOk result (λ effects. effects_of effects ≡ connected_effects (log_of log.now) (option_map place_of place)) }
+    ensures { IfOk result (λ effects. effects ≡ connected_effects (log_of log.now) (option_map place_of place)) }
 {
     match place {
         Some(place) => packaging(
@@ -223,7 +223,7 @@ pub fn edge_data_effects(
     piece: &Piece,
     place: Option<Place>,
 ) -> Result<Effects, AllocError>
-    ensures { IfOk result (λ effects. effects_of effects ≡ edge_data_effects (log_of log.now) piece.now.bytes.items (option_map place_of place)) }
+    ensures { IfOk result (λ effects. effects ≡ edge_data_effects (log_of log.now) piece.now.bytes.items (option_map place_of place)) }
 {
     match place {
         Some(place) => packaging(alloc, log, &data_body(place.key.stream, &piece.bytes)),
@@ -238,7 +238,7 @@ pub fn ended_effects(
     reason: u8,
     place: Option<Place>,
 ) -> Result<Effects, AllocError>
-    ensures { IfOk result (λ effects. effects_of effects ≡ ended_effects (log_of log.now) reason (option_map place_of place)) }
+    ensures { IfOk result (λ effects. effects ≡ ended_effects (log_of log.now) reason (option_map place_of place)) }
 {
     let Some(place) = place else {
         return Ok(Effects::none());
@@ -257,7 +257,7 @@ pub fn drained_effects(
     log: &[Entry<'_>],
     place: Option<Place>,
 ) -> Result<Effects, AllocError>
-    ensures { IfOk result (λ effects. effects_of effects ≡ drained_effects (log_of log.now) (option_map place_of place)) }
+    ensures { IfOk result (λ effects. effects ≡ drained_effects (log_of log.now) (option_map place_of place)) }
 {
     let Some(place) = place else {
         return Ok(Effects::none());

@@ -2,12 +2,12 @@
 
 ghost use Rattle.std.specs.Prelude.{◌≡◌, ◌<◌, ◌^◌, nat_le, option_map};
 ghost use Rattle.circuit_model.specs.Windows.{has_command, has_stream, has_place, is_accepted, packs_data, is_data_of, carries, drains, circuit_packaged, good_sendmes, circuit_grant, stream_packaged, stream_sendmes, stream_grant, accepted_data, carried, drained, accept_grant};
-ghost use Rattle.plain_circuit.specs.Values.{rules_of, log_of, entry_of, event_of, message_of, order_of};
+ghost use Rattle.plain_circuit.specs.Values.{rules_of, log_of, entry_of, event_of, message_of};
 
-use crate::effects::Order;
 use crate::event::Event;
 use crate::log::{Entry, Message};
 use crate::rules::Rules;
+use circuit_model::Order;
 use relay_cell::command;
 
 /// The DATA by which a SENDME raises a circuit's window, and a stream's.
@@ -68,7 +68,7 @@ fn is_data_of(serial: usize, event: &Event) -> bool
 }
 
 fn carries(serial: usize, order: &Option<Order>) -> bool
-    ensures { result ≡ carries serial (option_map order_of order.now) }
+    ensures { result ≡ carries serial order.now }
 {
     matches!(order, Some(Order::Carry(key, _)) if key.serial == serial)
 }

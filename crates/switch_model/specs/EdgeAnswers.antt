@@ -2,7 +2,8 @@
 -- drained. The first line that fits holds.
 use Rattle.std.specs.Prelude.{ℕ, ◌==◌, nat_le, not, List, [], ◌∷◌, Bool, true, false, if◌then◌else◌, Option, Some, None}
 use Rattle.circuit_model.specs.Events.{Drained}
-use Rattle.circuit_model.specs.Log.{Log, Order, Reach, Carry, Close}
+use Rattle.circuit_model.specs.Log.{Log, Order}
+use Rattle.circuit_model.specs.declared.effects.Order.TheVariants.{Reach, Carry, Close}
 use Rattle.circuit_model.specs.declared.places.Phase.{Phase}
 use Rattle.circuit_model.specs.declared.places.Phase.TheVariants.{Reaching, Joined, Free}
 use Rattle.circuit_model.specs.Places.{Place, place_at, phase, is_live_phase}

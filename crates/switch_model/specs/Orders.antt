@@ -3,7 +3,8 @@ use Rattle.std.specs.Prelude.{ℕ, ◌+◌, ◌==◌, ◌&&◌, not, List, [], �
 use Rattle.std.specs.List.{list_any}
 use Rattle.std.specs.Option.{option_or}
 use Rattle.circuit_model.specs.Events.{Event, Ended}
-use Rattle.circuit_model.specs.Log.{Log, Order, Reach, Carry, Close, collected, StreamKey as PlaceKey}
+use Rattle.circuit_model.specs.Log.{Log, Order, collected, StreamKey as PlaceKey}
+use Rattle.circuit_model.specs.declared.effects.Order.TheVariants.{Reach, Carry, Close}
 use Rattle.circuit_model.specs.Opened.{is_forward}
 use Rattle.circuit_model.specs.Places.{Place, place_at}
 use Rattle.circuit_model.specs.Rules.{Rules}

@@ -2,8 +2,8 @@
 
 use crate::tests::driver::CIRCUIT;
 use circ_relay::Effects;
-use circuit_model::{CircuitCell, StreamKey as PlainKey};
-use plain_circuit::effects::{Address, Effects as PlainEffects, Order};
+use circuit_model::{CircuitCell, Effects as PlainEffects, Order, StreamKey as PlainKey};
+use tor_spec::Address;
 use tr_io::edges::EdgeOrder;
 use tr_io::names::{Dest, StreamKey};
 

@@ -3,8 +3,8 @@
 ghost use Rattle.std.specs.Prelude.{◌≤◌};
 
 use cell_codec::{Bytes, List};
-use plain_circuit::effects::Address;
 use std::alloc::{AllocError, Global};
+use tor_spec::Address;
 use tr_io::names::Dest;
 
 /// Host, port, and the IPv4 address and port that they lead to. The second line's host is the first's

@@ -2,7 +2,6 @@
 
 ghost use Rattle.std.specs.Prelude.{◌<◌};
 
-use crate::effects::Address;
 use crate::event::{Event, Piece};
 use crate::log::Entry;
 use crate::relay::{effects, log_of};
@@ -14,6 +13,7 @@ use kdf_tor::{LayerKeys, derive};
 use relay_cell::{begin_body, put_digest};
 use run_digest::Running;
 use std::alloc::{AllocError, Global};
+use tor_spec::Address;
 
 /// The cell commands of relay cells from the client.
 pub const RELAY: u8 = 3;

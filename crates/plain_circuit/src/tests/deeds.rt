@@ -1,7 +1,7 @@
 //! What an event had the relay do, as far as the examples look at it.
 
-use crate::effects::{Effects, Order};
 use crate::log::Entry;
+use circuit_model::{Effects, Order};
 
 /// The kind of an order for the edge.
 #[derive(Clone, Copy, PartialEq, Eq, Debug)]

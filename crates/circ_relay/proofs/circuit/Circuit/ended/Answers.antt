@@ -1,7 +1,8 @@
 use Rattle.std.proofs.Common.{Some, sym, ap, ◌∙◌}
 use Rattle.circuit_model.specs.Words.{log}
 use Rattle.stream_edge.specs.PlacesState.{PlacesState}
-use Rattle.circuit_model.specs.Log.{Effects as ModelEffects, Close}
+use Rattle.circuit_model.specs.Log.{Effects as ModelEffects}
+use Rattle.circuit_model.specs.declared.effects.Order.TheVariants.{Close}
 use Rattle.circ_relay.specs.Values.{key_of}
 use Rattle.circ_relay.proofs.Edges.{at_found, ended_packs, ended_goes_on}
 use Rattle.circ_relay.proofs.circuit.Circuit.ended.Goals as goal
