@@ -6,21 +6,13 @@ use Rattle.std.specs.List.{list_any}
 use Rattle.std.specs.Option.{option_or}
 use Rattle.circuit_model.specs.declared.effects.Effects.{Effects as DeclaredEffects}
 use Rattle.circuit_model.specs.declared.effects.Order.{Order as DeclaredOrder}
+use Rattle.circuit_model.specs.declared.message.Message.{Message as DeclaredMessage}
 use Rattle.circuit_model.specs.declared.places.StreamKey.{StreamKey as DeclaredKey}
 use Rattle.circuit_model.specs.Events.{Event}
 
 -- A relay message that is for this relay: a recognised relay cell of a fitting Length.
-pub record Message : Type 0 where
-  -- relay command, StreamID and data (tor-spec, "Relay cells")
-  pub command : ℕ
-  pub stream : ℕ
-  pub payload : List ℕ
-  -- the 20 bytes of the forward running digest after this cell
-  pub digest : List ℕ
-  -- whether it came in a RELAY_EARLY cell
-  pub early : Bool
-  -- the serial of the place at which its StreamID is live, if there is one
-  pub place : Option ℕ
+abbrev pub Message : Type 0
+Message = DeclaredMessage
 
 -- The name of a stream at the edge: its StreamID and the serial of its place.
 abbrev pub StreamKey : Type 0

@@ -9,12 +9,14 @@
 mod cell;
 mod effects;
 pub mod laws;
+mod message;
 mod next_hop;
 mod payload;
 mod places;
 
 pub use cell::CircuitCell;
 pub use effects::{Effects, Order};
+pub use message::Message;
 pub use next_hop::NextHop;
 pub use payload::Payload;
 pub use places::{Phase, StreamKey};

@@ -35,7 +35,7 @@ impl Payload {
     /// The bytes, in order.
     pub fn as_slice(&self) -> &[u8]
         ensures bytes { result.now ≡ self.now }
-        ensures short { length self.now ≤ 498 }
+        ensures short { length result.now ≤ 498 }
     {
         self.bytes.as_slice()
     }

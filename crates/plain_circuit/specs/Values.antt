@@ -1,15 +1,14 @@
 -- What the program's values are in the definitions.
-use Rattle.std.specs.Prelude.{List, map, option_map}
+use Rattle.std.specs.Prelude.{List, map}
 use Rattle.circuit_model.specs.Events.{Event as ModelEvent, Born as born, Forward as forward, Backward as backward, Connected as connected, Data as edge_data, Ended as ended, Drained as drained, Freed as freed, Linked as linked, Answered as answered, Failed as failed}
 use Rattle.circuit_model.specs.Rules.{Allow as ModelAllow, Rules as ModelRules}
-use Rattle.circuit_model.specs.Log.{Message as ModelMessage, Entry as ModelEntry, Log}
+use Rattle.circuit_model.specs.Log.{Entry as ModelEntry, Log}
 use Rattle.circuit_model.specs.Places.{Place as ModelPlace}
 use Rattle.circuit_model.specs.Words.{in_order}
 use Rattle.plain_circuit.specs.declared.event.Event.{Event}
 use Rattle.plain_circuit.specs.declared.event.Event.TheVariants.{Born, Forward, Backward, Connected, Data, Ended, Drained, Freed, Linked, Answered, Failed}
 use Rattle.plain_circuit.specs.declared.rules.Allow.{Allow}
 use Rattle.plain_circuit.specs.declared.rules.Rules.{Rules}
-use Rattle.plain_circuit.specs.declared.log.Message.{Message}
 use Rattle.plain_circuit.specs.declared.log.Entry.{Entry}
 use Rattle.plain_circuit.specs.declared.places.Place.{Place}
 
@@ -36,20 +35,10 @@ allow_of line = record { host = line.host.items; port = line.port; to = line.to 
 abbrev pub rules_of : Rules → ModelRules
 rules_of rules = record { allow = map allow_of rules.allow.items; window = rules.window; least = rules.least }
 
-abbrev pub message_of : Message → ModelMessage
-message_of m = record {
-  command = m.command;
-  stream = m.stream;
-  payload = m.payload.items;
-  digest = m.digest;
-  early = m.early;
-  place = m.place;
-}
-
 abbrev pub entry_of : Entry → ModelEntry
 entry_of e = record {
   event = event_of e.event.now;
-  message = option_map message_of e.message;
+  message = e.message;
   effects = e.effects;
 }
 

@@ -6,13 +6,13 @@ ghost use Rattle.tor_spec.specs.Extend.{extend_request, handshake_request_payloa
 ghost use Rattle.relay_cell.specs.Extend.{extend_of};
 ghost use Rattle.circuit_model.specs.NextHop.{next_hop, is_absent};
 ghost use Rattle.circuit_model.specs.Extending.{address_asked, extend_effects, truncate_effects, accepted_request, create2, filled, linked_effects, answered_effects};
-ghost use Rattle.plain_circuit.specs.Values.{log_of, message_of, entry_of};
+ghost use Rattle.plain_circuit.specs.Values.{log_of, entry_of};
 
-use crate::log::{Entry, Message};
+use crate::log::Entry;
 use crate::next_hop::next_hop;
 use crate::packaged::packaging;
 use cell_codec::{command, destroy_reason};
-use circuit_model::{CircuitCell, Effects, NextHop};
+use circuit_model::{CircuitCell, Effects, Message, NextHop};
 use relay_cell::{Extend2, extended2_body, read_extend2, read_handshake_reply, truncated_body};
 use std::alloc::{AllocError, Global};
 use tor_spec::Address;
@@ -25,9 +25,9 @@ fn is_absent(log: &[Entry<'_>]) -> bool
 
 /// The first IPv4 address that an EXTEND2 names.
 fn address_asked(message: &Message) -> Option<Address>
-    ensures { result ≡ address_asked (message_of message.now) }
+    ensures { result ≡ address_asked message.now }
 {
-    let extend = read_extend2(&message.payload)?;
+    let extend = read_extend2(message.payload.as_slice())?;
     let (ip, port) = extend.to?;
     Some(Address { ip, port })
 }
@@ -37,7 +37,7 @@ const MOST_HDATA: usize = 496;
 
 /// EXTEND2: in RELAY_EARLY, with no next hop before it, and with an IPv4 address.
 pub fn extend_effects(log: &[Entry<'_>], message: &Message) -> Effects
-    ensures { result ≡ extend_effects (log_of log.now) (message_of message.now) }
+    ensures { result ≡ extend_effects (log_of log.now) message.now }
 {
     if !message.early || !is_absent(log) {
         return Effects::closing(destroy_reason::PROTOCOL);
@@ -65,10 +65,10 @@ pub fn truncate_effects(alloc: Global, log: &[Entry<'_>]) -> Result<Effects, All
 
 /// What a message asks of a next hop, if it is an EXTEND2.
 fn request_in(message: &Message) -> Option<Extend2<'_>>
-    ensures request { option_map extend_of result ≡ extend_request (message_of message.now).payload }
+    ensures request { option_map extend_of result ≡ extend_request message.now.payload }
     ensures short { IfSome result (λ request. length request.hdata.now ≤ 498) }
 {
-    let request = read_extend2(&message.payload)?;
+    let request = read_extend2(message.payload.as_slice())?;
     Some(request)
 }
 

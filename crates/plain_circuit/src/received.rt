@@ -6,14 +6,15 @@ ghost use Rattle.relay_cell.specs.Head.{head_of};
 ghost use Rattle.circuit_model.specs.Log.{is_closed};
 ghost use Rattle.circuit_model.specs.Received.{is_early, early_count, received, message_in_body};
 ghost use Rattle.circuit_model.specs.Opened.{digest_with};
-ghost use Rattle.plain_circuit.specs.Values.{log_of, event_of, message_of};
+ghost use Rattle.plain_circuit.specs.Values.{log_of, event_of};
 ghost use Rattle.plain_circuit.specs.Received.{received_of};
 
 use crate::event::Event;
-use crate::log::{Entry, Message};
+use crate::log::Entry;
 use crate::opened::{born_keys, digest_with, is_recognised_by, plain_body, recognised_bodies};
 use crate::places::live_place;
 use cell_codec::command;
+use circuit_model::{Message, Payload};
 use relay_cell::{RelayHead, payload_of, read_head};
 use std::alloc::{AllocError, Global};
 
@@ -76,9 +77,9 @@ fn message_in_body(
     requires fits { IsTrue (fits_length plain.now) }
     requires head { head_of head.now ≡ relay_head plain.now }
     requires digest { digest ≡ digest_with (log_of log.now) plain.now }
-    ensures { IfOk result (λ message. message_of message ≡ message_in_body (log_of log.now) command plain.now) }
+    ensures { IfOk result (λ message. message ≡ message_in_body (log_of log.now) command plain.now) }
 {
-    let payload = Vec::from_slice(alloc, payload_of(plain))?;
+    let payload = Payload::of(alloc, payload_of(plain))?;
     let place = live_place(alloc, log, head.stream)?;
     Ok(Message {
         command: head.command,
@@ -119,14 +120,13 @@ pub fn read_cell(
 }
 
 impl Received {
-    ghost use Rattle.std.specs.Prelude.{◌≡◌, option_map};
-    ghost use Rattle.circuit_model.specs.Received.{message_of as message_received};
-    ghost use Rattle.plain_circuit.specs.Values.{message_of};
+    ghost use Rattle.std.specs.Prelude.{◌≡◌};
+    ghost use Rattle.circuit_model.specs.Received.{message_of};
     ghost use Rattle.plain_circuit.specs.Received.{received_of};
 
     /// The message, if the cell is one for this relay.
     pub fn message(self) -> Option<Message>
-        ensures { option_map message_of result ≡ message_received (received_of self) }
+        ensures { result ≡ message_of (received_of self) }
     {
         match self {
             Received::ForUs(message) => Some(message),

@@ -3,12 +3,12 @@
 ghost use Rattle.std.specs.Prelude.{◌≡◌, IfOk};
 ghost use Rattle.circuit_model.specs.Effects.{message_effects, passed_on, forward_effects, open_effects};
 ghost use Rattle.circuit_model.specs.Words.{entry_after, log, effects};
-ghost use Rattle.plain_circuit.specs.Values.{history_of, log_of, rules_of, event_of, message_of, entry_of};
+ghost use Rattle.plain_circuit.specs.Values.{history_of, log_of, rules_of, event_of, entry_of};
 ghost use Rattle.plain_circuit.specs.Received.{received_of};
 
 use crate::event::Event;
 use crate::extending::{answered_effects, extend_effects, linked_effects, truncate_effects};
-use crate::log::{Entry, Message};
+use crate::log::Entry;
 use crate::next_hop::next_hop;
 use crate::places::place_at;
 use crate::received::{Received, is_closed, read_cell};
@@ -18,7 +18,7 @@ use crate::streams::{
     end_effects, ended_effects, ending, resolve_effects, sendme_effects,
 };
 use cell_codec::destroy_reason;
-use circuit_model::{CircuitCell, Effects, NextHop};
+use circuit_model::{CircuitCell, Effects, Message, NextHop};
 use relay_cell::{command, stream_end};
 use std::alloc::{AllocError, Global};
 
@@ -30,7 +30,7 @@ fn message_effects(
     log: &[Entry<'_>],
     message: &Message,
 ) -> Result<Effects, AllocError>
-    ensures { IfOk result (λ effects. effects ≡ message_effects (rules_of rules.now) (log_of log.now) (message_of message.now)) }
+    ensures { IfOk result (λ effects. effects ≡ message_effects (rules_of rules.now) (log_of log.now) message.now) }
 {
     match message.command {
         command::BEGIN => begin_effects(alloc, rules, log, message),

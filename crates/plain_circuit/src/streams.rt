@@ -1,14 +1,15 @@
 //! Messages that concern streams, and what the edge reports of a place.
 
 ghost use Rattle.std.specs.Prelude.{◌≡◌, IfOk, IsTrue, option_map, option_and_then};
-ghost use Rattle.tor_spec.specs.RelayCell.{fits_length, relay_body, resolved_command};
+ghost use Rattle.tor_spec.specs.RelayCell.{fits_length, relay_body, resolved_command, sendme_command};
 ghost use Rattle.tor_spec.specs.Resolve.{resolve_host};
+ghost use Rattle.tor_spec.specs.Sendme.{sendme_payload};
 ghost use Rattle.circuit_model.specs.Rules.{resolved_address};
 ghost use Rattle.circuit_model.specs.Streams.{ending, begin_effects, acknowledging, data_effects, end_effects, stream_sendme_at, sendme_effects, resolved_value, resolve_effects, connected_effects, edge_data_effects, ended_effects, drained_effects};
-ghost use Rattle.plain_circuit.specs.Values.{log_of, rules_of, message_of, place_of};
+ghost use Rattle.plain_circuit.specs.Values.{log_of, rules_of, place_of};
 
 use crate::event::Piece;
-use crate::log::{Entry, Message};
+use crate::log::Entry;
 use crate::packaged::packaging;
 use crate::places::{Place, place_count, taken_places};
 use crate::rules::{Rules, allowed_address, resolved_address};
@@ -18,7 +19,7 @@ use crate::windows::{
     grant_for, packed_for,
 };
 use cell_codec::destroy_reason;
-use circuit_model::{Effects, Order, Payload, StreamKey};
+use circuit_model::{Effects, Message, Order, Payload, StreamKey};
 use relay_cell::{
     circuit_sendme_body, connected_body, data_body, end_body, end_reason, read_begin, read_resolve,
     resolved_body, resolved_type, stream_end, stream_sendme_body,
@@ -52,12 +53,12 @@ pub fn begin_effects(
     log: &[Entry<'_>],
     message: &Message,
 ) -> Result<Effects, AllocError>
-    ensures { IfOk result (λ effects. effects ≡ begin_effects (rules_of rules.now) (log_of log.now) (message_of message.now)) }
+    ensures { IfOk result (λ effects. effects ≡ begin_effects (rules_of rules.now) (log_of log.now) message.now) }
 {
     if message.stream == 0 || message.place.is_some() {
         return Ok(Effects::closing(destroy_reason::PROTOCOL));
     }
-    let Some(target) = read_begin(&message.payload) else {
+    let Some(target) = read_begin(message.payload.as_slice()) else {
         return ending(alloc, log, message.stream, stream_end::TOR_PROTOCOL);
     };
     if taken_places(alloc, log)? >= PLACE_LIMIT {
@@ -74,13 +75,21 @@ pub fn begin_effects(
     Ok(Effects::ordering(Order::Reach(key, to)))
 }
 
-/// Each 100th DATA that the circuit accepts is acknowledged with the digest of its body.
+/// The SENDME that acknowledges the DATA with this digest.
 #[tactic(auto, using(tor_spec::proofs::Fitting::body_fits, tor_spec::proofs::Fitting::proof_fits))]
+fn acknowledgement(digest: &[u8; 20]) -> [u8; 509]
+    ensures body { result ≡ relay_body sendme_command 0 (sendme_payload digest.now) }
+    ensures fits { IsTrue (fits_length result) }
+{
+    circuit_sendme_body(digest)
+}
+
+/// Each 100th DATA that the circuit accepts is acknowledged with the digest of its body.
 fn acknowledging(alloc: Global, log: &[Entry<'_>], message: &Message) -> Result<Effects, AllocError>
-    ensures { IfOk result (λ effects. effects ≡ acknowledging (log_of log.now) (message_of message.now)) }
+    ensures { IfOk result (λ effects. effects ≡ acknowledging (log_of log.now) message.now) }
 {
     if (accepted_data(log) as u128 + 1) % CIRCUIT_STEP == 0 {
-        packaging(alloc, log, &circuit_sendme_body(&message.digest))
+        packaging(alloc, log, &acknowledgement(&message.digest))
     } else {
         Ok(Effects::none())
     }
@@ -92,7 +101,7 @@ pub fn data_effects(
     log: &[Entry<'_>],
     message: &Message,
 ) -> Result<Effects, AllocError>
-    ensures { IfOk result (λ effects. effects ≡ data_effects (log_of log.now) (message_of message.now)) }
+    ensures { IfOk result (λ effects. effects ≡ data_effects (log_of log.now) message.now) }
 {
     let Some(serial) = message.place else {
         return acknowledging(alloc, log, message);
@@ -100,7 +109,7 @@ pub fn data_effects(
     if accept_grant(log, serial) <= carried(log, serial) as u128 {
         return Ok(Effects::closing(destroy_reason::PROTOCOL));
     }
-    let bytes = Payload::of(alloc, &message.payload)?;
+    let bytes = Payload::of(alloc, message.payload.as_slice())?;
     let key = StreamKey {
         stream: message.stream,
         serial,
@@ -114,7 +123,7 @@ pub fn data_effects(
 
 /// END.
 pub fn end_effects(message: &Message) -> Effects
-    ensures { result ≡ end_effects (message_of message.now) }
+    ensures { result ≡ end_effects message.now }
 {
     match message.place {
         Some(serial) => {
@@ -122,7 +131,7 @@ pub fn end_effects(message: &Message) -> Effects
                 stream: message.stream,
                 serial,
             };
-            Effects::ordering(Order::Close(key, end_reason(&message.payload)))
+            Effects::ordering(Order::Close(key, end_reason(message.payload.as_slice())))
         }
         None => Effects::none(),
     }
@@ -149,12 +158,12 @@ pub fn sendme_effects(
     log: &[Entry<'_>],
     message: &Message,
 ) -> Result<Effects, AllocError>
-    ensures { IfOk result (λ effects. effects ≡ sendme_effects (rules_of rules.now) (log_of log.now) (message_of message.now)) }
+    ensures { IfOk result (λ effects. effects ≡ sendme_effects (rules_of rules.now) (log_of log.now) message.now) }
 {
     if message.stream != 0 {
         return Ok(stream_sendme_effects(log, message.place));
     }
-    if is_right_sendme(alloc, rules, log, &message.payload)? {
+    if is_right_sendme(alloc, rules, log, message.payload.as_slice())? {
         Ok(Effects::none())
     } else {
         Ok(Effects::closing(destroy_reason::PROTOCOL))
@@ -190,9 +199,9 @@ pub fn resolve_effects(
     log: &[Entry<'_>],
     message: &Message,
 ) -> Result<Effects, AllocError>
-    ensures { IfOk result (λ effects. effects ≡ resolve_effects (rules_of rules.now) (log_of log.now) (message_of message.now)) }
+    ensures { IfOk result (λ effects. effects ≡ resolve_effects (rules_of rules.now) (log_of log.now) message.now) }
 {
-    let to = looked_up(rules, &message.payload);
+    let to = looked_up(rules, message.payload.as_slice());
     packaging(alloc, log, &answer_body(message.stream, to))
 }
 

@@ -2,12 +2,12 @@
 
 ghost use Rattle.std.specs.Prelude.{◌≡◌, ◌<◌, ◌^◌, nat_le, option_map};
 ghost use Rattle.circuit_model.specs.Windows.{has_command, has_stream, has_place, is_accepted, packs_data, is_data_of, carries, drains, circuit_packaged, good_sendmes, circuit_grant, stream_packaged, stream_sendmes, stream_grant, accepted_data, carried, drained, accept_grant};
-ghost use Rattle.plain_circuit.specs.Values.{rules_of, log_of, entry_of, event_of, message_of};
+ghost use Rattle.plain_circuit.specs.Values.{rules_of, log_of, entry_of, event_of};
 
 use crate::event::Event;
-use crate::log::{Entry, Message};
+use crate::log::Entry;
 use crate::rules::Rules;
-use circuit_model::Order;
+use circuit_model::{Message, Order};
 use relay_cell::command;
 
 /// The DATA by which a SENDME raises a circuit's window, and a stream's.
@@ -19,19 +19,19 @@ pub const STREAM_STEP: u128 = 50;
 pub const STREAM_START: u128 = 500;
 
 fn has_command(command: u8, message: &Option<Message>) -> bool
-    ensures { result ≡ has_command command (option_map message_of message.now) }
+    ensures { result ≡ has_command command message.now }
 {
     matches!(message, Some(message) if message.command == command)
 }
 
 fn has_stream(stream: u16, message: &Option<Message>) -> bool
-    ensures { result ≡ has_stream stream (option_map message_of message.now) }
+    ensures { result ≡ has_stream stream message.now }
 {
     matches!(message, Some(message) if message.stream == stream)
 }
 
 fn has_place(serial: usize, message: &Option<Message>) -> bool
-    ensures { result ≡ has_place serial (option_map message_of message.now) }
+    ensures { result ≡ has_place serial message.now }
 {
     match message {
         Some(message) => match message.place {

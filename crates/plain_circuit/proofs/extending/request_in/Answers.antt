@@ -7,7 +7,6 @@ pub returns-clause-short : goal.returns-clause-short
 returns-clause-short c =
     omega (
       arith,
-      extend_handshake_short c.deref.result.now (extend_of c.in_ok-request.request) c.in_ok-request.ensures.some,
-      c.deref.ensures.len,
-      c.args.message.now.fits,
+      extend_handshake_short c.as_slice.result.now (extend_of c.in_ok-request.request) c.in_ok-request.ensures.some,
+      c.as_slice.ensures.short,
     )
