@@ -5,7 +5,8 @@ use Rattle.circuit_model.specs.Events.{Forward}
 use Rattle.circuit_model.specs.Rules.{Rules}
 use Rattle.circuit_model.specs.Log.{Entry, Log, Message, Effects, is_closed}
 use Rattle.circuit_model.specs.Places.{place_of}
-use Rattle.circuit_model.specs.Received.{ForUs, received, message_at}
+use Rattle.circuit_model.specs.Received.{received, message_at}
+use Rattle.circuit_model.specs.declared.message.Received.TheVariants.{ForUs}
 use Rattle.circuit_model.specs.Effects.{message_effects, open_effects, effects_after}
 use Rattle.circuit_model.specs.Words.{entry_after}
 use Rattle.circ_relay.specs.declared.circuit.Circuit.{Circuit}

@@ -8,7 +8,8 @@ use Rattle.circuit_model.specs.Log.{Log, Message, Effects, no_effects, closing, 
 use Rattle.circuit_model.specs.Opened.{keys_in}
 use Rattle.circuit_model.specs.Packaged.{packaged_by}
 use Rattle.circuit_model.specs.Windows.{is_data_body, packs_data, has_command, is_data_of}
-use Rattle.circuit_model.specs.Received.{Received, TooManyEarly, Unrecognised, TooLong, ForUs, received, message_in, message_at}
+use Rattle.circuit_model.specs.Received.{Received, received, message_in, message_at}
+use Rattle.circuit_model.specs.declared.message.Received.TheVariants.{TooManyEarly, Unrecognised, TooLong, ForUs}
 use Rattle.circuit_model.specs.declared.next_hop.NextHop.{NextHop}
 use Rattle.circuit_model.specs.declared.next_hop.NextHop.TheVariants.{There}
 use Rattle.circuit_model.specs.NextHop.{next_hop}

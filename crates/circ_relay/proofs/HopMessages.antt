@@ -8,7 +8,8 @@ use Rattle.circuit_model.specs.declared.next_hop.NextHop.TheVariants.{Absent, Di
 use Rattle.circuit_model.specs.declared.next_hop.NextHop.{NextHop}
 use Rattle.circuit_model.specs.NextHop.{next_hop, is_absent, hop_by, hop_by_effects}
 use Rattle.circuit_model.specs.Places.{place_of}
-use Rattle.circuit_model.specs.Received.{ForUs, received, message_at}
+use Rattle.circuit_model.specs.Received.{received, message_at}
+use Rattle.circuit_model.specs.declared.message.Received.TheVariants.{ForUs}
 use Rattle.circuit_model.specs.Extending.{linked_effects, extend_effects, create2, filled, truncate_effects}
 use Rattle.tor_spec.specs.Extend.{Address, Extend, extend_request, handshake_request_payload}
 use Rattle.circuit_model.specs.Effects.{effects_after}

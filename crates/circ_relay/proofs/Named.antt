@@ -13,7 +13,8 @@ use Rattle.circuit_model.specs.declared.effects.Order.TheVariants.{Reach, Carry,
 use Rattle.circuit_model.specs.Opened.{plain_body, recognises}
 use Rattle.circuit_model.specs.Places.{Place, places, place_at, place_of, phase, is_live, is_live_phase, live_place, taken_places, connects, frees, closes_place, is_connected, is_ended, is_freed}
 use Rattle.circuit_model.specs.Windows.{accept_grant, carried}
-use Rattle.circuit_model.specs.Received.{TooManyEarly, Unrecognised, TooLong, ForUs, received, message_in_body, message_of, message_at, relay_early_limit, early_count}
+use Rattle.circuit_model.specs.Received.{received, message_in_body, message_of, message_at, relay_early_limit, early_count}
+use Rattle.circuit_model.specs.declared.message.Received.TheVariants.{TooManyEarly, Unrecognised, TooLong, ForUs}
 use Rattle.circuit_model.specs.Streams.{place_limit, reaching, beginning, data_at, end_at, ended_effects}
 use Rattle.circuit_model.specs.Effects.{message_effects, open_effects, effects_after}
 use Rattle.circuit_model.specs.Words.{entry_after, log}

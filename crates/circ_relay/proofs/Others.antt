@@ -12,7 +12,8 @@ use Rattle.circuit_model.specs.NextHop.{next_hop, is_absent}
 use Rattle.circuit_model.specs.Places.{place_of}
 use Rattle.circuit_model.specs.Windows.{is_accepted, is_serial, has_place, accepted_data}
 use Rattle.circuit_model.specs.SendmeProof.{is_right_sendme}
-use Rattle.circuit_model.specs.Received.{Received, TooManyEarly, Unrecognised, TooLong, ForUs, received, message_of, message_at}
+use Rattle.circuit_model.specs.Received.{Received, received, message_of, message_at}
+use Rattle.circuit_model.specs.declared.message.Received.TheVariants.{TooManyEarly, Unrecognised, TooLong, ForUs}
 use Rattle.circuit_model.specs.Streams.{acknowledging, data_at, end_at, stream_sendme_at, sendme_effects, resolve_effects, ending}
 use Rattle.circuit_model.specs.Extending.{accepted_request, creating, dialling, address_asked, extend_effects, truncate_effects, extending}
 use Rattle.circuit_model.specs.Effects.{message_effects, passed_on, forward_effects, open_effects, effects_after}

@@ -15,7 +15,8 @@ use Rattle.circuit_model.specs.declared.next_hop.NextHop.TheVariants.{Absent, Di
 use Rattle.circuit_model.specs.NextHop.{next_hop}
 use Rattle.circuit_model.specs.Opened.{recognises, digest_with}
 use Rattle.circuit_model.specs.Places.{place_of}
-use Rattle.circuit_model.specs.Received.{message_of, Received, Unrecognised, TooLong, ForUs, received, received_plain, message_in_body, message_at, early_count, relay_early_limit}
+use Rattle.circuit_model.specs.Received.{message_of, Received, received, received_plain, message_in_body, message_at, early_count, relay_early_limit}
+use Rattle.circuit_model.specs.declared.message.Received.TheVariants.{Unrecognised, TooLong, ForUs}
 use Rattle.circuit_model.specs.Effects.{passed_on, open_effects, effects_after}
 use Rattle.circ_relay.specs.declared.circuit.Circuit.{Circuit}
 use Rattle.circ_relay.specs.declared.message.Message.{Message as CodeMessage}

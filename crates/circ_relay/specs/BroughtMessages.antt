@@ -5,7 +5,8 @@ use Rattle.relay_cell.specs.declared.head.Opened.{Opened}
 use Rattle.circuit_model.specs.Events.{Forward}
 use Rattle.circuit_model.specs.Rules.{Rules}
 use Rattle.circuit_model.specs.Log.{Log, Message as ModelMessage, is_closed}
-use Rattle.circuit_model.specs.Received.{ForUs, received, relay_early_limit, early_count}
+use Rattle.circuit_model.specs.Received.{received, relay_early_limit, early_count}
+use Rattle.circuit_model.specs.declared.message.Received.TheVariants.{ForUs}
 use Rattle.circuit_model.specs.Words.{entry_after}
 use Rattle.circ_relay.specs.declared.message.Message.{Message}
 use Rattle.circ_relay.specs.OpenedBodies.{IsOpened}

@@ -12,7 +12,8 @@ use Rattle.circuit_model.specs.Places.{Place, place_at}
 use Rattle.circuit_model.specs.Packaged.{packaged_by}
 use Rattle.circuit_model.specs.Windows.{has_command, is_data_of, is_data_body, circuit_packaged, circuit_grant, stream_packaged, stream_grant}
 use Rattle.circuit_model.specs.SendmeProof.{is_right_sendme}
-use Rattle.circuit_model.specs.Received.{Received, TooManyEarly, Unrecognised, TooLong, ForUs, received, message_at}
+use Rattle.circuit_model.specs.Received.{Received, received, message_at}
+use Rattle.circuit_model.specs.declared.message.Received.TheVariants.{TooManyEarly, Unrecognised, TooLong, ForUs}
 use Rattle.circuit_model.specs.Extending.{accepted_request, creating}
 use Rattle.circuit_model.specs.Effects.{message_effects, passed_on, forward_effects, open_effects, effects_after}
 use Rattle.circuit_model.specs.Words.{log}

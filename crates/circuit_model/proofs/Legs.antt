@@ -12,7 +12,8 @@ use Rattle.circuit_model.specs.NextHop.{next_hop, has_leg, is_absent, is_linked,
 use Rattle.circuit_model.specs.Opened.{keys_in, reply_in, born_keys, born_reply}
 use Rattle.circuit_model.specs.Packaged.{behind}
 use Rattle.circuit_model.specs.Places.{Place, place_at}
-use Rattle.circuit_model.specs.Received.{Received, TooManyEarly, Unrecognised, TooLong, ForUs, received, message_in, message_at}
+use Rattle.circuit_model.specs.Received.{Received, received, message_in, message_at}
+use Rattle.circuit_model.specs.declared.message.Received.TheVariants.{TooManyEarly, Unrecognised, TooLong, ForUs}
 use Rattle.circuit_model.specs.Streams.{connected_effects, edge_data_effects}
 use Rattle.circuit_model.specs.Extending.{truncate_effects, extending}
 use Rattle.circuit_model.specs.Effects.{message_effects, passed_on, forward_effects, open_effects, effects_after}

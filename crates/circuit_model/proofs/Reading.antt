@@ -3,7 +3,8 @@ use Rattle.std.proofs.Common.{◌≡◌, ℕ, Bool, true, false, if◌then◌els
 use Rattle.circuit_model.specs.Events.{Event, Born, Forward, Backward, Connected, Data, Ended, Drained, Freed, Linked, Answered, Failed}
 use Rattle.circuit_model.specs.Rules.{Rules}
 use Rattle.circuit_model.specs.Log.{Log, Message, no_effects, is_closed}
-use Rattle.circuit_model.specs.Received.{Received, TooManyEarly, Unrecognised, TooLong, ForUs, received, message_of, message_in, message_at}
+use Rattle.circuit_model.specs.Received.{Received, received, message_of, message_in, message_at}
+use Rattle.circuit_model.specs.declared.message.Received.TheVariants.{TooManyEarly, Unrecognised, TooLong, ForUs}
 use Rattle.circuit_model.specs.Effects.{message_effects, forward_effects, open_effects, effects_after}
 
 read-received : (rules : Rules) (log : Log) (command : ℕ) (r : Received) (m : Message) → message_of r ≡ Some m → forward_effects rules log command r ≡ message_effects rules log m

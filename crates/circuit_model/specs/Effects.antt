@@ -9,7 +9,8 @@ use Rattle.circuit_model.specs.declared.next_hop.NextHop.{NextHop}
 use Rattle.circuit_model.specs.declared.next_hop.NextHop.TheVariants.{There}
 use Rattle.circuit_model.specs.NextHop.{next_hop}
 use Rattle.circuit_model.specs.Places.{place_at}
-use Rattle.circuit_model.specs.Received.{Received, TooManyEarly, Unrecognised, TooLong, ForUs, received}
+use Rattle.circuit_model.specs.Received.{Received, received}
+use Rattle.circuit_model.specs.declared.message.Received.TheVariants.{TooManyEarly, Unrecognised, TooLong, ForUs}
 use Rattle.circuit_model.specs.Streams.{begin_effects, data_effects, end_effects, sendme_effects, resolve_effects, ending, connected_effects, edge_data_effects, ended_effects, drained_effects}
 use Rattle.circuit_model.specs.Extending.{extend_effects, truncate_effects, linked_effects, answered_effects}
 

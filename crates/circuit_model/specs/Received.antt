@@ -2,6 +2,8 @@
 use Rattle.std.specs.Prelude.{ℕ, ◌==◌, ◌&&◌, List, Bool, false, if◌then◌else◌, Option, Some, None, nat_le}
 use Rattle.tor_spec.specs.CellCommands.{relay_early_command}
 use Rattle.tor_spec.specs.RelayCell.{relay_head, fits_length, payload_of}
+use Rattle.circuit_model.specs.declared.message.Received.{Received as Declared}
+use Rattle.circuit_model.specs.declared.message.Received.TheVariants.{TooManyEarly, Unrecognised, TooLong, ForUs}
 use Rattle.circuit_model.specs.Events.{Event, Forward}
 use Rattle.circuit_model.specs.Log.{Log, Message, count_of, is_closed}
 use Rattle.circuit_model.specs.Opened.{plain_body, recognises, digest_with}
@@ -19,14 +21,10 @@ is_early event = false
 abbrev pub early_count : Log → ℕ
 early_count log = count_of (λ entry. is_early entry.event) log
 
-pub data Received : Type 0 where
-  -- one more RELAY_EARLY than a circuit takes
-  TooManyEarly : Received
-  -- not for this relay: the body with this relay's layer taken off
-  Unrecognised : (plain : List ℕ) → Received
-  -- recognised, with a Length that no relay cell has
-  TooLong : Received
-  ForUs : (message : Message) → Received
+-- One more RELAY_EARLY than a circuit takes, a cell that isn't for this relay, one with a Length that no relay
+-- cell has, or a message.
+abbrev pub Received : Type 0
+Received = Declared
 
 -- The message in a recognised body.
 abbrev pub message_in_body : Log → ℕ → List ℕ → Message

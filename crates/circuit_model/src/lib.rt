@@ -16,7 +16,7 @@ mod places;
 
 pub use cell::CircuitCell;
 pub use effects::{Effects, Order};
-pub use message::Message;
+pub use message::{Message, Received};
 pub use next_hop::NextHop;
 pub use payload::Payload;
 pub use places::{Phase, StreamKey};

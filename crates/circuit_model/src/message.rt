@@ -18,3 +18,16 @@ pub struct Message {
     /// The serial of the place at which its StreamID is live, if there is one.
     pub place: Option<usize>,
 }
+
+/// What a relay cell from the client's side is to this relay.
+#[derive(Drop)]
+pub enum Received {
+    /// One more RELAY_EARLY than a circuit takes.
+    TooManyEarly,
+    /// Not for this relay: the body with this relay's layer taken off.
+    Unrecognised([u8; 509]),
+    /// Recognised, with a Length that no relay cell has.
+    TooLong,
+    /// For this relay.
+    ForUs(Message),
+}

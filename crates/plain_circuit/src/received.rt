@@ -4,33 +4,21 @@ ghost use Rattle.std.specs.Prelude.{◌≡◌, IfOk, IsTrue};
 ghost use Rattle.tor_spec.specs.RelayCell.{relay_head, fits_length};
 ghost use Rattle.relay_cell.specs.Head.{head_of};
 ghost use Rattle.circuit_model.specs.Log.{is_closed};
-ghost use Rattle.circuit_model.specs.Received.{is_early, early_count, received, message_in_body};
+ghost use Rattle.circuit_model.specs.Received.{is_early, early_count, received, message_in_body, message_of};
 ghost use Rattle.circuit_model.specs.Opened.{digest_with};
 ghost use Rattle.plain_circuit.specs.Values.{log_of, event_of};
-ghost use Rattle.plain_circuit.specs.Received.{received_of};
 
 use crate::event::Event;
 use crate::log::Entry;
 use crate::opened::{born_keys, digest_with, is_recognised_by, plain_body, recognised_bodies};
 use crate::places::live_place;
 use cell_codec::command;
-use circuit_model::{Message, Payload};
+use circuit_model::{Message, Payload, Received};
 use relay_cell::{RelayHead, payload_of, read_head};
 use std::alloc::{AllocError, Global};
 
 /// How many RELAY_EARLY cells a circuit takes.
 const MOST_EARLY: usize = 8;
-
-#[derive(Drop)]
-pub enum Received {
-    /// One more RELAY_EARLY than a circuit takes.
-    TooManyEarly,
-    /// Not for this relay: the body with this relay's layer taken off.
-    Unrecognised([u8; 509]),
-    /// Recognised, with a Length that no relay cell has.
-    TooLong,
-    ForUs(Message),
-}
 
 fn is_early(event: &Event) -> bool
     ensures { result ≡ is_early (event_of event.now) }
@@ -99,7 +87,7 @@ pub fn read_cell(
     command: u8,
     body: &[u8; 509],
 ) -> Result<Received, AllocError>
-    ensures { IfOk result (λ cell. received_of cell ≡ received (log_of log.now) command body.now) }
+    ensures { IfOk result (λ cell. cell ≡ received (log_of log.now) command body.now) }
 {
     let plain = plain_body(log, body);
     if command == command::RELAY_EARLY && early_count(log) >= MOST_EARLY {
@@ -119,18 +107,12 @@ pub fn read_cell(
     }
 }
 
-impl Received {
-    ghost use Rattle.std.specs.Prelude.{◌≡◌};
-    ghost use Rattle.circuit_model.specs.Received.{message_of};
-    ghost use Rattle.plain_circuit.specs.Received.{received_of};
-
-    /// The message, if the cell is one for this relay.
-    pub fn message(self) -> Option<Message>
-        ensures { result ≡ message_of (received_of self) }
-    {
-        match self {
-            Received::ForUs(message) => Some(message),
-            _ => None,
-        }
+/// The message, if the cell is one for this relay.
+pub fn message_of(cell: Received) -> Option<Message>
+    ensures { result ≡ message_of cell }
+{
+    match cell {
+        Received::ForUs(message) => Some(message),
+        _ => None,
     }
 }

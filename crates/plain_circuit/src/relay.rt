@@ -4,21 +4,20 @@ ghost use Rattle.std.specs.Prelude.{◌≡◌, IfOk};
 ghost use Rattle.circuit_model.specs.Effects.{message_effects, passed_on, forward_effects, open_effects};
 ghost use Rattle.circuit_model.specs.Words.{entry_after, log, effects};
 ghost use Rattle.plain_circuit.specs.Values.{history_of, log_of, rules_of, event_of, entry_of};
-ghost use Rattle.plain_circuit.specs.Received.{received_of};
 
 use crate::event::Event;
 use crate::extending::{answered_effects, extend_effects, linked_effects, truncate_effects};
 use crate::log::Entry;
 use crate::next_hop::next_hop;
 use crate::places::place_at;
-use crate::received::{Received, is_closed, read_cell};
+use crate::received::{is_closed, message_of, read_cell};
 use crate::rules::Rules;
 use crate::streams::{
     begin_effects, connected_effects, data_effects, drained_effects, edge_data_effects,
     end_effects, ended_effects, ending, resolve_effects, sendme_effects,
 };
 use cell_codec::destroy_reason;
-use circuit_model::{CircuitCell, Effects, Message, NextHop};
+use circuit_model::{CircuitCell, Effects, Message, NextHop, Received};
 use relay_cell::{command, stream_end};
 use std::alloc::{AllocError, Global};
 
@@ -66,7 +65,7 @@ fn forward_effects(
     command: u8,
     cell: &Received,
 ) -> Result<Effects, AllocError>
-    ensures { IfOk result (λ effects. effects ≡ forward_effects (rules_of rules.now) (log_of log.now) command (received_of cell.now)) }
+    ensures { IfOk result (λ effects. effects ≡ forward_effects (rules_of rules.now) (log_of log.now) command cell.now) }
 {
     match cell {
         Received::TooManyEarly => Ok(Effects::closing(destroy_reason::PROTOCOL)),
@@ -154,7 +153,7 @@ fn entry_after<'a>(
     let effects = forward_effects(alloc, rules, log, *command, &cell)?;
     Ok(Entry {
         event,
-        message: cell.message(),
+        message: message_of(cell),
         effects,
     })
 }
