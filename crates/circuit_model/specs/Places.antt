@@ -3,17 +3,16 @@
 -- taken until it is freed.
 use Rattle.std.specs.Prelude.{ℕ, ◌==◌, ◌&&◌, Bool, true, false, if◌then◌else◌, List, length, Option, Some, None, option_map, find, filter, slice_get}
 use Rattle.std.specs.List.{list_any}
-use Rattle.tor_spec.specs.Extend.{Address}
 use Rattle.circuit_model.specs.declared.places.Phase.{Phase}
 use Rattle.circuit_model.specs.declared.places.Phase.TheVariants.{Reaching, Joined, Ending, Free}
+use Rattle.circuit_model.specs.declared.places.Place.{Place as Declared}
 use Rattle.circuit_model.specs.Events.{Event, Connected, Freed}
 use Rattle.circuit_model.specs.Log.{Log, StreamKey, Order, collected}
 use Rattle.circuit_model.specs.declared.effects.Order.TheVariants.{Reach, Close}
 
-pub record Place : Type 0 where
-  pub key : StreamKey
-  -- where its stream is connected to
-  pub to : Address
+-- A place: the name of its stream, and where that is connected to.
+abbrev pub Place : Type 0
+Place = Declared
 
 -- A Reach order makes a place.
 abbrev pub place_of : Option Order → Option Place

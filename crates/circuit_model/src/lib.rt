@@ -19,4 +19,4 @@ pub use effects::{Effects, Order};
 pub use message::{Message, Received};
 pub use next_hop::NextHop;
 pub use payload::Payload;
-pub use places::{Phase, StreamKey};
+pub use places::{Phase, Place, StreamKey};

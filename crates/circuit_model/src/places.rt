@@ -1,5 +1,7 @@
 //! The places of a circuit: its streams at the relay.
 
+use tor_spec::Address;
+
 /// The name of a stream on its circuit.
 #[derive(Clone, Copy, Debug, PartialEq, Eq)]
 pub struct StreamKey {
@@ -20,4 +22,12 @@ pub enum Phase {
     Ending,
     /// It is given back.
     Free,
+}
+
+/// A place.
+#[derive(Clone, Copy, Debug, PartialEq, Eq)]
+pub struct Place {
+    pub key: StreamKey,
+    /// Where its stream is connected to.
+    pub to: Address,
 }

@@ -1,19 +1,8 @@
--- Lists of places.
-use Rattle.std.proofs.Common.{◌≡◌, ℕ, zero, suc, List, [], ◌∷◌, ◌++◌, length, get_or, map, Option, Some, None, is_some, option_map, Bool, true, false, nat_lt, refl, ap, ◌∙◌, arith, Bor}
+-- A place by its number, from what `get` says of it.
+use Rattle.std.proofs.Common.{◌≡◌, ℕ, zero, suc, List, [], ◌∷◌, length, get_or, Option, Some, None, is_some, Bool, true, false, nat_lt, refl, ap, ◌∙◌, arith, Bor}
 use Rattle.std.specs.Option.{option_copied, unwrap_or}
 use Rattle.std.specs.Prelude.{slice_get}
-use Rattle.std.proofs.lemmas.Option.{slice_get-map}
-use Rattle.std.proofs.lemmas.List.{map-append}
-use Rattle.plain_circuit.specs.declared.places.Place.{Place}
-use Rattle.plain_circuit.specs.Values.{place_of}
-
-pub one_more_place : (places : List Place) (place : Place) → map place_of (places ++ place ∷ []) ≡ map place_of places ++ place_of place ∷ []
-one_more_place places place = map-append place_of places (place ∷ [])
-
-pub place_got : (places : List Place) (serial : ℕ) → slice_get (map place_of places) serial ≡ option_map place_of (slice_get places serial)
-place_got places serial = slice_get-map place_of places serial
-
--- An element by its number, from what `get` says of it.
+use Rattle.circuit_model.specs.Places.{Place}
 
 is_some-copied : (o : Option (Bor Place)) → is_some (option_copied o) ≡ is_some o
 is_some-copied None = refl

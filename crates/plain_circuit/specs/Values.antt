@@ -3,14 +3,12 @@ use Rattle.std.specs.Prelude.{List, map}
 use Rattle.circuit_model.specs.Events.{Event as ModelEvent, Born as born, Forward as forward, Backward as backward, Connected as connected, Data as edge_data, Ended as ended, Drained as drained, Freed as freed, Linked as linked, Answered as answered, Failed as failed}
 use Rattle.circuit_model.specs.Rules.{Allow as ModelAllow, Rules as ModelRules}
 use Rattle.circuit_model.specs.Log.{Entry as ModelEntry, Log}
-use Rattle.circuit_model.specs.Places.{Place as ModelPlace}
 use Rattle.circuit_model.specs.Words.{in_order}
 use Rattle.plain_circuit.specs.declared.event.Event.{Event}
 use Rattle.plain_circuit.specs.declared.event.Event.TheVariants.{Born, Forward, Backward, Connected, Data, Ended, Drained, Freed, Linked, Answered, Failed}
 use Rattle.plain_circuit.specs.declared.rules.Allow.{Allow}
 use Rattle.plain_circuit.specs.declared.rules.Rules.{Rules}
 use Rattle.plain_circuit.specs.declared.log.Entry.{Entry}
-use Rattle.plain_circuit.specs.declared.places.Place.{Place}
 
 abbrev pub event_of : Event → ModelEvent
 event_of (Born reply keys pad) = born reply keys pad
@@ -45,6 +43,3 @@ entry_of e = record {
 -- The log that the entries are, the oldest of them first.
 abbrev pub log_of : List Entry → Log
 log_of entries = in_order (map entry_of entries)
-
-abbrev pub place_of : Place → ModelPlace
-place_of p = record { key = p.key; to = p.to }

@@ -1,21 +1,13 @@
 //! The places of a circuit: its streams at this relay.
 
-ghost use Rattle.std.specs.Prelude.{◌≡◌, ◌≤◌, ◌==◌, ◌&&◌, IfOk, length, filter, find, map, option_map, slice_get};
-ghost use Rattle.circuit_model.specs.Places.{place_of as place_made_by, connects, frees, closes_place, is_connected, is_ended, is_freed, phase, is_live, is_taken_phase, places, place_at, live_place, taken_places};
-ghost use Rattle.plain_circuit.specs.Values.{log_of, event_of, place_of};
+ghost use Rattle.std.specs.Prelude.{◌≡◌, ◌≤◌, ◌==◌, ◌&&◌, IfOk, length, filter, find, option_map, slice_get};
+ghost use Rattle.circuit_model.specs.Places.{place_of, connects, frees, closes_place, is_connected, is_ended, is_freed, phase, is_live, is_taken_phase, places, place_at, live_place, taken_places};
+ghost use Rattle.plain_circuit.specs.Values.{log_of, event_of};
 
 use crate::event::Event;
 use crate::log::Entry;
-use circuit_model::{Order, Phase, StreamKey};
+use circuit_model::{Order, Phase, Place};
 use std::alloc::{AllocError, Global};
-use tor_spec::Address;
-
-#[derive(Clone, Copy)]
-pub struct Place {
-    pub key: StreamKey,
-    /// Where its stream is connected to.
-    pub to: Address,
-}
 
 fn connects(serial: usize, event: &Event) -> bool
     ensures { result ≡ connects serial (event_of event.now) }
@@ -88,7 +80,7 @@ pub fn phase_at(log: &[Entry<'_>], serial: usize) -> Phase
 }
 
 fn is_live(log: &[Entry<'_>], place: &Place) -> bool
-    ensures { result ≡ is_live (log_of log.now) (place_of place.now) }
+    ensures { result ≡ is_live (log_of log.now) place.now }
 {
     matches!(
         phase_at(log, place.key.serial),
@@ -97,14 +89,14 @@ fn is_live(log: &[Entry<'_>], place: &Place) -> bool
 }
 
 fn is_taken(log: &[Entry<'_>], place: &Place) -> bool
-    ensures { result ≡ is_taken_phase (phase (log_of log.now) (place_of place.now).key.serial) }
+    ensures { result ≡ is_taken_phase (phase (log_of log.now) place.now.key.serial) }
 {
     !matches!(phase_at(log, place.key.serial), Phase::Free)
 }
 
 /// A Reach order makes a place.
 fn place_made(order: &Option<Order>) -> Option<Place>
-    ensures { option_map place_of result ≡ place_made_by order.now }
+    ensures { result ≡ place_of order.now }
 {
     match order {
         Some(Order::Reach(key, to)) => Some(Place { key: *key, to: *to }),
@@ -113,9 +105,8 @@ fn place_made(order: &Option<Order>) -> Option<Place>
 }
 
 /// All places, in the order of their BEGINs.
-#[tactic(auto, using(crate::proofs::Logs::log_of_more, crate::proofs::PlaceLists::one_more_place))]
 pub fn places(alloc: Global, log: &[Entry<'_>]) -> Result<Vec<Place>, AllocError>
-    ensures { IfOk result (λ all. map place_of all.items ≡ places (log_of log.now)) }
+    ensures { IfOk result (λ all. all.items ≡ places (log_of log.now)) }
 {
     let mut places = Vec::new(alloc);
     for entry in log {
@@ -128,7 +119,7 @@ pub fn places(alloc: Global, log: &[Entry<'_>]) -> Result<Vec<Place>, AllocError
 
 /// The first of these places that is live with this StreamID.
 fn live_among(log: &[Entry<'_>], places: &[Place], stream: u16) -> Option<usize>
-    ensures { result ≡ option_map (λ place. place.key.serial) (find (λ place. (place.key.stream == stream) && is_live (log_of log.now) place) (map place_of places.now)) }
+    ensures { result ≡ option_map (λ place. place.key.serial) (find (λ place. (place.key.stream == stream) && is_live (log_of log.now) place) places.now) }
 {
     let (place, rest) = places.split_first()?;
     if place.key.stream == stream && is_live(log, place) {
@@ -153,7 +144,7 @@ pub fn live_place(
 
 /// How many of these places are taken.
 fn taken_among(log: &[Entry<'_>], places: &[Place]) -> usize
-    ensures taken { result ≡ length (filter (λ place. is_taken_phase (phase (log_of log.now) place.key.serial)) (map place_of places.now)) }
+    ensures taken { result ≡ length (filter (λ place. is_taken_phase (phase (log_of log.now) place.key.serial)) places.now) }
     ensures bound { result ≤ length places.now }
 {
     let Some((place, rest)) = places.split_first() else {
@@ -185,9 +176,8 @@ pub fn place_count(alloc: Global, log: &[Entry<'_>]) -> Result<usize, AllocError
 }
 
 /// The place with this number in the list.
-#[tactic(auto, using(crate::proofs::PlaceLists::place_got))]
 fn place_among(places: &[Place], serial: usize) -> Option<Place>
-    ensures { option_map place_of result ≡ slice_get (map place_of places.now) serial }
+    ensures { result ≡ slice_get places.now serial }
 {
     places.get(serial).copied()
 }
@@ -198,7 +188,7 @@ pub fn place_at(
     log: &[Entry<'_>],
     serial: usize,
 ) -> Result<Option<Place>, AllocError>
-    ensures { IfOk result (λ place. option_map place_of place ≡ place_at (log_of log.now) serial) }
+    ensures { IfOk result (λ place. place ≡ place_at (log_of log.now) serial) }
 {
     let places = places(alloc, log)?;
     Ok(place_among(&places, serial))

@@ -1,17 +1,17 @@
 //! Messages that concern streams, and what the edge reports of a place.
 
-ghost use Rattle.std.specs.Prelude.{◌≡◌, IfOk, IsTrue, option_map, option_and_then};
+ghost use Rattle.std.specs.Prelude.{◌≡◌, IfOk, IsTrue, option_and_then};
 ghost use Rattle.tor_spec.specs.RelayCell.{fits_length, relay_body, resolved_command, sendme_command};
 ghost use Rattle.tor_spec.specs.Resolve.{resolve_host};
 ghost use Rattle.tor_spec.specs.Sendme.{sendme_payload};
 ghost use Rattle.circuit_model.specs.Rules.{resolved_address};
 ghost use Rattle.circuit_model.specs.Streams.{ending, begin_effects, acknowledging, data_effects, end_effects, stream_sendme_at, sendme_effects, resolved_value, resolve_effects, connected_effects, edge_data_effects, ended_effects, drained_effects};
-ghost use Rattle.plain_circuit.specs.Values.{log_of, rules_of, place_of};
+ghost use Rattle.plain_circuit.specs.Values.{log_of, rules_of};
 
 use crate::event::Piece;
 use crate::log::Entry;
 use crate::packaged::packaging;
-use crate::places::{Place, place_count, taken_places};
+use crate::places::{place_count, taken_places};
 use crate::rules::{Rules, allowed_address, resolved_address};
 use crate::sendme::is_right_sendme;
 use crate::windows::{
@@ -19,7 +19,7 @@ use crate::windows::{
     grant_for, packed_for,
 };
 use cell_codec::destroy_reason;
-use circuit_model::{Effects, Message, Order, Payload, StreamKey};
+use circuit_model::{Effects, Message, Order, Payload, Place, StreamKey};
 use relay_cell::{
     circuit_sendme_body, connected_body, data_body, end_body, end_reason, read_begin, read_resolve,
     resolved_body, resolved_type, stream_end, stream_sendme_body,
@@ -212,7 +212,7 @@ pub fn connected_effects(
     log: &[Entry<'_>],
     place: Option<Place>,
 ) -> Result<Effects, AllocError>
-    ensures { IfOk result (λ effects. effects ≡ connected_effects (log_of log.now) (option_map place_of place)) }
+    ensures { IfOk result (λ effects. effects ≡ connected_effects (log_of log.now) place) }
 {
     match place {
         Some(place) => packaging(
@@ -232,7 +232,7 @@ pub fn edge_data_effects(
     piece: &Piece,
     place: Option<Place>,
 ) -> Result<Effects, AllocError>
-    ensures { IfOk result (λ effects. effects ≡ edge_data_effects (log_of log.now) piece.now.bytes.items (option_map place_of place)) }
+    ensures { IfOk result (λ effects. effects ≡ edge_data_effects (log_of log.now) piece.now.bytes.items place) }
 {
     match place {
         Some(place) => packaging(alloc, log, &data_body(place.key.stream, &piece.bytes)),
@@ -247,7 +247,7 @@ pub fn ended_effects(
     reason: u8,
     place: Option<Place>,
 ) -> Result<Effects, AllocError>
-    ensures { IfOk result (λ effects. effects ≡ ended_effects (log_of log.now) reason (option_map place_of place)) }
+    ensures { IfOk result (λ effects. effects ≡ ended_effects (log_of log.now) reason place) }
 {
     let Some(place) = place else {
         return Ok(Effects::none());
@@ -266,7 +266,7 @@ pub fn drained_effects(
     log: &[Entry<'_>],
     place: Option<Place>,
 ) -> Result<Effects, AllocError>
-    ensures { IfOk result (λ effects. effects ≡ drained_effects (log_of log.now) (option_map place_of place)) }
+    ensures { IfOk result (λ effects. effects ≡ drained_effects (log_of log.now) place) }
 {
     let Some(place) = place else {
         return Ok(Effects::none());
