@@ -1,7 +1,7 @@
 -- A relay cell from the client, and the parts of a circuit behind it.
 use Rattle.std.proofs.Common.{◌≡◌, ℕ, List, false, Some, None, refl, ap}
 use Rattle.sendme_windows.specs.WindowsState.{StandsFor}
-use Rattle.circuit_model.specs.Events.{Forward}
+use Rattle.circuit_model.specs.declared.event.Event.TheVariants.{Forward}
 use Rattle.circuit_model.specs.Rules.{Rules}
 use Rattle.circuit_model.specs.Log.{Entry, Log, Message, Effects, is_closed}
 use Rattle.circuit_model.specs.Places.{place_of}

@@ -10,7 +10,7 @@ use Rattle.tr_io.specs.declared.names.Dest.{Dest}
 use Rattle.stream_edge.specs.PlacesState.{PlacesState, held_at}
 use Rattle.stream_edge.specs.Streams.{begun, is_free}
 use Rattle.stream_edge.specs.declared.held.Held.{Held}
-use Rattle.circuit_model.specs.Events.{Forward}
+use Rattle.circuit_model.specs.declared.event.Event.TheVariants.{Forward}
 use Rattle.circuit_model.specs.Rules.{Rules, allowed_address}
 use Rattle.circuit_model.specs.Log.{Entry, Log, Message, Effects, no_effects, closing, ordering}
 use Rattle.circuit_model.specs.declared.effects.Order.TheVariants.{Reach}

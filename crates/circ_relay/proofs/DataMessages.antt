@@ -10,7 +10,7 @@ use Rattle.circuit_model.specs.Windows.{accepted_data, carried, accept_grant}
 use Rattle.circ_relay.proofs.WindowMoves.{due_by_log}
 use Rattle.stream_edge.specs.PlacesState.{PlacesState, held_at, with_held}
 use Rattle.stream_edge.specs.declared.held.Held.{Held}
-use Rattle.circuit_model.specs.Events.{Forward}
+use Rattle.circuit_model.specs.declared.event.Event.TheVariants.{Forward}
 use Rattle.circuit_model.specs.Rules.{Rules}
 use Rattle.circuit_model.specs.Log.{Log, Message, Effects, no_effects, closing}
 use Rattle.circuit_model.specs.declared.effects.Order.TheVariants.{Carry}

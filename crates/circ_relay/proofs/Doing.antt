@@ -6,7 +6,8 @@ use Rattle.tor_spec.specs.Begin.{Target, begin_target}
 use Rattle.tor_spec.specs.Connected.{connected_payload}
 use Rattle.tor_spec.specs.Ends.{end_reason}
 use Rattle.tor_spec.specs.Extend.{Address}
-use Rattle.circuit_model.specs.Events.{Event, Connected, Data, Ended, Drained}
+use Rattle.circuit_model.specs.Events.{Event}
+use Rattle.circuit_model.specs.declared.event.Event.TheVariants.{Connected, Data, Ended, Drained}
 use Rattle.circuit_model.specs.Rules.{Rules, allowed_address}
 use Rattle.circuit_model.specs.Log.{Entry, Log, Message, Effects, StreamKey, no_effects, closing, ordering, is_closed, pushed}
 use Rattle.circuit_model.specs.declared.effects.Order.TheVariants.{Reach, Carry, Close}

@@ -12,7 +12,8 @@ use Rattle.stream_edge.specs.declared.held.Held.{Held}
 use Rattle.stream_edge.specs.declared.held.Phase.TheVariants.{Reaching, Joined, Ending}
 use Rattle.stream_edge.specs.PlacesState.{PlacesState, held_at, with_held}
 use Rattle.stream_edge.specs.Streams.{is_stream, after_packaging as one_packaged, after_draining, may_drain, sendme_due}
-use Rattle.circuit_model.specs.Events.{Event, Born, Forward, Backward, Connected, Data, Ended, Drained, Freed, Linked, Answered}
+use Rattle.circuit_model.specs.Events.{Event}
+use Rattle.circuit_model.specs.declared.event.Event.TheVariants.{Born, Forward, Backward, Connected, Data, Ended, Drained, Freed, Linked, Answered}
 use Rattle.circuit_model.specs.Rules.{Rules}
 use Rattle.circuit_model.specs.Log.{Log, StreamKey as ModelKey, Effects, no_effects, is_closed}
 use Rattle.circuit_model.specs.declared.effects.Order.TheVariants.{Close}

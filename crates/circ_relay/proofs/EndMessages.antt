@@ -4,7 +4,7 @@ use Rattle.tor_spec.specs.RelayCell.{begin_command, data_command, end_command, s
 use Rattle.stream_edge.specs.declared.held.Phase.TheVariants.{Ending}
 use Rattle.stream_edge.specs.PlacesState.{PlacesState, held_at, with_held}
 use Rattle.stream_edge.specs.declared.held.Held.{Held}
-use Rattle.circuit_model.specs.Events.{Forward}
+use Rattle.circuit_model.specs.declared.event.Event.TheVariants.{Forward}
 use Rattle.circuit_model.specs.Rules.{Rules}
 use Rattle.circuit_model.specs.Log.{Log, Message, Effects, no_effects, ordering}
 use Rattle.circuit_model.specs.declared.effects.Order.TheVariants.{Close}

@@ -2,7 +2,8 @@
 use Rattle.std.proofs.Common.{◌≡◌, ℕ, ◌==◌, ◌&&◌, List, Bool, true, false, Option, Some, None, if◌then◌else◌, refl, sym, subst, arith}
 use Rattle.std.proofs.lemmas.Bool.Decides.{nat_tests}
 use Rattle.tor_spec.specs.Extend.{Extend, handshake_reply}
-use Rattle.circuit_model.specs.Events.{Event, CircuitCell, Born, Forward, Backward, Connected, Data, Ended, Drained, Freed, Linked, Answered, Failed}
+use Rattle.circuit_model.specs.Events.{Event, CircuitCell}
+use Rattle.circuit_model.specs.declared.event.Event.TheVariants.{Born, Forward, Backward, Connected, Data, Ended, Drained, Freed, Linked, Answered, Failed}
 use Rattle.circuit_model.specs.Rules.{Rules}
 use Rattle.circuit_model.specs.Log.{Log, Message, Effects, no_effects, closing, newest, is_closed}
 use Rattle.circuit_model.specs.Opened.{keys_in}

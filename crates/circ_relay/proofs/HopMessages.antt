@@ -1,7 +1,7 @@
 -- The parts of a circuit behind EXTEND2 and TRUNCATE.
 use Rattle.std.proofs.Common.{not, if◌then◌else◌, ◌≡◌, ℕ, ◌==◌, List, [], ◌∷◌, Bool, true, false, Option, Some, None, refl, sym, ap, ◌∙◌}
 use Rattle.tor_spec.specs.RelayCell.{begin_command, data_command, end_command, sendme_command, truncate_command, extend2_command, relay_body, truncated_command}
-use Rattle.circuit_model.specs.Events.{Forward}
+use Rattle.circuit_model.specs.declared.event.Event.TheVariants.{Forward}
 use Rattle.circuit_model.specs.Rules.{Rules}
 use Rattle.circuit_model.specs.Log.{Entry, Log, Message, Effects, is_closed, no_effects, newest}
 use Rattle.circuit_model.specs.declared.next_hop.NextHop.TheVariants.{Absent, Dialling, Waiting, There}

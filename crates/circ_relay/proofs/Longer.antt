@@ -6,7 +6,8 @@ use Rattle.sendme_windows.specs.WindowsState.{KeepsLimits, StandsFor, WindowsSta
 use Rattle.stream_edge.specs.declared.held.Held.{Held}
 use Rattle.stream_edge.specs.PlacesState.{PlacesState, held_at, with_held}
 use Rattle.stream_edge.proofs.Holding.{held_there, held_elsewhere}
-use Rattle.circuit_model.specs.Events.{Event, Born, Forward, Backward, Connected, Data, Ended, Drained, Freed, Linked, Answered, Failed}
+use Rattle.circuit_model.specs.Events.{Event}
+use Rattle.circuit_model.specs.declared.event.Event.TheVariants.{Born, Forward, Backward, Connected, Data, Ended, Drained, Freed, Linked, Answered, Failed}
 use Rattle.circuit_model.specs.Rules.{Rules}
 use Rattle.circuit_model.specs.Log.{Entry, Log, Effects, is_closed, newest, pushed}
 use Rattle.circuit_model.specs.Opened.{born_pad, keys_in, pad_in}

@@ -3,7 +3,7 @@ use Rattle.std.proofs.Common.{not, if◌then◌else◌, ◌≡◌, ℕ, ◌==◌
 use Rattle.tor_spec.specs.RelayCell.{begin_command, data_command, end_command, sendme_command, truncate_command, drop_command, resolve_command, begin_dir_command, extend2_command, relay_body, resolved_command}
 use Rattle.circuit_model.specs.Places.{live_place}
 use Rattle.stream_edge.specs.PlacesState.{PlacesState}
-use Rattle.circuit_model.specs.Events.{Forward}
+use Rattle.circuit_model.specs.declared.event.Event.TheVariants.{Forward}
 use Rattle.circuit_model.specs.Rules.{Rules, resolved_address}
 use Rattle.circuit_model.specs.Log.{Log, Message, Effects, no_effects}
 use Rattle.circuit_model.specs.Packaged.{finished}

@@ -4,7 +4,8 @@ use Rattle.std.specs.Prelude.{is_none}
 use Rattle.tor_spec.specs.RelayCell.{sendme_command, data_command, end_command}
 use Rattle.tor_spec.specs.Ends.{end_reason}
 use Rattle.tor_spec.specs.StreamWindow.{stream_start, stream_step}
-use Rattle.circuit_model.specs.Events.{Event, Born, Forward, Backward, Connected, Data, Ended, Drained, Freed, Linked, Answered, Failed}
+use Rattle.circuit_model.specs.Events.{Event}
+use Rattle.circuit_model.specs.declared.event.Event.TheVariants.{Born, Forward, Backward, Connected, Data, Ended, Drained, Freed, Linked, Answered, Failed}
 use Rattle.circuit_model.specs.Rules.{Rules}
 use Rattle.circuit_model.specs.Log.{Entry, Log, Message, Effects, StreamKey, no_effects, closing, ordering, is_closed}
 use Rattle.circuit_model.specs.declared.effects.Order.TheVariants.{Carry, Close}

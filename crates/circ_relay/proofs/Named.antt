@@ -6,7 +6,8 @@ use Rattle.tor_spec.specs.Begin.{Target, begin_target}
 use Rattle.tor_spec.specs.Ends.{end_reason}
 use Rattle.tor_spec.specs.Extend.{Address}
 use Rattle.tor_spec.specs.CellCommands.{relay_early_command}
-use Rattle.circuit_model.specs.Events.{Event, Born, Forward, Backward, Connected, Data, Ended, Drained, Freed, Linked, Answered, Failed}
+use Rattle.circuit_model.specs.Events.{Event}
+use Rattle.circuit_model.specs.declared.event.Event.TheVariants.{Born, Forward, Backward, Connected, Data, Ended, Drained, Freed, Linked, Answered, Failed}
 use Rattle.circuit_model.specs.Rules.{Rules, allowed_address}
 use Rattle.circuit_model.specs.Log.{Entry, Log, Message, Order, Effects, StreamKey, no_effects, closing, is_closed}
 use Rattle.circuit_model.specs.declared.effects.Order.TheVariants.{Reach, Carry, Close}

@@ -9,7 +9,8 @@ use Rattle.tr_io.specs.declared.names.Dest.{Dest}
 use Rattle.sendme_windows.specs.WindowsState.{StandsFor}
 use Rattle.stream_edge.specs.PlacesState.{PlacesState}
 use Rattle.kdf_tor.specs.declared.LayerKeys.{LayerKeys}
-use Rattle.circuit_model.specs.Events.{Event, Born, Backward, Linked, Answered, Failed, CircuitCell}
+use Rattle.circuit_model.specs.Events.{Event, CircuitCell}
+use Rattle.circuit_model.specs.declared.event.Event.TheVariants.{Born, Backward, Linked, Answered, Failed}
 use Rattle.circuit_model.specs.Rules.{Rules}
 use Rattle.circuit_model.specs.Log.{Entry, Log, Effects, Message, no_effects, closing, is_closed}
 use Rattle.circuit_model.specs.Opened.{born_keys, born_pad}

@@ -3,7 +3,8 @@ use Rattle.std.proofs.Common.{◌≡◌, ◌≢◌, ℕ, ◌+◌, ◌==◌, ◌&
 use Rattle.tor_spec.specs.RelayCell.{sendme_command, data_command, end_command, begin_command, truncate_command, drop_command, resolve_command, begin_dir_command, extend2_command}
 use Rattle.tor_spec.specs.Extend.{Address, Extend, handshake_reply}
 use Rattle.tor_spec.specs.CircuitWindow.{is_sendme_due}
-use Rattle.circuit_model.specs.Events.{Event, CircuitCell, Born, Forward, Backward, Connected, Data, Ended, Drained, Freed, Linked, Answered, Failed}
+use Rattle.circuit_model.specs.Events.{Event, CircuitCell}
+use Rattle.circuit_model.specs.declared.event.Event.TheVariants.{Born, Forward, Backward, Connected, Data, Ended, Drained, Freed, Linked, Answered, Failed}
 use Rattle.circuit_model.specs.Rules.{Rules}
 use Rattle.circuit_model.specs.Log.{Entry, Log, Message, Effects, no_effects, closing, newest, is_closed}
 use Rattle.circuit_model.specs.declared.next_hop.NextHop.{NextHop}

@@ -1,6 +1,6 @@
 -- The window after what neither the client nor bytes of the edge bring.
 use Rattle.std.proofs.Common.{◌≡◌, ℕ, ◌∷◌, List, refl}
-use Rattle.circuit_model.specs.Events.{Backward, Connected, Ended, Drained, Freed, Linked, Answered, Failed}
+use Rattle.circuit_model.specs.declared.event.Event.TheVariants.{Backward, Connected, Ended, Drained, Freed, Linked, Answered, Failed}
 use Rattle.circuit_model.specs.Rules.{Rules}
 use Rattle.circuit_model.specs.Log.{Log}
 use Rattle.circuit_model.specs.Words.{entry_after}

@@ -7,7 +7,8 @@ use Rattle.stream_edge.specs.PlacesState.{PlacesState}
 use Rattle.stream_edge.specs.Streams.{is_live_as}
 use Rattle.tor_spec.specs.CellCommands.{relay_early_command}
 use Rattle.sendme_windows.specs.WindowsState.{KeepsLimits}
-use Rattle.circuit_model.specs.Events.{Event, CircuitCell, Forward}
+use Rattle.circuit_model.specs.Events.{Event, CircuitCell}
+use Rattle.circuit_model.specs.declared.event.Event.TheVariants.{Forward}
 use Rattle.circuit_model.specs.Rules.{Rules}
 use Rattle.circuit_model.specs.Log.{Log, Effects, is_closed, closing}
 use Rattle.circuit_model.specs.declared.next_hop.NextHop.{NextHop}

@@ -2,7 +2,7 @@
 -- is given back.
 use Rattle.std.proofs.Common.{◌≡◌, ◌≢◌, ℕ, ◌+◌, ◌==◌, ◌&&◌, List, ◌∷◌, Bool, true, false, if◌then◌else◌, Option, Some, None, refl, sym, ap, subst, ◌∙◌, arith}
 use Rattle.tor_spec.specs.RelayCell.{sendme_command}
-use Rattle.circuit_model.specs.Events.{Connected, Data, Ended, Drained, Freed}
+use Rattle.circuit_model.specs.declared.event.Event.TheVariants.{Connected, Data, Ended, Drained, Freed}
 use Rattle.circuit_model.specs.Rules.{Rules}
 use Rattle.circuit_model.specs.Log.{Entry, Log, Message, Effects, StreamKey, no_effects, is_closed}
 use Rattle.circuit_model.specs.declared.effects.Order.TheVariants.{Close}

@@ -4,7 +4,8 @@ use Rattle.std.proofs.Common.{◌≡◌, ◌≢◌, ◌<◌, ◌+◌, ◌∷◌,
 use Rattle.std.specs.Prelude.{position}
 use Rattle.tor_spec.specs.RelayCell.{begin_command, data_command, end_command, sendme_command}
 use Rattle.tor_spec.specs.Extend.{Address}
-use Rattle.circuit_model.specs.Events.{Event, Connected, Data, Drained, Ended, Freed}
+use Rattle.circuit_model.specs.Events.{Event}
+use Rattle.circuit_model.specs.declared.event.Event.TheVariants.{Connected, Data, Drained, Ended, Freed}
 use Rattle.circuit_model.specs.Rules.{Rules}
 use Rattle.circuit_model.specs.Log.{Log, Message, closing, is_closed}
 use Rattle.circuit_model.specs.declared.effects.Order.TheVariants.{Reach}

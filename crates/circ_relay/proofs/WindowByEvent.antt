@@ -5,7 +5,8 @@ use Rattle.tor_spec.specs.CircuitWindow.{CircuitWindow, after_packaging, after_a
 use Rattle.sendme_windows.specs.Answers.{answer_to, window_after}
 use Rattle.sendme_windows.specs.declared.proof_answer.ProofAnswer.{ProofAnswer}
 use Rattle.sendme_windows.specs.declared.proof_answer.ProofAnswer.TheVariants.{Good, Wrong, NoneOwed, BadForm}
-use Rattle.circuit_model.specs.Events.{Event, Forward, Data}
+use Rattle.circuit_model.specs.Events.{Event}
+use Rattle.circuit_model.specs.declared.event.Event.TheVariants.{Forward, Data}
 use Rattle.circuit_model.specs.Rules.{Rules}
 use Rattle.circuit_model.specs.Log.{Log, Message, Effects, no_effects, closing, is_closed}
 use Rattle.circuit_model.specs.Opened.{keys_in, is_forward}

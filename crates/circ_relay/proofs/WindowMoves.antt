@@ -5,7 +5,8 @@ use Rattle.tor_spec.specs.RelayCell.{sendme_command, data_command}
 use Rattle.tor_spec.specs.CircuitWindow.{CircuitWindow, fresh_window, may_package, after_packaging, after_acknowledging, after_accepting, is_sendme_due}
 use Rattle.crypto_spec.specs.RunningDigest.{running_digest}
 use Rattle.kdf_tor.specs.declared.LayerKeys.{LayerKeys}
-use Rattle.circuit_model.specs.Events.{Event, Born, CircuitCell}
+use Rattle.circuit_model.specs.Events.{Event, CircuitCell}
+use Rattle.circuit_model.specs.declared.event.Event.TheVariants.{Born}
 use Rattle.circuit_model.specs.Rules.{Rules}
 use Rattle.circuit_model.specs.Log.{Entry, Log}
 use Rattle.circuit_model.specs.Opened.{born_keys, keys_in}

@@ -2,7 +2,7 @@
 use Rattle.std.specs.Prelude.{◌≡◌, ◌==◌, ◌&&◌, ◌∷◌, ℕ, List, false, nat_le}
 use Rattle.tor_spec.specs.CellCommands.{relay_early_command}
 use Rattle.relay_cell.specs.declared.head.Opened.{Opened}
-use Rattle.circuit_model.specs.Events.{Forward}
+use Rattle.circuit_model.specs.declared.event.Event.TheVariants.{Forward}
 use Rattle.circuit_model.specs.Rules.{Rules}
 use Rattle.circuit_model.specs.Log.{Log, Message as ModelMessage, is_closed}
 use Rattle.circuit_model.specs.Received.{received, relay_early_limit, early_count}

@@ -6,7 +6,8 @@ use Rattle.stream_edge.specs.declared.held.Phase.{Phase as HeldPhase}
 use Rattle.stream_edge.specs.declared.held.Phase.TheVariants.{Reaching as held_reaching, Joined as held_joined, Ending as held_ending}
 use Rattle.stream_edge.specs.PlacesState.{PlacesState, held_at}
 use Rattle.stream_edge.specs.Streams.{is_free}
-use Rattle.circuit_model.specs.Events.{Event, Connected, Data, Ended, Drained, Freed}
+use Rattle.circuit_model.specs.Events.{Event}
+use Rattle.circuit_model.specs.declared.event.Event.TheVariants.{Connected, Data, Ended, Drained, Freed}
 use Rattle.circuit_model.specs.Rules.{Rules}
 use Rattle.circuit_model.specs.Log.{Entry, Log, StreamKey}
 use Rattle.circuit_model.specs.declared.places.Phase.{Phase}

@@ -2,7 +2,8 @@
 
 ghost use Rattle.std.specs.Prelude.{◌≡◌, ◌≢◌, ◌+◌, ◌^◌, ◌<◌, ℕ, [], ◌∷◌, List, Some, None, IfSome, IfNone, IsTrue, option_and_then, option_map, position};
 ghost use Rattle.tor_spec.specs.RelayCell.{fits_length};
-ghost use Rattle.circuit_model.specs.Events.{Event, Born, Backward, CircuitCell};
+ghost use Rattle.circuit_model.specs.Events.{Event, CircuitCell};
+ghost use Rattle.circuit_model.specs.declared.event.Event.TheVariants.{Born, Backward};
 ghost use Rattle.circuit_model.specs.Log.{Log, no_effects};
 ghost use Rattle.circuit_model.specs.Packaged.{finished};
 ghost use Rattle.circuit_model.specs.Rules.{Rules as ModelRules};

@@ -3,7 +3,8 @@
 ghost use Rattle.std.specs.Prelude.{◌≡◌, ◌↔◌, ◌+◌, ◌<◌, ◌≤◌, ◌∷◌, List, length, position, Some, None, IfSome, IsSome, IsTrue};
 ghost use Rattle.tor_spec.specs.Connected.{connected_payload};
 ghost use Rattle.tor_spec.specs.RelayCell.{connected_command, fits_length, relay_body};
-ghost use Rattle.circuit_model.specs.Events.{Event, Connected, Data, Ended, Drained, Freed};
+ghost use Rattle.circuit_model.specs.Events.{Event};
+ghost use Rattle.circuit_model.specs.declared.event.Event.TheVariants.{Connected, Data, Ended, Drained, Freed};
 ghost use Rattle.circuit_model.specs.Rules.{Rules};
 ghost use Rattle.circuit_model.specs.Streams.{time_to_live};
 ghost use Rattle.circuit_model.specs.Words.{effects, log};

@@ -1,7 +1,8 @@
 // What a circuit's next hop has come to.
 
 ghost use Rattle.std.specs.Prelude.{◌≡◌, ◌+◌, ◌≤◌, ◌∷◌, List, None};
-ghost use Rattle.circuit_model.specs.Events.{Event, Linked, Answered, Failed};
+ghost use Rattle.circuit_model.specs.Events.{Event};
+ghost use Rattle.circuit_model.specs.declared.event.Event.TheVariants.{Linked, Answered, Failed};
 ghost use Rattle.circuit_model.specs.Rules.{Rules};
 ghost use Rattle.circuit_model.specs.Words.{effects};
 ghost use Rattle.circ_relay.specs.CircuitOfLog.{HasCalls, IsCircuit};

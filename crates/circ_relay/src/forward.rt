@@ -3,7 +3,8 @@
 ghost use Rattle.std.specs.Prelude.{◌≡◌, ℕ, ◌+◌, ◌≤◌, [], ◌∷◌, List, position, is_some, not, nat_le, ◌==◌, ◌&&◌, if◌then◌else◌, None, IfOk, OnErr, IsTrue, IfSome};
 ghost use Rattle.tor_spec.specs.CellCommands.{relay_early_command};
 ghost use Rattle.tor_spec.specs.RelayCell.{data_command};
-ghost use Rattle.circuit_model.specs.Events.{Event, Forward};
+ghost use Rattle.circuit_model.specs.Events.{Event};
+ghost use Rattle.circuit_model.specs.declared.event.Event.TheVariants.{Forward};
 ghost use Rattle.circuit_model.specs.Log.{Log, Message as ModelMessage};
 ghost use Rattle.circuit_model.specs.NextHop.{next_hop};
 ghost use Rattle.circuit_model.specs.Effects.{effects_after, message_effects, passed_on};

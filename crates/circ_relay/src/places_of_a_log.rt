@@ -3,7 +3,8 @@
 ghost use Rattle.std.specs.Prelude.{◌≡◌, ◌≢◌, ◌<◌, ◌+◌, ◌∷◌, [], ℕ, List, length, position, replicate, IsTrue, IsFalse, Some, None};
 ghost use Rattle.tor_spec.specs.RelayCell.{begin_command, data_command, end_command, sendme_command};
 ghost use Rattle.tor_spec.specs.Extend.{Address};
-ghost use Rattle.circuit_model.specs.Events.{Event, Connected, Data, Drained, Ended, Freed};
+ghost use Rattle.circuit_model.specs.Events.{Event};
+ghost use Rattle.circuit_model.specs.declared.event.Event.TheVariants.{Connected, Data, Drained, Ended, Freed};
 ghost use Rattle.circuit_model.specs.Log.{Log, Entry, Message, StreamKey, closing, is_closed};
 ghost use Rattle.circuit_model.specs.declared.effects.Order.TheVariants.{Reach};
 ghost use Rattle.circuit_model.specs.Rules.{Rules};

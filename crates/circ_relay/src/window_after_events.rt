@@ -3,7 +3,8 @@
 ghost use Rattle.std.specs.Prelude.{◌≡◌, ℕ, ◌==◌, ◌&&◌, List, [], ◌∷◌, ◌++◌, Some, None, IsTrue, IsFalse};
 ghost use Rattle.tor_spec.specs.RelayCell.{data_command, sendme_command};
 ghost use Rattle.tor_spec.specs.CircuitWindow.{after_packaging, after_accepting};
-ghost use Rattle.circuit_model.specs.Events.{Event, Data, Backward, Connected, Ended, Drained, Freed, Linked, Answered, Failed};
+ghost use Rattle.circuit_model.specs.Events.{Event};
+ghost use Rattle.circuit_model.specs.declared.event.Event.TheVariants.{Data, Backward, Connected, Ended, Drained, Freed, Linked, Answered, Failed};
 ghost use Rattle.circuit_model.specs.Rules.{Rules};
 ghost use Rattle.circuit_model.specs.Log.{Log, Message, is_closed};
 ghost use Rattle.circuit_model.specs.Opened.{keys_in};

@@ -5,7 +5,8 @@ ghost use Rattle.std.specs.Prelude.{◌≡◌, ℕ, ◌↔◌, ◌+◌, ◌*◌,
 ghost use Rattle.tor_spec.specs.RelayCell.{data_command, sendme_command};
 ghost use Rattle.tor_spec.specs.CircuitWindow.{circuit_step, may_package, fresh_window, after_packaging, after_acknowledging, after_accepting, is_sendme_due, next_owed};
 ghost use Rattle.kdf_tor.specs.declared.LayerKeys.{LayerKeys};
-ghost use Rattle.circuit_model.specs.Events.{Event, Born, CircuitCell};
+ghost use Rattle.circuit_model.specs.Events.{Event, CircuitCell};
+ghost use Rattle.circuit_model.specs.declared.event.Event.TheVariants.{Born};
 ghost use Rattle.circuit_model.specs.Rules.{Rules};
 ghost use Rattle.circuit_model.specs.Log.{Log};
 ghost use Rattle.circuit_model.specs.Opened.{born_keys, keys_in};

@@ -3,7 +3,8 @@ use Rattle.std.proofs.Common.{◌≡◌, ℕ, ◌<◌, ◌==◌, List, [], ◌�
 use Rattle.std.proofs.lemmas.List.{append-nil}
 use Rattle.tor_spec.specs.Begin.{Target, begin_target}
 use Rattle.tor_spec.specs.RelayCell.{begin_command}
-use Rattle.circuit_model.specs.Events.{Event, Backward}
+use Rattle.circuit_model.specs.Events.{Event}
+use Rattle.circuit_model.specs.declared.event.Event.TheVariants.{Backward}
 use Rattle.circuit_model.specs.Rules.{Rules, allowed_address}
 use Rattle.circuit_model.specs.Log.{Log, Message, pushed, is_closed}
 use Rattle.circuit_model.specs.Packaged.{behind}

@@ -5,7 +5,8 @@ use Rattle.std.specs.Prelude.{bytes_eq}
 use Rattle.std.specs.Bool.{Decides}
 use Rattle.tor_spec.specs.RelayCell.{sendme_command}
 use Rattle.tor_spec.specs.Sendme.{needs_no_proof, sendme_proof}
-use Rattle.circuit_model.specs.Events.{Event, Forward}
+use Rattle.circuit_model.specs.Events.{Event}
+use Rattle.circuit_model.specs.declared.event.Event.TheVariants.{Forward}
 use Rattle.circuit_model.specs.Rules.{Rules}
 use Rattle.circuit_model.specs.Log.{Log, Message, no_effects, closing, is_closed}
 use Rattle.circuit_model.specs.Received.{message_at, early_count, received}

@@ -2,7 +2,8 @@
 use Rattle.std.proofs.Common.{◌≡◌, ℕ, ◌+◌, ◌==◌, List, ◌∷◌, Bool, true, false, if◌then◌else◌, Option, Some, None, refl, ◌∙◌, arith}
 use Rattle.tor_spec.specs.RelayCell.{sendme_command, data_command}
 use Rattle.tor_spec.specs.Extend.{Extend, handshake_reply}
-use Rattle.circuit_model.specs.Events.{Event, Born, Forward, Backward, Connected, Data, Ended, Drained, Freed, Linked, Answered, Failed}
+use Rattle.circuit_model.specs.Events.{Event}
+use Rattle.circuit_model.specs.declared.event.Event.TheVariants.{Born, Forward, Backward, Connected, Data, Ended, Drained, Freed, Linked, Answered, Failed}
 use Rattle.circuit_model.specs.Rules.{Rules}
 use Rattle.circuit_model.specs.Log.{Log, Message, Effects, no_effects, closing, newest, is_closed}
 use Rattle.circuit_model.specs.declared.next_hop.NextHop.{NextHop}

@@ -3,7 +3,8 @@ use Rattle.std.proofs.Common.{◌≡◌, ℕ, ◌+◌, ◌<◌, ◌==◌, ◌&&�
 use Rattle.std.proofs.lemmas.List.{append-nil}
 use Rattle.tor_spec.specs.RelayCell.{truncate_command}
 use Rattle.tor_spec.specs.Extend.{handshake_reply}
-use Rattle.circuit_model.specs.Events.{CircuitCell, Event, Born, Forward, Backward, Connected, Data, Ended, Drained, Freed, Linked, Answered, Failed}
+use Rattle.circuit_model.specs.Events.{CircuitCell, Event}
+use Rattle.circuit_model.specs.declared.event.Event.TheVariants.{Born, Forward, Backward, Connected, Data, Ended, Drained, Freed, Linked, Answered, Failed}
 use Rattle.circuit_model.specs.Rules.{Rules}
 use Rattle.circuit_model.specs.Log.{Log, Message, Effects, no_effects, is_closed, pushed}
 use Rattle.circuit_model.specs.declared.next_hop.NextHop.{NextHop}

@@ -2,7 +2,8 @@
 use Rattle.std.specs.Prelude.{ℕ, ◌==◌, if◌then◌else◌, Some}
 use Rattle.tor_spec.specs.Reasons.{destroy_protocol, destroy_connect_failed, end_not_directory}
 use Rattle.tor_spec.specs.RelayCell.{begin_command, data_command, end_command, sendme_command, truncate_command, drop_command, resolve_command, begin_dir_command, extend2_command}
-use Rattle.circuit_model.specs.Events.{Event, Born, Forward, Backward, Connected, Data, Ended, Drained, Freed, Linked, Answered, Failed, CircuitCell}
+use Rattle.circuit_model.specs.Events.{Event, CircuitCell}
+use Rattle.circuit_model.specs.declared.event.Event.TheVariants.{Born, Forward, Backward, Connected, Data, Ended, Drained, Freed, Linked, Answered, Failed}
 use Rattle.circuit_model.specs.Rules.{Rules}
 use Rattle.circuit_model.specs.Log.{Log, Message, Effects, no_effects, closing, is_closed}
 use Rattle.circuit_model.specs.declared.next_hop.NextHop.{NextHop}

@@ -4,7 +4,8 @@
 use Rattle.std.specs.Prelude.{ℕ, Bool, true, false, if◌then◌else◌, Option, Some, None, unwrap_or, is_some}
 use Rattle.circuit_model.specs.declared.next_hop.NextHop.{NextHop}
 use Rattle.circuit_model.specs.declared.next_hop.NextHop.TheVariants.{Absent, Dialling, Waiting, There}
-use Rattle.circuit_model.specs.Events.{Event, Linked, Answered}
+use Rattle.circuit_model.specs.Events.{Event}
+use Rattle.circuit_model.specs.declared.event.Event.TheVariants.{Linked, Answered}
 use Rattle.circuit_model.specs.Log.{Log, Effects, count_of, newest}
 
 -- What an entry's effects make of the next hop: an accepted EXTEND2 dials it, TRUNCATE gives it up.

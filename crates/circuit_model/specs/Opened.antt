@@ -4,7 +4,8 @@ use Rattle.std.specs.Prelude.{ℕ, ◌*◌, [], ◌∷◌, ◌++◌, List, Bool,
 use Rattle.crypto_spec.specs.HopLayer.{layered, is_recognised}
 use Rattle.crypto_spec.specs.RunningDigest.{running_digest}
 use Rattle.kdf_tor.specs.declared.LayerKeys.{LayerKeys}
-use Rattle.circuit_model.specs.Events.{Event, Born, Forward, CircuitCell}
+use Rattle.circuit_model.specs.Events.{Event, CircuitCell}
+use Rattle.circuit_model.specs.declared.event.Event.TheVariants.{Born, Forward}
 use Rattle.circuit_model.specs.Log.{Log, count_of, newest}
 
 abbrev pub keys_in : Event → Option LayerKeys

@@ -4,7 +4,8 @@ use Rattle.std.specs.Prelude.{ℕ, ◌*◌, [], ◌∷◌, ◌++◌, List, lengt
 use Rattle.crypto_spec.specs.Keystream.{keystream_part}
 use Rattle.crypto_spec.specs.RunningDigest.{running_digest}
 use Rattle.tor_spec.specs.RelayCell.{relay_body, with_digest, with_padding}
-use Rattle.circuit_model.specs.Events.{Event, Backward}
+use Rattle.circuit_model.specs.Events.{Event}
+use Rattle.circuit_model.specs.declared.event.Event.TheVariants.{Backward}
 use Rattle.circuit_model.specs.Log.{Log, Effects, collected, no_effects}
 use Rattle.circuit_model.specs.Opened.{born_keys, born_pad}
 

@@ -6,7 +6,8 @@ use Rattle.std.specs.List.{list_any}
 use Rattle.circuit_model.specs.declared.places.Phase.{Phase}
 use Rattle.circuit_model.specs.declared.places.Phase.TheVariants.{Reaching, Joined, Ending, Free}
 use Rattle.circuit_model.specs.declared.places.Place.{Place as Declared}
-use Rattle.circuit_model.specs.Events.{Event, Connected, Freed}
+use Rattle.circuit_model.specs.Events.{Event}
+use Rattle.circuit_model.specs.declared.event.Event.TheVariants.{Connected, Freed}
 use Rattle.circuit_model.specs.Log.{Log, StreamKey, Order, collected}
 use Rattle.circuit_model.specs.declared.effects.Order.TheVariants.{Reach, Close}
 

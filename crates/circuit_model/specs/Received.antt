@@ -4,7 +4,8 @@ use Rattle.tor_spec.specs.CellCommands.{relay_early_command}
 use Rattle.tor_spec.specs.RelayCell.{relay_head, fits_length, payload_of}
 use Rattle.circuit_model.specs.declared.message.Received.{Received as Declared}
 use Rattle.circuit_model.specs.declared.message.Received.TheVariants.{TooManyEarly, Unrecognised, TooLong, ForUs}
-use Rattle.circuit_model.specs.Events.{Event, Forward}
+use Rattle.circuit_model.specs.Events.{Event}
+use Rattle.circuit_model.specs.declared.event.Event.TheVariants.{Forward}
 use Rattle.circuit_model.specs.Log.{Log, Message, count_of, is_closed}
 use Rattle.circuit_model.specs.Opened.{plain_body, recognises, digest_with}
 use Rattle.circuit_model.specs.Places.{live_place}

@@ -4,7 +4,8 @@ use Rattle.std.specs.Prelude.{ℕ, ◌+◌, ◌*◌, ◌/◌, ◌==◌, ◌&&◌
 use Rattle.tor_spec.specs.CircuitWindow.{granted_after}
 use Rattle.tor_spec.specs.RelayCell.{data_command, sendme_command, relay_head}
 use Rattle.tor_spec.specs.StreamWindow.{stream_start, stream_step}
-use Rattle.circuit_model.specs.Events.{Event, Data, Drained}
+use Rattle.circuit_model.specs.Events.{Event}
+use Rattle.circuit_model.specs.declared.event.Event.TheVariants.{Data, Drained}
 use Rattle.circuit_model.specs.Rules.{Rules}
 use Rattle.circuit_model.specs.Log.{Entry, Log, Order, Message, count_of}
 use Rattle.circuit_model.specs.declared.effects.Order.TheVariants.{Carry}

@@ -16,6 +16,9 @@
 --   the table          Streams, Extending, Effects   effects_after
 --   what is sent       Sent       one
 --
+-- What an `Event`, a `Message`, an `Order`, `Effects`, a `Received`, a `Place` and their parts are stands in
+-- `src/`, as types that code uses too.
+--
 -- Of a history and an event behind it: `effects`, `closes`, `packages_back`, `edge_order`. Of a place:
 -- `orders_of`, all orders that were made for it, oldest first.
 use Rattle.std.specs.Prelude.{ℕ, ◌==◌, [], ◌∷◌, ◌++◌, List, Bool, if◌then◌else◌, Option, Some, None, is_some}

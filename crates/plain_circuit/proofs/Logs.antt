@@ -4,11 +4,11 @@ use Rattle.std.specs.List.{list_any}
 use Rattle.std.proofs.lemmas.List.{take_more, map-append}
 use Rattle.std.proofs.lemmas.List.Recursion.{is_count_by}
 use Rattle.std.proofs.lemmas.List.Folds.{list_any-append}
+use Rattle.circuit_model.specs.Events.{Event}
 use Rattle.circuit_model.specs.Log.{Entry as ModelEntry, Log, count_of}
 use Rattle.circuit_model.specs.Words.{in_order}
 use Rattle.plain_circuit.specs.declared.log.Entry.{Entry}
-use Rattle.plain_circuit.specs.declared.event.Event.{Event}
-use Rattle.plain_circuit.specs.Values.{entry_of, log_of, event_of, history_of}
+use Rattle.plain_circuit.specs.Values.{entry_of, log_of}
 
 -- One more that is counted, before or behind another one.
 counted-before : (this that : Bool) (n m : ℕ) → m ≡ cond this (1 + n) n → (if that then m + 1 else m) ≡ cond this (1 + (if that then n + 1 else n)) (if that then n + 1 else n)
@@ -54,7 +54,6 @@ pub log_of_more : (entries : List Entry) (i : ℕ) (d : Entry) → i < length en
     (get_or entries i d ≡ get_or entries i d) × (log_of (take (i + 1) entries) ≡ entry_of (get_or entries i d) ∷ log_of (take i entries))
 log_of_more entries i d inside = (refl, rw (take_more entries i d inside) (log_of_pushed (take i entries) (get_or entries i d)))
 
-pub history_of_more : (events : List Event) (i : ℕ) (d : Event) → i < length events →
-    (get_or events i d ≡ get_or events i d) × (history_of (take (i + 1) events) ≡ event_of (get_or events i d) ∷ history_of (take i events))
-history_of_more events i d inside =
-    (refl, rw (take_more events i d inside, map-append event_of (take i events) (get_or events i d ∷ [])) (in_order-newest (map event_of (take i events)) (event_of (get_or events i d))))
+pub in_order_more : (events : List Event) (i : ℕ) (d : Event) → i < length events →
+    (get_or events i d ≡ get_or events i d) × (in_order (take (i + 1) events) ≡ get_or events i d ∷ in_order (take i events))
+in_order_more events i d inside = (refl, rw (take_more events i d inside) (in_order-newest (take i events) (get_or events i d)))

@@ -7,7 +7,7 @@ use Rattle.circuit_model.specs.Log.{Entry as ModelEntry}
 use Rattle.circuit_model.specs.Opened.{forward_count, is_forward, recognised_with, recognised_bodies}
 use Rattle.plain_circuit.specs.declared.log.Entry.{Entry}
 use Rattle.plain_circuit.specs.Reading.{IsReader}
-use Rattle.plain_circuit.specs.Values.{entry_of, event_of, log_of}
+use Rattle.plain_circuit.specs.Values.{entry_of, log_of}
 use Rattle.plain_circuit.proofs.Logs.{count_of-log_of, log_of_more}
 
 pub position_within : (stream : StreamState) (running : HashState) (entries : List Entry) → IsReader stream running (log_of entries) → length entries < 2 ^ 64 → stream.position < 2 ^ 100
@@ -20,7 +20,7 @@ position_within stream running entries reader short =
 
 -- One more entry was read.
 pub read_on : (entries : List Entry) (i : ℕ) (d : Entry) → i < length entries → (bodies : List (List ℕ)) (stream : StreamState) (running : HashState)
-    → bodies ≡ recognised_with (log_of (take i entries)) (recognised_bodies (log_of (take i entries))) (event_of (get_or entries i d).event.now)
-    → ((entry : ModelEntry) → entry.event ≡ event_of (get_or entries i d).event.now → IsReader stream running (entry ∷ log_of (take i entries)))
+    → bodies ≡ recognised_with (log_of (take i entries)) (recognised_bodies (log_of (take i entries))) (get_or entries i d).event.now
+    → ((entry : ModelEntry) → entry.event ≡ (get_or entries i d).event.now → IsReader stream running (entry ∷ log_of (take i entries)))
     → (bodies ≡ recognised_bodies (log_of (take (i + 1) entries))) × IsReader stream running (log_of (take (i + 1) entries))
 read_on entries i d inside bodies stream running adds next = rw ((log_of_more entries i d inside).1) (adds, next (entry_of (get_or entries i d)) refl)

@@ -4,7 +4,6 @@
 //! both must give the same effects.
 #![tactic(auto, using(crate::proofs::Logs::log_of_more))]
 
-pub mod event;
 pub mod extending;
 pub mod log;
 pub mod next_hop;

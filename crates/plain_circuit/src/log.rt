@@ -1,7 +1,6 @@
 //! A circuit's log: each event with the message that it brought and what it had the relay do.
 
-use crate::event::Event;
-use circuit_model::{Effects, Message};
+use circuit_model::{Effects, Event, Message};
 
 /// An entry of the log.
 #[derive(Drop)]

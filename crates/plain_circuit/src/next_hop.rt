@@ -2,15 +2,14 @@
 
 ghost use Rattle.std.specs.Prelude.{◌≡◌};
 ghost use Rattle.circuit_model.specs.NextHop.{hop_by, next_hop};
-ghost use Rattle.plain_circuit.specs.Values.{log_of, event_of};
+ghost use Rattle.plain_circuit.specs.Values.{log_of};
 
-use crate::event::Event;
 use crate::log::Entry;
-use circuit_model::{Effects, NextHop};
+use circuit_model::{Effects, Event, NextHop};
 
 /// What an event makes of the next hop.
 fn hop_by(event: &Event, effects: &Effects) -> Option<NextHop>
-    ensures { result ≡ hop_by (event_of event.now) effects.now }
+    ensures { result ≡ hop_by event.now effects.now }
 {
     match event {
         Event::Linked => Some(NextHop::Waiting),

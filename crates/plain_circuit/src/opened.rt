@@ -8,17 +8,17 @@ ghost use Rattle.run_digest.specs.HashState.{StandsFor};
 ghost use Rattle.circuit_model.specs.Log.{Entry as ModelEntry, pushed};
 ghost use Rattle.circuit_model.specs.Opened.{keys_in, no_keys, born_keys, pad_in, born_pad, is_forward, forward_count, plain_body, with_recognised, recognised_with, recognised_bodies};
 ghost use Rattle.plain_circuit.specs.Reading.{IsReader};
-ghost use Rattle.plain_circuit.specs.Values.{log_of, event_of};
+ghost use Rattle.plain_circuit.specs.Values.{log_of};
 
-use crate::event::Event;
 use crate::log::Entry;
 use aes_ctr::Stream;
+use circuit_model::Event;
 use kdf_tor::LayerKeys;
 use run_digest::Running;
 use std::alloc::{AllocError, Global};
 
 fn keys_in(event: &Event) -> Option<LayerKeys>
-    ensures { result ≡ keys_in (event_of event.now) }
+    ensures { result ≡ keys_in event.now }
 {
     match event {
         Event::Born(_, keys, _) => Some(*keys),
@@ -52,7 +52,7 @@ pub fn born_keys(log: &[Entry<'_>]) -> LayerKeys
 }
 
 fn pad_in(event: &Event) -> Option<[u8; 16]>
-    ensures { result ≡ pad_in (event_of event.now) }
+    ensures { result ≡ pad_in event.now }
 {
     match event {
         Event::Born(_, _, pad) => *pad,
@@ -74,7 +74,7 @@ pub fn born_pad(log: &[Entry<'_>]) -> Option<[u8; 16]>
 }
 
 fn is_forward(event: &Event) -> bool
-    ensures { result ≡ is_forward (event_of event.now) }
+    ensures { result ≡ is_forward event.now }
 {
     matches!(event, Event::Forward(_, _))
 }
@@ -220,8 +220,8 @@ impl Reader {
         requires short { length log.now < 2 ^ 64 }
         requires reader { IsReader self.old.stream self.old.running (log_of log.now) }
         requires recognised { recognised.now ≡ recognised_bodies (log_of log.now) }
-        ensures more { pushed recognised.now result ≡ recognised_with (log_of log.now) recognised.now (event_of event.now) }
-        ensures next { (entry : ModelEntry) → entry.event ≡ event_of event.now → IsReader self.new.stream self.new.running (entry ∷ log_of log.now) }
+        ensures more { pushed recognised.now result ≡ recognised_with (log_of log.now) recognised.now event.now }
+        ensures next { (entry : ModelEntry) → entry.event ≡ event.now → IsReader self.new.stream self.new.running (entry ∷ log_of log.now) }
     {
         match event {
             Event::Born(_, keys, _) => {

@@ -4,18 +4,17 @@ ghost use Rattle.std.specs.Prelude.{◌≡◌, IfOk, IsTrue, Some};
 ghost use Rattle.tor_spec.specs.RelayCell.{fits_length};
 ghost use Rattle.circuit_model.specs.Log.{no_effects};
 ghost use Rattle.circuit_model.specs.Packaged.{packaged_by, own, digested, padded_by, finished};
-ghost use Rattle.plain_circuit.specs.Values.{log_of, event_of};
+ghost use Rattle.plain_circuit.specs.Values.{log_of};
 
-use crate::event::Event;
 use crate::log::Entry;
 use crate::opened::{born_keys, born_pad, digest_of, keystream_for};
-use circuit_model::Effects;
+use circuit_model::{Effects, Event};
 use relay_cell::{put_digest, put_padding};
 use std::alloc::{AllocError, Global};
 
 /// The body that an event has packaged: what goes back, unless it is the next hop's.
 fn packaged_by(event: &Event, back: &Option<[u8; 509]>) -> Option<[u8; 509]>
-    ensures { result ≡ packaged_by (event_of event.now) back.now }
+    ensures { result ≡ packaged_by event.now back.now }
 {
     match event {
         Event::Backward(_) => None,

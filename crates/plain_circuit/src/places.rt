@@ -2,21 +2,20 @@
 
 ghost use Rattle.std.specs.Prelude.{◌≡◌, ◌≤◌, ◌==◌, ◌&&◌, IfOk, length, filter, find, option_map, slice_get};
 ghost use Rattle.circuit_model.specs.Places.{place_of, connects, frees, closes_place, is_connected, is_ended, is_freed, phase, is_live, is_taken_phase, places, place_at, live_place, taken_places};
-ghost use Rattle.plain_circuit.specs.Values.{log_of, event_of};
+ghost use Rattle.plain_circuit.specs.Values.{log_of};
 
-use crate::event::Event;
 use crate::log::Entry;
-use circuit_model::{Order, Phase, Place};
+use circuit_model::{Event, Order, Phase, Place};
 use std::alloc::{AllocError, Global};
 
 fn connects(serial: usize, event: &Event) -> bool
-    ensures { result ≡ connects serial (event_of event.now) }
+    ensures { result ≡ connects serial event.now }
 {
     matches!(event, Event::Connected(n) if *n == serial)
 }
 
 fn frees(serial: usize, event: &Event) -> bool
-    ensures { result ≡ frees serial (event_of event.now) }
+    ensures { result ≡ frees serial event.now }
 {
     matches!(event, Event::Freed(n) if *n == serial)
 }

@@ -6,14 +6,13 @@ ghost use Rattle.relay_cell.specs.Head.{head_of};
 ghost use Rattle.circuit_model.specs.Log.{is_closed};
 ghost use Rattle.circuit_model.specs.Received.{is_early, early_count, received, message_in_body, message_of};
 ghost use Rattle.circuit_model.specs.Opened.{digest_with};
-ghost use Rattle.plain_circuit.specs.Values.{log_of, event_of};
+ghost use Rattle.plain_circuit.specs.Values.{log_of};
 
-use crate::event::Event;
 use crate::log::Entry;
 use crate::opened::{born_keys, digest_with, is_recognised_by, plain_body, recognised_bodies};
 use crate::places::live_place;
 use cell_codec::command;
-use circuit_model::{Message, Payload, Received};
+use circuit_model::{Event, Message, Payload, Received};
 use relay_cell::{RelayHead, payload_of, read_head};
 use std::alloc::{AllocError, Global};
 
@@ -21,7 +20,7 @@ use std::alloc::{AllocError, Global};
 const MOST_EARLY: usize = 8;
 
 fn is_early(event: &Event) -> bool
-    ensures { result ≡ is_early (event_of event.now) }
+    ensures { result ≡ is_early event.now }
 {
     matches!(event, Event::Forward(number, _) if *number == command::RELAY_EARLY)
 }

@@ -2,10 +2,9 @@
 
 ghost use Rattle.std.specs.Prelude.{◌≡◌, IfOk};
 ghost use Rattle.circuit_model.specs.Effects.{message_effects, passed_on, forward_effects, open_effects};
-ghost use Rattle.circuit_model.specs.Words.{entry_after, log, effects};
-ghost use Rattle.plain_circuit.specs.Values.{history_of, log_of, rules_of, event_of, entry_of};
+ghost use Rattle.circuit_model.specs.Words.{entry_after, in_order, log, effects};
+ghost use Rattle.plain_circuit.specs.Values.{log_of, rules_of, entry_of};
 
-use crate::event::Event;
 use crate::extending::{answered_effects, extend_effects, linked_effects, truncate_effects};
 use crate::log::Entry;
 use crate::next_hop::next_hop;
@@ -17,7 +16,7 @@ use crate::streams::{
     end_effects, ended_effects, ending, resolve_effects, sendme_effects,
 };
 use cell_codec::destroy_reason;
-use circuit_model::{CircuitCell, Effects, Message, NextHop, Received};
+use circuit_model::{CircuitCell, Effects, Event, Message, NextHop, Received};
 use relay_cell::{command, stream_end};
 use std::alloc::{AllocError, Global};
 
@@ -89,7 +88,7 @@ fn open_effects(
     log: &[Entry<'_>],
     event: &Event,
 ) -> Result<Effects, AllocError>
-    ensures { IfOk result (λ effects. effects ≡ open_effects (rules_of rules.now) (log_of log.now) (event_of event.now)) }
+    ensures { IfOk result (λ effects. effects ≡ open_effects (rules_of rules.now) (log_of log.now) event.now) }
 {
     match event {
         Event::Born(_, _, _) => Ok(Effects::none()),
@@ -105,9 +104,9 @@ fn open_effects(
             let place = place_at(alloc, log, *serial)?;
             connected_effects(alloc, log, place)
         }
-        Event::Data(serial, piece) => {
+        Event::Data(serial, bytes) => {
             let place = place_at(alloc, log, *serial)?;
-            edge_data_effects(alloc, log, piece, place)
+            edge_data_effects(alloc, log, bytes, place)
         }
         Event::Ended(serial, reason) => {
             let place = place_at(alloc, log, *serial)?;
@@ -132,7 +131,7 @@ fn entry_after<'a>(
     log: &[Entry<'_>],
     event: &'a Event,
 ) -> Result<Entry<'a>, AllocError>
-    ensures { IfOk result (λ entry. entry_of entry ≡ entry_after (rules_of rules.now) (log_of log.now) (event_of event.now)) }
+    ensures { IfOk result (λ entry. entry_of entry ≡ entry_after (rules_of rules.now) (log_of log.now) event.now) }
 {
     if is_closed(log) {
         return Ok(Entry {
@@ -159,13 +158,13 @@ fn entry_after<'a>(
 }
 
 /// The log of a history, whose oldest event stands first.
-#[tactic(auto, using(crate::proofs::Logs::log_of_pushed, crate::proofs::Logs::history_of_more))]
+#[tactic(auto, using(crate::proofs::Logs::log_of_pushed, crate::proofs::Logs::in_order_more))]
 pub fn log_of<'a>(
     alloc: Global,
     rules: &Rules,
     history: &'a [Event],
 ) -> Result<Vec<Entry<'a>>, AllocError>
-    ensures { IfOk result (λ entries. log_of entries.items ≡ log (rules_of rules.now) (history_of history.now)) }
+    ensures { IfOk result (λ entries. log_of entries.items ≡ log (rules_of rules.now) (in_order history.now)) }
 {
     let mut log = Vec::new(alloc);
     for event in history {
@@ -183,7 +182,7 @@ pub fn effects(
     history: &[Event],
     event: &Event,
 ) -> Result<Effects, AllocError>
-    ensures { IfOk result (λ given. given ≡ effects (rules_of rules.now) (history_of history.now) (event_of event.now)) }
+    ensures { IfOk result (λ given. given ≡ effects (rules_of rules.now) (in_order history.now) event.now) }
 {
     let log = log_of(alloc, rules, history)?;
     let entry = entry_after(alloc, rules, &log, event)?;

@@ -8,7 +8,6 @@ ghost use Rattle.circuit_model.specs.Rules.{resolved_address};
 ghost use Rattle.circuit_model.specs.Streams.{ending, begin_effects, acknowledging, data_effects, end_effects, stream_sendme_at, sendme_effects, resolved_value, resolve_effects, connected_effects, edge_data_effects, ended_effects, drained_effects};
 ghost use Rattle.plain_circuit.specs.Values.{log_of, rules_of};
 
-use crate::event::Piece;
 use crate::log::Entry;
 use crate::packaged::packaging;
 use crate::places::{place_count, taken_places};
@@ -229,13 +228,13 @@ pub fn connected_effects(
 pub fn edge_data_effects(
     alloc: Global,
     log: &[Entry<'_>],
-    piece: &Piece,
+    bytes: &Payload,
     place: Option<Place>,
 ) -> Result<Effects, AllocError>
-    ensures { IfOk result (λ effects. effects ≡ edge_data_effects (log_of log.now) piece.now.bytes.items place) }
+    ensures { IfOk result (λ effects. effects ≡ edge_data_effects (log_of log.now) bytes.now place) }
 {
     match place {
-        Some(place) => packaging(alloc, log, &data_body(place.key.stream, &piece.bytes)),
+        Some(place) => packaging(alloc, log, &data_body(place.key.stream, bytes.as_slice())),
         None => Ok(Effects::none()),
     }
 }

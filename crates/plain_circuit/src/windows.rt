@@ -2,12 +2,11 @@
 
 ghost use Rattle.std.specs.Prelude.{◌≡◌, ◌<◌, ◌^◌, nat_le, option_map};
 ghost use Rattle.circuit_model.specs.Windows.{has_command, has_stream, has_place, is_accepted, packs_data, is_data_of, carries, drains, circuit_packaged, good_sendmes, circuit_grant, stream_packaged, stream_sendmes, stream_grant, accepted_data, carried, drained, accept_grant};
-ghost use Rattle.plain_circuit.specs.Values.{rules_of, log_of, entry_of, event_of};
+ghost use Rattle.plain_circuit.specs.Values.{rules_of, log_of, entry_of};
 
-use crate::event::Event;
 use crate::log::Entry;
 use crate::rules::Rules;
-use circuit_model::{Message, Order};
+use circuit_model::{Event, Message, Order};
 use relay_cell::command;
 
 /// The DATA by which a SENDME raises a circuit's window, and a stream's.
@@ -62,7 +61,7 @@ fn packs_data(entry: &Entry<'_>) -> bool
 }
 
 fn is_data_of(serial: usize, event: &Event) -> bool
-    ensures { result ≡ is_data_of serial (event_of event.now) }
+    ensures { result ≡ is_data_of serial event.now }
 {
     matches!(event, Event::Data(n, _) if *n == serial)
 }
@@ -74,7 +73,7 @@ fn carries(serial: usize, order: &Option<Order>) -> bool
 }
 
 fn drains(serial: usize, event: &Event) -> bool
-    ensures { result ≡ drains serial (event_of event.now) }
+    ensures { result ≡ drains serial event.now }
 {
     matches!(event, Event::Drained(n) if *n == serial)
 }

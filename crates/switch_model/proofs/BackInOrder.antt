@@ -1,6 +1,7 @@
 -- The bodies from next hops stand in a circuit's history as they were taken.
 use Rattle.std.proofs.Common.{◌≡◌, ℕ, ◌==◌, ◌&&◌, Bool, true, false, if◌then◌else◌, is_some, List, [], ◌∷◌, ◌++◌, Some, None, refl}
-use Rattle.circuit_model.specs.Events.{CircuitCell, Event, Backward, Answered, Freed}
+use Rattle.circuit_model.specs.Events.{CircuitCell, Event}
+use Rattle.circuit_model.specs.declared.event.Event.TheVariants.{Backward, Answered, Freed}
 use Rattle.circuit_model.specs.Rules.{Rules}
 use Rattle.circuit_model.specs.Words.{log, closes}
 use Rattle.tr_io.specs.declared.answers.DialAnswer.{DialAnswer}

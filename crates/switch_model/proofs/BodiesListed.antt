@@ -5,7 +5,8 @@ use Rattle.circuit_model.specs.Effects.{open_effects}
 use Rattle.circuit_model.specs.Extending.{creating, accepted_request}
 use Rattle.tor_spec.specs.Extend.{Extend}
 use Rattle.kdf_tor.specs.declared.LayerKeys.{LayerKeys}
-use Rattle.circuit_model.specs.Events.{CircuitCell, Event, Born, Backward, Answered, Linked, Failed, Freed, Drained as DrainedEvent}
+use Rattle.circuit_model.specs.Events.{CircuitCell, Event}
+use Rattle.circuit_model.specs.declared.event.Event.TheVariants.{Born, Backward, Answered, Linked, Failed, Freed, Drained as DrainedEvent}
 use Rattle.circuit_model.specs.Log.{Effects, no_effects, pushed, is_closed, newest}
 use Rattle.circuit_model.specs.Packaged.{behind}
 use Rattle.circuit_model.specs.Rules.{Rules}

@@ -6,7 +6,8 @@ use Rattle.std.proofs.lemmas.Bool.Decides.{nat_tests, eqb_tells}
 use Rattle.std.proofs.Math.Dec.{eqb-suc-zero}
 use Rattle.cell_codec.specs.declared.cell.Cell.{Cell}
 use Rattle.circuit_model.specs.Effects.{open_effects}
-use Rattle.circuit_model.specs.Events.{CircuitCell, Event, Born}
+use Rattle.circuit_model.specs.Events.{CircuitCell, Event}
+use Rattle.circuit_model.specs.declared.event.Event.TheVariants.{Born}
 use Rattle.circuit_model.specs.Log.{Log, Order}
 use Rattle.circuit_model.specs.NextHop.{next_hop}
 use Rattle.circuit_model.specs.Rules.{Rules}

@@ -2,7 +2,8 @@
 use Rattle.std.proofs.Common.{◌≡◌, ℕ, true, false, List, [], ◌∷◌, ◌++◌, length, Some, refl, ap, append_assoc}
 use Rattle.cell_codec.specs.declared.cell.Cell.{Cell}
 use Rattle.circuit_model.specs.Effects.{open_effects}
-use Rattle.circuit_model.specs.Events.{CircuitCell, Backward}
+use Rattle.circuit_model.specs.Events.{CircuitCell}
+use Rattle.circuit_model.specs.declared.event.Event.TheVariants.{Backward}
 use Rattle.circuit_model.specs.Log.{is_closed}
 use Rattle.circuit_model.specs.Packaged.{behind}
 use Rattle.circuit_model.specs.Rules.{Rules}

@@ -1,7 +1,8 @@
 -- No legal history packages more DATA than was granted, for no circuit and no stream.
 use Rattle.std.proofs.Common.{◌≡◌, ℕ, ◌+◌, ◌≤◌, ◌<◌, ◌==◌, Bool, true, false, not, nat_le, if◌then◌else◌, List, [], ◌∷◌, Some, None, refl, subst, arith, inl, inr}
 use Rattle.std.proofs.lemmas.Bool.Decides.{nat_tests, eqb_tells}
-use Rattle.circuit_model.specs.Events.{CircuitCell, Event, Born, Backward, Connected, Data, Ended, Drained as DrainedEvent, Freed, Linked, Answered, Failed}
+use Rattle.circuit_model.specs.Events.{CircuitCell, Event}
+use Rattle.circuit_model.specs.declared.event.Event.TheVariants.{Born, Backward, Connected, Data, Ended, Drained as DrainedEvent, Freed, Linked, Answered, Failed}
 use Rattle.circuit_model.specs.Log.{Entry, Log, count_of}
 use Rattle.circuit_model.specs.Rules.{Rules}
 use Rattle.circuit_model.specs.Windows.{is_data_of, circuit_packaged, circuit_grant, good_sendmes, stream_packaged, stream_grant, stream_sendmes}

@@ -3,7 +3,8 @@
 use Rattle.std.specs.Prelude.{ℕ, ◌==◌, ◌||◌, ◌&&◌, nat_le, not, is_some, is_none, List, Bool, false, if◌then◌else◌, Option, Some, None}
 use Rattle.std.specs.List.{list_any}
 use Rattle.cell_codec.specs.declared.cell.Cell.{Cell}
-use Rattle.circuit_model.specs.Events.{CircuitCell, Answered}
+use Rattle.circuit_model.specs.Events.{CircuitCell}
+use Rattle.circuit_model.specs.declared.event.Event.TheVariants.{Answered}
 use Rattle.circuit_model.specs.NextHop.{next_hop}
 use Rattle.circuit_model.specs.Rules.{Rules}
 use Rattle.circuit_model.specs.Words.{closes}

@@ -1,7 +1,7 @@
 -- The answers to the edge: to its events, to a slot that asks for orders, and to a DATA that was
 -- drained. The first line that fits holds.
 use Rattle.std.specs.Prelude.{ℕ, ◌==◌, nat_le, not, List, [], ◌∷◌, Bool, true, false, if◌then◌else◌, Option, Some, None}
-use Rattle.circuit_model.specs.Events.{Drained}
+use Rattle.circuit_model.specs.declared.event.Event.TheVariants.{Drained}
 use Rattle.circuit_model.specs.Log.{Log, Order}
 use Rattle.circuit_model.specs.declared.effects.Order.TheVariants.{Reach, Carry, Close}
 use Rattle.circuit_model.specs.declared.places.Phase.{Phase}

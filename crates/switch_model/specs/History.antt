@@ -3,7 +3,8 @@
 use Rattle.std.specs.Prelude.{ℕ, ◌==◌, ◌&&◌, ◌||◌, List, [], ◌∷◌, ◌++◌, length, Bool, true, false, if◌then◌else◌, Option, Some, None, is_some}
 use Rattle.cell_codec.specs.declared.cell.Cell.{Cell}
 use Rattle.kdf_tor.specs.declared.LayerKeys.{LayerKeys}
-use Rattle.circuit_model.specs.Events.{CircuitCell, Event, Born, Backward, Connected, Data, Ended, Drained as DrainedEvent, Freed, Linked, Answered, Failed}
+use Rattle.circuit_model.specs.Events.{CircuitCell, Event}
+use Rattle.circuit_model.specs.declared.event.Event.TheVariants.{Born, Backward, Connected, Data, Ended, Drained as DrainedEvent, Freed, Linked, Answered, Failed}
 use Rattle.circuit_model.specs.Log.{Log}
 use Rattle.circuit_model.specs.declared.next_hop.NextHop.{NextHop}
 use Rattle.circuit_model.specs.declared.next_hop.NextHop.TheVariants.{Waiting}

@@ -1,6 +1,7 @@
 -- What a circuit relayed and packaged, live or torn down: the order of its bodies, and its windows.
 use Rattle.std.specs.Prelude.{ℕ, ◌≡◌, ◌⊎◌, ◌≤◌, List, [], ◌∷◌, ◌++◌, Option, Some, None}
-use Rattle.circuit_model.specs.Events.{CircuitCell, Event, Forward, Backward}
+use Rattle.circuit_model.specs.Events.{CircuitCell, Event}
+use Rattle.circuit_model.specs.declared.event.Event.TheVariants.{Forward, Backward}
 use Rattle.circuit_model.specs.Log.{Log, collected}
 use Rattle.circuit_model.specs.Rules.{Rules}
 use Rattle.circuit_model.specs.Windows.{circuit_packaged, circuit_grant, stream_packaged, stream_grant}

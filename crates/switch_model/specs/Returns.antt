@@ -2,7 +2,8 @@
 -- A body whose answer would be packaged where the backward direction is full closes too, and is
 -- itself no event.
 use Rattle.std.specs.Prelude.{ℕ, ◌≡◌, ⊤, ◌+◌, ◌-◌, ◌&&◌, nat_le, List, [], ◌∷◌, length, Bool, if◌then◌else◌, Option, Some, None}
-use Rattle.circuit_model.specs.Events.{CircuitCell, Event, Forward}
+use Rattle.circuit_model.specs.Events.{CircuitCell, Event}
+use Rattle.circuit_model.specs.declared.event.Event.TheVariants.{Forward}
 use Rattle.circuit_model.specs.Rules.{Rules}
 use Rattle.circuit_model.specs.Packaged.{behind}
 use Rattle.circuit_model.specs.Words.{log, closes, packages_back}

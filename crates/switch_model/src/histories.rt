@@ -4,7 +4,8 @@ ghost use Rattle.std.specs.Prelude.{◌≡◌, ◌≤◌, ◌==◌, ℕ, ◌++�
 ghost use Rattle.cell_codec.specs.declared.cell.Cell.{Cell};
 ghost use Rattle.cell_codec.specs.Cells.{IsWellFormed};
 ghost use Rattle.kdf_tor.specs.declared.LayerKeys.{LayerKeys};
-ghost use Rattle.circuit_model.specs.Events.{CircuitCell, Backward};
+ghost use Rattle.circuit_model.specs.Events.{CircuitCell};
+ghost use Rattle.circuit_model.specs.declared.event.Event.TheVariants.{Backward};
 ghost use Rattle.circuit_model.specs.Extending.{truncate_effects};
 ghost use Rattle.circuit_model.specs.Log.{is_closed, closing};
 ghost use Rattle.circuit_model.specs.NextHop.{next_hop, is_absent};

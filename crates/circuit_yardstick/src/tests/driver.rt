@@ -5,9 +5,9 @@ ghost use Rattle.circ_relay.specs.CircuitOfLog.{MaySend};
 
 use cell_codec::Bytes;
 use circ_relay::{Circuit, Effects, NextHop, Rules};
+use circuit_model::{Event, Payload};
 use hop_crypto::Opener;
 use kdf_tor::LayerKeys;
-use plain_circuit::event::{Event, Piece};
 use relay_cell::Opened;
 use std::alloc::{AllocError, Global};
 use std::process::Abort;
@@ -58,7 +58,7 @@ impl Driver {
             (Event::Answered(payload), _) => Ok(self.answered(payload)),
             (Event::Failed, _) => Ok(self.failed()),
             (Event::Connected(_), Some(key)) => Ok(self.connected(key)),
-            (Event::Data(_, piece), Some(key)) => self.bytes(alloc, key, piece),
+            (Event::Data(_, payload), Some(key)) => self.bytes(alloc, key, payload),
             (Event::Ended(_, reason), Some(key)) => Ok(self.ended(key, *reason)),
             (Event::Drained(_), Some(key)) => Ok(self.drained(key)),
             (Event::Freed(_), Some(key)) => Ok(self.freed(key)),
@@ -145,12 +145,13 @@ impl Driver {
         &mut self,
         alloc: Global,
         key: StreamKey,
-        piece: &Piece,
+        payload: &Payload,
     ) -> Result<Option<Effects>, AllocError>
         requires { self.old.calls < 2 ^ 40 }
     {
-        let event = EdgeEvent::Data(Bytes::of(alloc, &piece.bytes)?);
-        if piece.bytes.is_empty() || !self.may_send(key) {
+        let bytes = payload.as_slice();
+        let event = EdgeEvent::Data(Bytes::of(alloc, bytes)?);
+        if bytes.is_empty() || !self.may_send(key) {
             return Ok(None);
         }
         let effects = self.circuit.edge(key, &event);

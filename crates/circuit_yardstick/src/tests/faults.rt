@@ -5,7 +5,7 @@ use crate::tests::cells::{
 };
 use crate::tests::history::{History, LIVE};
 use circ_relay::NextHop;
-use plain_circuit::event::Event;
+use circuit_model::Event;
 use relay_cell::{
     begin_body, circuit_sendme_body, command, data_body, extend2_body, stream_sendme_body,
     write_body,

@@ -4,7 +4,7 @@ use crate::tests::cells::{NEXT_HOP, RELAY, RELAY_EARLY, created2, extend_by_all_
 use crate::tests::history::{History, LIVE};
 use crate::tests::kinds::Kind;
 use circ_relay::NextHop;
-use plain_circuit::event::{Event, Piece};
+use circuit_model::{Event, Payload};
 use relay_cell::{
     begin_body, circuit_sendme_body, command, data_body, end_body, extend2_body, resolve_body,
     stream_sendme_body, truncate_body, write_body,
@@ -212,8 +212,8 @@ impl History {
         let Some(stream) = self.stream_in(&[Phase::Joined]) else {
             return Ok(None);
         };
-        let bytes = self.random.bytes(alloc, 498)?;
-        Ok(Some(Event::Data(stream.key.serial as usize, Piece { bytes })))
+        let bytes = Payload::of(alloc, &self.random.bytes(alloc, 498)?)?;
+        Ok(Some(Event::Data(stream.key.serial as usize, bytes)))
     }
 
     fn edge_report(&mut self, kind: Kind) -> Option<Event> {

@@ -4,7 +4,7 @@ use crate::tests::cells::{RELAY, RELAY_EARLY};
 use crate::tests::faults::{FAULTS, Fault};
 use crate::tests::kinds::{KINDS, Kind};
 use circ_relay::Effects;
-use plain_circuit::event::Event;
+use circuit_model::Event;
 use relay_cell::command;
 use std::process::Abort;
 use tr_io::edges::EdgeOrder;

@@ -8,8 +8,7 @@ use crate::tests::history::{Begun, History};
 use crate::tests::outcomes::Seen;
 use crate::tests::rules::{fast_rules, plain_rules};
 use circ_relay::Rules;
-use circuit_model::Phase as PlainPhase;
-use plain_circuit::event::{Event, Piece};
+use circuit_model::{Event, Payload, Phase as PlainPhase};
 use plain_circuit::log::Entry;
 use plain_circuit::next_hop::next_hop;
 use plain_circuit::places::phase_at;
@@ -108,12 +107,7 @@ fn event_of_closed(alloc: Global, history: &mut History) -> Result<Event, AllocE
         0 => Event::Forward(RELAY, history.random.body()),
         1 => Event::Backward(history.random.body()),
         2 => Event::Connected(0),
-        3 => Event::Data(
-            0,
-            Piece {
-                bytes: history.random.bytes(alloc, 498)?,
-            },
-        ),
+        3 => Event::Data(0, Payload::of(alloc, &history.random.bytes(alloc, 498)?)?),
         4 => Event::Ended(0, 6),
         5 => Event::Drained(0),
         6 => Event::Freed(0),

@@ -2,13 +2,12 @@
 
 ghost use Rattle.std.specs.Prelude.{◌<◌};
 
-use crate::event::{Event, Piece};
 use crate::log::Entry;
 use crate::relay::{effects, log_of};
 use crate::rules::{Allow, Rules};
 use crate::tests::deeds::{Deeds, NOTHING, deeds_of, last_deeds};
 use aes_ctr::Stream;
-use circuit_model::CircuitCell;
+use circuit_model::{CircuitCell, Event, Payload};
 use kdf_tor::{LayerKeys, derive};
 use relay_cell::{begin_body, put_digest};
 use run_digest::Running;
@@ -109,9 +108,9 @@ impl Client {
         requires { 0 < places }
     {
         for i in 0..count {
-            let bytes = Vec::from_slice(alloc, &[7])?;
+            let bytes = Payload::of(alloc, &[7])?;
             let serial = usize::from(i % places);
-            self.history.push(Event::Data(serial, Piece { bytes }))?;
+            self.history.push(Event::Data(serial, bytes))?;
         }
         Ok(())
     }

@@ -1,11 +1,11 @@
 //! What single messages have the relay do.
 
-use crate::event::Event;
 use crate::relay::log_of;
 use crate::tests::client::{Client, RELAY, RELAY_EARLY, echo_rules};
 use crate::tests::deeds::{
     CLOSES, EdgeDeed, NOTHING, answers, deeds_of, dials, last_deeds, orders, passes,
 };
+use circuit_model::Event;
 use relay_cell::{
     begin_body, circuit_sendme_body, command, data_body, end_body, extend2_body, resolve_body,
     stream_sendme_body, truncate_body, write_body,

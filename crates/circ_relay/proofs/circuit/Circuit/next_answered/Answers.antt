@@ -1,5 +1,5 @@
 use Rattle.std.proofs.Common.{◌≡◌, ◌∷◌, Some, sym, subst, ◌∙◌}
-use Rattle.circuit_model.specs.Events.{Answered}
+use Rattle.circuit_model.specs.declared.event.Event.TheVariants.{Answered}
 use Rattle.circuit_model.specs.Extending.{answered_effects}
 use Rattle.circuit_model.specs.Log.{Log, no_effects, closing}
 use Rattle.circuit_model.specs.Packaged.{finished}
