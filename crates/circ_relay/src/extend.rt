@@ -5,11 +5,12 @@ ghost use Rattle.std.specs.Int.{w16, to_be_bytes};
 ghost use Rattle.tor_spec.specs.CellCommands.{create2_command};
 ghost use Rattle.tor_spec.specs.Reasons.{destroy_requested};
 ghost use Rattle.tor_spec.specs.RelayCell.{relay_body, truncated_command, extend2_command};
+ghost use Rattle.tor_spec.specs.CellEncoding.{fixed_payload};
 ghost use Rattle.tor_spec.specs.Extend.{Extend, extend_request, handshake_request_payload};
 ghost use Rattle.circuit_model.specs.Rules.{Rules as ModelRules};
 ghost use Rattle.circuit_model.specs.Log.{Log, Message as ModelMessage};
 ghost use Rattle.circuit_model.specs.NextHop.{next_hop, is_absent};
-ghost use Rattle.circuit_model.specs.Extending.{create2, filled, extend_effects, truncate_effects};
+ghost use Rattle.circuit_model.specs.Extending.{create2, extend_effects, truncate_effects};
 ghost use Rattle.circuit_model.specs.Words.{effects, log};
 ghost use Rattle.circuit_model.specs.declared.next_hop.NextHop.{NextHop};
 ghost use Rattle.circ_relay.specs.BroughtMessages.{IsBrought, after_cell};
@@ -103,7 +104,7 @@ fn create2_head(htype: u16, length: u16) -> [u8; 4]
 // The payload of CREATE2: HTYPE, HLEN and HDATA; the rest is zero.
 fn create2_body(htype: u16, hdata: &[u8]) -> CellPayload
     requires { length hdata.now ≤ 498 }
-    ensures { result ≡ filled (handshake_request_payload htype hdata.now) }
+    ensures { result ≡ fixed_payload (handshake_request_payload htype hdata.now) }
 {
     let mut body = [0; 509];
     let end = 4 + hdata.len();

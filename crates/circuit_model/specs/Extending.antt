@@ -1,7 +1,8 @@
 -- The rows of the table of effects that concern the next hop (tor-spec, "EXTEND and EXTENDED cells",
 -- "CREATE and CREATED cells", "Tearing down circuits").
-use Rattle.std.specs.Prelude.{ℕ, ◌-◌, [], ◌∷◌, ◌++◌, List, length, not, if◌then◌else◌, Option, Some, None, is_some, nat_le, option_and_then, replicate}
+use Rattle.std.specs.Prelude.{ℕ, [], ◌∷◌, List, length, not, if◌then◌else◌, Option, Some, None, is_some, nat_le, option_and_then}
 use Rattle.tor_spec.specs.CellCommands.{create2_command}
+use Rattle.tor_spec.specs.CellEncoding.{fixed_payload}
 use Rattle.tor_spec.specs.Reasons.{destroy_protocol, destroy_requested}
 use Rattle.tor_spec.specs.RelayCell.{truncated_command, extended2_command}
 use Rattle.tor_spec.specs.Extend.{Address, Extend, extend_request, handshake_reply, handshake_reply_payload, handshake_request_payload}
@@ -39,15 +40,11 @@ request_of None = None
 abbrev pub accepted_request : Entry → Option Extend
 accepted_request entry = if is_some entry.effects.dial then request_of entry.message else None
 
--- A payload of 509 bytes that begins with these; the rest is zero.
-abbrev pub filled : List ℕ → List ℕ
-filled bytes = bytes ++ replicate (509 - length bytes) 0
-
 -- CREATE2: HTYPE, HLEN and HDATA as the EXTEND2 had them.
 unfoldable pub create2 : Extend → CircuitCell
 create2 request = record {
   command = create2_command;
-  body = filled (handshake_request_payload request.handshake_type request.handshake);
+  body = fixed_payload (handshake_request_payload request.handshake_type request.handshake);
 }
 
 abbrev pub creating : Option Extend → Effects

@@ -3,13 +3,13 @@
 use Rattle.std.specs.Prelude.{ℕ, ◌+◌, ◌*◌, ◌==◌, ◌&&◌, [], ◌∷◌, ◌++◌, List, if◌then◌else◌, option_to_list}
 use Rattle.crypto_spec.specs.HopLayer.{layered}
 use Rattle.tor_spec.specs.CellCommands.{relay_command, destroy_command}
+use Rattle.tor_spec.specs.CellEncoding.{fixed_payload}
 use Rattle.tor_spec.specs.Reasons.{destroy_requested}
 use Rattle.circuit_model.specs.Events.{CircuitCell}
 use Rattle.circuit_model.specs.Log.{Entry, Log}
 use Rattle.circuit_model.specs.Opened.{born_keys, born_reply}
 use Rattle.circuit_model.specs.NextHop.{next_hop, has_leg, leg_count}
 use Rattle.circuit_model.specs.Packaged.{behind}
-use Rattle.circuit_model.specs.Extending.{filled}
 
 -- A RELAY cell with the backward body with number n, this relay's layer put on: it uses the 509 bytes of
 -- the keystream from number 509 n on.
@@ -27,7 +27,7 @@ sent_to_client log = option_to_list (born_reply log) ++ all_sealed (born_keys lo
 
 -- DESTROY with this reason.
 abbrev pub destroy : ℕ → CircuitCell
-destroy reason = record { command = destroy_command; body = filled (reason ∷ []) }
+destroy reason = record { command = destroy_command; body = fixed_payload (reason ∷ []) }
 
 -- REQUESTED ends the leg of a next hop that TRUNCATE gave up.
 abbrev pub destroys : Log → Entry → List CircuitCell

@@ -1,7 +1,7 @@
 -- Fields laid one behind the other.
 use Rattle.std.proofs.Common.{◌≡◌, ℕ, ◌+◌, ◌-◌, List, [], ◌++◌, length, take, drop, replicate, refl, sym, ap, ◌∙◌, append_assoc, append-nil, arith}
 use Rattle.std.proofs.lemmas.List.{take_at, drop_at, drop-replicate, length-append}
-use Rattle.hop_handshake.specs.Payloads.{filled}
+use Rattle.tor_spec.specs.CellEncoding.{fixed_payload}
 use borrow.Rule.Slice.PartMut.{put_mid}
 
 -- A second field is written behind the first, over the front of what stands there.
@@ -34,8 +34,8 @@ zeros_left n b first second long =
     drop-replicate b (n - length first) 0 ∙ ap (λ k. replicate k 0) (room_left n b first second long)
 
 -- Zeros stand behind both fields.
-pub put_in_zeros : (a b : ℕ) (laid first second : List ℕ) → laid ≡ filled first → length first ≡ a → length second ≡ b
-    → put_mid a b laid second ≡ filled (first ++ second)
+pub put_in_zeros : (a b : ℕ) (laid first second : List ℕ) → laid ≡ fixed_payload first → length first ≡ a → length second ≡ b
+    → put_mid a b laid second ≡ fixed_payload (first ++ second)
 put_in_zeros a b laid first second is first_long second_long =
     put_behind a b laid first (replicate (509 - length first) 0) second is first_long
     ∙ ap (λ xs. (first ++ second) ++ xs) (zeros_left 509 b first second second_long)

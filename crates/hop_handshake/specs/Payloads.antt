@@ -1,24 +1,20 @@
--- The payloads of the cells that open a circuit and answer it, as they are written: what stands
--- behind their fields is zero.
-use Rattle.std.specs.Prelude.{ℕ, ◌-◌, [], ◌∷◌, ◌++◌, List, length, replicate}
+-- The payloads of the cells that open a circuit and answer it, as they are written.
+use Rattle.std.specs.Prelude.{ℕ, [], ◌∷◌, ◌++◌, List}
+use Rattle.tor_spec.specs.CellEncoding.{fixed_payload}
 use Rattle.tor_spec.specs.Extend.{handshake_reply_payload, handshake_request_payload}
-
--- A payload of 509 bytes that begins with these fields.
-abbrev pub filled : List ℕ → List ℕ
-filled fields = fields ++ replicate (509 - length fields) 0
 
 -- CREATED_FAST (tor-spec, "CREATE_FAST/CREATED_FAST cells"): the relay's Y (20 bytes), KH (20).
 abbrev pub created_fast_payload : List ℕ → List ℕ → List ℕ
-created_fast_payload y kh = filled (y ++ kh)
+created_fast_payload y kh = fixed_payload (y ++ kh)
 
 -- CREATE2 (tor-spec, "CREATE and CREATED cells"): HTYPE (2 bytes), HLEN (2), HDATA (HLEN).
 abbrev pub create2_payload : ℕ → List ℕ → List ℕ
-create2_payload htype hdata = filled (handshake_request_payload htype hdata)
+create2_payload htype hdata = fixed_payload (handshake_request_payload htype hdata)
 
 -- CREATED2 (tor-spec, "CREATE and CREATED cells"): HLEN (2 bytes), HDATA (HLEN).
 abbrev pub created2_payload : List ℕ → List ℕ
-created2_payload hdata = filled (handshake_reply_payload hdata)
+created2_payload hdata = fixed_payload (handshake_reply_payload hdata)
 
 -- DESTROY (tor-spec, "Tearing down circuits"): the reason (1 byte).
 abbrev pub destroy_payload : ℕ → List ℕ
-destroy_payload reason = filled (reason ∷ [])
+destroy_payload reason = fixed_payload (reason ∷ [])

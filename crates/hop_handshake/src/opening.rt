@@ -9,7 +9,7 @@ ghost use Rattle.hop_handshake.specs.Opening.{refusal, fast_opening, answered_op
 use crate::command::{CREATE_FAST, CREATE2, CREATED_FAST, CREATED2, DESTROY};
 use crate::fast::fast_answer;
 use crate::handshake::{AnswerFault, Answered, Handshake};
-use crate::payload::{created2_payload, filled};
+use crate::payload::{created2_payload, fixed_payload};
 use cell_codec::{Body, Cell};
 use kdf_tor::LayerKeys;
 use relay_cell::read_handshake_request;
@@ -85,7 +85,7 @@ fn fast_opening(circuit: u32, payload: &[u8; 509], y: &[u8; 20], pad: Option<[u8
         reply: Cell {
             circ: circuit,
             command: CREATED_FAST,
-            body: Body::Fixed(filled(&answer.reply)),
+            body: Body::Fixed(fixed_payload(&answer.reply)),
         },
         keys: Some(answer.keys),
         pad,
@@ -142,7 +142,7 @@ fn refusal(circuit: u32, pad: Option<[u8; 16]>) -> Opening
         reply: Cell {
             circ: circuit,
             command: DESTROY,
-            body: Body::Fixed(filled(&[PROTOCOL])),
+            body: Body::Fixed(fixed_payload(&[PROTOCOL])),
         },
         keys: None,
         pad,

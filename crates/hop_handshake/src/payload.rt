@@ -1,13 +1,14 @@
 //! The payloads of the cells that answer the opening of a circuit.
 ghost use Rattle.std.specs.Prelude.{◌≡◌, ◌≤◌, length};
-ghost use Rattle.hop_handshake.specs.Payloads.{filled, created2_payload};
+ghost use Rattle.tor_spec.specs.CellEncoding.{fixed_payload};
+ghost use Rattle.hop_handshake.specs.Payloads.{created2_payload};
 
 use byteorder::{BigEndian, ByteOrder};
 
 /// These fields, then zeros up to the 509 bytes of a fixed payload.
-pub fn filled(fields: &[u8]) -> [u8; 509]
+pub fn fixed_payload(fields: &[u8]) -> [u8; 509]
     requires { length fields.now ≤ 509 }
-    ensures { result ≡ filled fields.now }
+    ensures { result ≡ fixed_payload fields.now }
 {
     let mut payload = [0; 509];
     payload[..fields.len()].copy_from_slice(fields);

@@ -2,10 +2,11 @@
 
 ghost use Rattle.std.specs.Prelude.{◌≡◌, ◌≤◌, ◌++◌, IfOk, IfSome, length, option_map};
 ghost use Rattle.std.specs.Int.{w16, to_be_bytes};
+ghost use Rattle.tor_spec.specs.CellEncoding.{fixed_payload};
 ghost use Rattle.tor_spec.specs.Extend.{extend_request, handshake_request_payload};
 ghost use Rattle.relay_cell.specs.Extend.{extend_of};
 ghost use Rattle.circuit_model.specs.NextHop.{next_hop, is_absent};
-ghost use Rattle.circuit_model.specs.Extending.{address_asked, extend_effects, truncate_effects, accepted_request, create2, filled, linked_effects, answered_effects};
+ghost use Rattle.circuit_model.specs.Extending.{address_asked, extend_effects, truncate_effects, accepted_request, create2, linked_effects, answered_effects};
 ghost use Rattle.plain_circuit.specs.Values.{log_of, entry_of};
 
 use crate::log::Entry;
@@ -96,7 +97,7 @@ fn create2_head(htype: u16, length: u16) -> [u8; 4]
 /// The payload of CREATE2; the rest is zero.
 fn create2_body(htype: u16, hdata: &[u8]) -> [u8; 509]
     requires { length hdata.now ≤ 498 }
-    ensures { result ≡ filled (handshake_request_payload htype hdata.now) }
+    ensures { result ≡ fixed_payload (handshake_request_payload htype hdata.now) }
 {
     let mut body = [0; 509];
     let end = 4 + hdata.len();

@@ -1,5 +1,5 @@
 -- How a cell lies on a link (tor-spec, "Cell format"; link protocol 4). Bytes are numbers below 256.
-use Rattle.std.specs.Prelude.{ℕ, ◌∷◌, ◌++◌, List, length, Bool, ◌==◌, ◌||◌, nat_le, if◌then◌else◌}
+use Rattle.std.specs.Prelude.{ℕ, ◌-◌, ◌∷◌, ◌++◌, List, length, replicate, Bool, ◌==◌, ◌||◌, nat_le, if◌then◌else◌}
 use Rattle.std.specs.Int.{w16, w32, to_be_bytes}
 use Rattle.tor_spec.specs.CellCommands.{versions_command, vpadding_command}
 
@@ -22,3 +22,7 @@ encoding c = to_be_bytes w32 c.circuit ++ c.command ∷
 -- The first cell of a link, VERSIONS, has a CircID of 2 bytes (tor-spec, "Negotiating versions").
 abbrev pub first_encoding : WireCell → List ℕ
 first_encoding c = to_be_bytes w16 c.circuit ++ c.command ∷ (to_be_bytes w16 (length c.payload) ++ c.payload)
+
+-- A payload of fixed length, 509 bytes, that begins with these fields: what stands behind them is zero.
+abbrev pub fixed_payload : List ℕ → List ℕ
+fixed_payload fields = fields ++ replicate (509 - length fields) 0

@@ -1,6 +1,6 @@
 use Rattle.std.proofs.Common.{refl}
 use Rattle.std.proofs.lemmas.List.{drop-replicate}
-use Rattle.hop_handshake.proofs.payload.filled.Goals as goal
+use Rattle.hop_handshake.proofs.payload.fixed_payload.Goals as goal
 
 pub returns : goal.returns
 returns c = rw (c.copy_from_slice.ensures.after, drop-replicate) refl
