@@ -1,6 +1,5 @@
 -- The parts of a circuit behind EXTEND2 and TRUNCATE.
 use Rattle.std.proofs.Common.{not, if◌then◌else◌, ◌≡◌, ℕ, ◌==◌, List, [], ◌∷◌, Bool, true, false, Option, Some, None, refl, sym, ap, ◌∙◌}
-use Rattle.tor_spec.specs.CellEncoding.{fixed_payload}
 use Rattle.tor_spec.specs.RelayCell.{begin_command, data_command, end_command, sendme_command, truncate_command, extend2_command, relay_body, truncated_command}
 use Rattle.circuit_model.specs.declared.event.Event.TheVariants.{Forward}
 use Rattle.circuit_model.specs.Rules.{Rules}
@@ -12,7 +11,7 @@ use Rattle.circuit_model.specs.Places.{place_of}
 use Rattle.circuit_model.specs.Received.{received, message_at}
 use Rattle.circuit_model.specs.declared.message.Received.TheVariants.{ForUs}
 use Rattle.circuit_model.specs.Extending.{linked_effects, extend_effects, create2, truncate_effects}
-use Rattle.tor_spec.specs.Extend.{Address, Extend, extend_request, handshake_request_payload}
+use Rattle.tor_spec.specs.Extend.{Address, Extend, extend_request, create2_payload}
 use Rattle.circuit_model.specs.Effects.{effects_after}
 use Rattle.circuit_model.specs.Words.{entry_after}
 use Rattle.circ_relay.specs.declared.circuit.Circuit.{Circuit}
@@ -31,7 +30,7 @@ use Rattle.circ_relay.proofs.MessageKinds.{does, of_truncate, of_extend2, IsOthe
 
 -- EXTEND2.
 
-pub asked_create2 : (request : Extend) (made : List ℕ) → made ≡ fixed_payload (handshake_request_payload request.handshake_type request.handshake)
+pub asked_create2 : (request : Extend) (made : List ℕ) → made ≡ create2_payload request.handshake_type request.handshake
     → create2 request ≡ record { command = 10; body = made }
 unfolding create2
 asked_create2 request made is = ap (λ (b : List ℕ). record { command = 10; body = b }) (sym is)

@@ -1,12 +1,10 @@
 // EXTEND2 and TRUNCATE (tor-spec, "EXTEND and EXTENDED cells", "Tearing down circuits").
 
-ghost use Rattle.std.specs.Prelude.{◌≡◌, ℕ, ◌+◌, ◌^◌, ◌<◌, ◌≤◌, [], ◌∷◌, ◌++◌, List, length, option_and_then, not, Some, None, IfSome, IfNone};
-ghost use Rattle.std.specs.Int.{w16, to_be_bytes};
+ghost use Rattle.std.specs.Prelude.{◌≡◌, ℕ, ◌+◌, ◌^◌, ◌<◌, ◌≤◌, [], ◌∷◌, List, length, option_and_then, not, Some, None, IfSome, IfNone};
 ghost use Rattle.tor_spec.specs.CellCommands.{create2_command};
 ghost use Rattle.tor_spec.specs.Reasons.{destroy_requested};
 ghost use Rattle.tor_spec.specs.RelayCell.{relay_body, truncated_command, extend2_command};
-ghost use Rattle.tor_spec.specs.CellEncoding.{fixed_payload};
-ghost use Rattle.tor_spec.specs.Extend.{Extend, extend_request, handshake_request_payload};
+ghost use Rattle.tor_spec.specs.Extend.{Extend, extend_request};
 ghost use Rattle.circuit_model.specs.Rules.{Rules as ModelRules};
 ghost use Rattle.circuit_model.specs.Log.{Log, Message as ModelMessage};
 ghost use Rattle.circuit_model.specs.NextHop.{next_hop, is_absent};
@@ -23,7 +21,7 @@ use crate::effects::Effects;
 use crate::message::Message;
 use cell_codec::destroy_reason;
 use circuit_model::NextHop;
-use relay_cell::{read_extend2, truncated_body};
+use relay_cell::{create2_payload, read_extend2, truncated_body};
 use tr_io::names::Dest;
 
 impl Circuit {
@@ -88,27 +86,6 @@ fn asked(payload: &[u8]) -> Option<(Dest, CellPayload)>
 {
     let request = read_extend2(payload)?;
     let (ip, port) = request.to?;
-    let create2 = create2_body(request.htype, request.hdata);
+    let create2 = create2_payload(request.htype, request.hdata);
     Some((Dest { ip, port }, create2))
-}
-
-// HTYPE and HLEN.
-fn create2_head(htype: u16, length: u16) -> [u8; 4]
-    ensures { result ≡ to_be_bytes w16 htype ++ to_be_bytes w16 length }
-{
-    let [type_high, type_low] = htype.to_be_bytes();
-    let [length_high, length_low] = length.to_be_bytes();
-    [type_high, type_low, length_high, length_low]
-}
-
-// The payload of CREATE2: HTYPE, HLEN and HDATA; the rest is zero.
-fn create2_body(htype: u16, hdata: &[u8]) -> CellPayload
-    requires { length hdata.now ≤ 498 }
-    ensures { result ≡ fixed_payload (handshake_request_payload htype hdata.now) }
-{
-    let mut body = [0; 509];
-    let end = 4 + hdata.len();
-    body[..4].copy_from_slice(&create2_head(htype, hdata.len() as u16));
-    body[4..end].copy_from_slice(hdata);
-    body
 }

@@ -1,7 +1,6 @@
--- The handshake in an EXTEND2 is no longer than its payload; what stands behind it in a CREATE2 is zero.
+-- The handshake in an EXTEND2 is no longer than its payload.
 use Rattle.std.proofs.Common.{◌≡◌, ℕ, ◌+◌, ◌≤◌, ◌-◌, ◌++◌, ◌&&◌, replicate, zero, suc, List, [], ◌∷◌, length, take, drop, Bool, true, false, if◌then◌else◌, nat_le, Option, Some, None, option_map, option_and_then, refl, ap, arith, length-drop, length-take}
 use Rattle.std.specs.Int.{w16, to_be_bytes, from_be_bytes}
-use Rattle.tor_spec.specs.CellEncoding.{fixed_payload}
 use Rattle.tor_spec.specs.Extend.{Address, Extend, Specifier, is_specifier_length, specifier, put_before, specifiers, first_address, destination, handshake_reply, handshake_request, make_extend, request_behind, extend_request, handshake_reply_payload, handshake_request_payload}
 
 -- What a result that is there came from.
@@ -87,10 +86,3 @@ extend_handshake_short (count ∷ rest) x found =
     let kept : length read.0.1 ≤ length rest = destination-shrinks count rest read.0 read.1 in
     let short : length x.handshake ≤ length read.0.1 = behind-shrinks read.0 x read.2 in
     omega arith
-
-pub request_filled : (handshake_type : ℕ) (handshake : List ℕ) → length handshake ≤ 498 →
-    to_be_bytes w16 handshake_type ++ to_be_bytes w16 (length handshake) ++ handshake ++ replicate (505 - length handshake) 0 ≡ fixed_payload (handshake_request_payload handshake_type handshake)
-unfolding handshake_reply_payload
-request_filled handshake_type handshake short =
-    let rest : 509 - (suc (suc (suc (suc (length handshake))))) ≡ 505 - length handshake = omega arith in
-    rw rest refl

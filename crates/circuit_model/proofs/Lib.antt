@@ -8,5 +8,4 @@ pub mod Streams
 pub mod PathLayers
 pub mod Versions
 pub mod Keystreams
-pub mod Copied
 pub mod Handshakes

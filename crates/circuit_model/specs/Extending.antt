@@ -2,10 +2,9 @@
 -- "CREATE and CREATED cells", "Tearing down circuits").
 use Rattle.std.specs.Prelude.{ℕ, [], ◌∷◌, List, length, not, if◌then◌else◌, Option, Some, None, is_some, nat_le, option_and_then}
 use Rattle.tor_spec.specs.CellCommands.{create2_command}
-use Rattle.tor_spec.specs.CellEncoding.{fixed_payload}
 use Rattle.tor_spec.specs.Reasons.{destroy_protocol, destroy_requested}
 use Rattle.tor_spec.specs.RelayCell.{truncated_command, extended2_command}
-use Rattle.tor_spec.specs.Extend.{Address, Extend, extend_request, handshake_reply, handshake_reply_payload, handshake_request_payload}
+use Rattle.tor_spec.specs.Extend.{Address, Extend, extend_request, handshake_reply, handshake_reply_payload, create2_payload}
 use Rattle.circuit_model.specs.Events.{CircuitCell}
 use Rattle.circuit_model.specs.Log.{Entry, Log, Message, Effects, no_effects, closing, newest}
 use Rattle.circuit_model.specs.NextHop.{next_hop, is_absent}
@@ -44,7 +43,7 @@ accepted_request entry = if is_some entry.effects.dial then request_of entry.mes
 unfoldable pub create2 : Extend → CircuitCell
 create2 request = record {
   command = create2_command;
-  body = fixed_payload (handshake_request_payload request.handshake_type request.handshake);
+  body = create2_payload request.handshake_type request.handshake;
 }
 
 abbrev pub creating : Option Extend → Effects

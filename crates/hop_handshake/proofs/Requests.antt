@@ -5,8 +5,8 @@ use Rattle.std.specs.Int.{w16, to_be_bytes, from_be_bytes}
 use Rattle.std.proofs.lemmas.Bool.{le-leb, leb-true}
 use Rattle.std.proofs.lemmas.List.{take_at}
 use Rattle.std.proofs.lemmas.Nat.{from_be_bytes-to_be_bytes_2}
-use Rattle.tor_spec.specs.Extend.{handshake_reply, handshake_reply_payload, handshake_request}
-use Rattle.hop_handshake.specs.Payloads.{create2_payload, created2_payload}
+use Rattle.tor_spec.specs.Extend.{create2_payload, handshake_reply, handshake_reply_payload, handshake_request}
+use Rattle.hop_handshake.specs.Payloads.{created2_payload}
 
 -- A request is read exactly where all three tests of its length hold.
 

@@ -1,15 +1,11 @@
--- The payloads of the cells that open a circuit and answer it, as they are written.
+-- The payloads of the cells that answer the opening of a circuit, as they are written.
 use Rattle.std.specs.Prelude.{ℕ, [], ◌∷◌, ◌++◌, List}
 use Rattle.tor_spec.specs.CellEncoding.{fixed_payload}
-use Rattle.tor_spec.specs.Extend.{handshake_reply_payload, handshake_request_payload}
+use Rattle.tor_spec.specs.Extend.{handshake_reply_payload}
 
 -- CREATED_FAST (tor-spec, "CREATE_FAST/CREATED_FAST cells"): the relay's Y (20 bytes), KH (20).
 abbrev pub created_fast_payload : List ℕ → List ℕ → List ℕ
 created_fast_payload y kh = fixed_payload (y ++ kh)
-
--- CREATE2 (tor-spec, "CREATE and CREATED cells"): HTYPE (2 bytes), HLEN (2), HDATA (HLEN).
-abbrev pub create2_payload : ℕ → List ℕ → List ℕ
-create2_payload htype hdata = fixed_payload (handshake_request_payload htype hdata)
 
 -- CREATED2 (tor-spec, "CREATE and CREATED cells"): HLEN (2 bytes), HDATA (HLEN).
 abbrev pub created2_payload : List ℕ → List ℕ

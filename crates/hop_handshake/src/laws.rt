@@ -1,8 +1,8 @@
 //! What the definitions of payloads mean. The calls do nothing: each contract is a law.
 ghost use Rattle.std.specs.Prelude.{◌≡◌, ℕ, ◌<◌, ◌≤◌, ◌^◌, ◌↔◌, List, length, take, drop, IsSome, Some};
 ghost use Rattle.std.specs.Int.{w16, from_be_bytes};
-ghost use Rattle.tor_spec.specs.Extend.{handshake_reply, handshake_request};
-ghost use Rattle.hop_handshake.specs.Payloads.{create2_payload, created2_payload};
+ghost use Rattle.tor_spec.specs.Extend.{create2_payload, handshake_reply, handshake_request};
+ghost use Rattle.hop_handshake.specs.Payloads.{created2_payload};
 
 /// The payload of a CREATE2 has the whole of the client's half exactly where its HLEN, the two bytes
 /// behind HTYPE, is at most 505.

@@ -1,9 +1,7 @@
 //! Messages and events that concern the next hop.
 
-ghost use Rattle.std.specs.Prelude.{◌≡◌, ◌≤◌, ◌++◌, IfOk, IfSome, length, option_map};
-ghost use Rattle.std.specs.Int.{w16, to_be_bytes};
-ghost use Rattle.tor_spec.specs.CellEncoding.{fixed_payload};
-ghost use Rattle.tor_spec.specs.Extend.{extend_request, handshake_request_payload};
+ghost use Rattle.std.specs.Prelude.{◌≡◌, ◌≤◌, IfOk, IfSome, length, option_map};
+ghost use Rattle.tor_spec.specs.Extend.{extend_request};
 ghost use Rattle.relay_cell.specs.Extend.{extend_of};
 ghost use Rattle.circuit_model.specs.NextHop.{next_hop, is_absent};
 ghost use Rattle.circuit_model.specs.Extending.{address_asked, extend_effects, truncate_effects, accepted_request, create2, linked_effects, answered_effects};
@@ -14,7 +12,9 @@ use crate::next_hop::next_hop;
 use crate::packaged::packaging;
 use cell_codec::{command, destroy_reason};
 use circuit_model::{CircuitCell, Effects, Message, NextHop};
-use relay_cell::{Extend2, extended2_body, read_extend2, read_handshake_reply, truncated_body};
+use relay_cell::{
+    Extend2, create2_payload, extended2_body, read_extend2, read_handshake_reply, truncated_body,
+};
 use std::alloc::{AllocError, Global};
 use tor_spec::Address;
 
@@ -85,27 +85,6 @@ fn accepted_request<'a>(entry: &'a Entry<'_>) -> Option<Extend2<'a>>
     request_in(message)
 }
 
-/// HTYPE and HLEN.
-fn create2_head(htype: u16, length: u16) -> [u8; 4]
-    ensures { result ≡ to_be_bytes w16 htype ++ to_be_bytes w16 length }
-{
-    let [type_high, type_low] = htype.to_be_bytes();
-    let [length_high, length_low] = length.to_be_bytes();
-    [type_high, type_low, length_high, length_low]
-}
-
-/// The payload of CREATE2; the rest is zero.
-fn create2_body(htype: u16, hdata: &[u8]) -> [u8; 509]
-    requires { length hdata.now ≤ 498 }
-    ensures { result ≡ fixed_payload (handshake_request_payload htype hdata.now) }
-{
-    let mut body = [0; 509];
-    let end = 4 + hdata.len();
-    body[..4].copy_from_slice(&create2_head(htype, hdata.len() as u16));
-    body[4..end].copy_from_slice(hdata);
-    body
-}
-
 /// CREATE2: HTYPE, HLEN and HDATA as the EXTEND2 had them.
 #[tactic(auto, unfolding(circuit_model::specs::Extending::create2))]
 fn create2(request: &Extend2<'_>) -> CircuitCell
@@ -114,7 +93,7 @@ fn create2(request: &Extend2<'_>) -> CircuitCell
 {
     CircuitCell {
         command: command::CREATE2,
-        body: create2_body(request.htype, request.hdata),
+        body: create2_payload(request.htype, request.hdata),
     }
 }
 

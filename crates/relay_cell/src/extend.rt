@@ -2,7 +2,7 @@
 //! "EXTEND and EXTENDED cells").
 
 ghost use Rattle.std.specs.Prelude.{◌≡◌, ◌≤◌, IfSome, IfNone, Some, None, length, option_map};
-ghost use Rattle.tor_spec.specs.Extend.{destination, extend_payload, extend_request, handshake_reply, handshake_reply_payload, handshake_request};
+ghost use Rattle.tor_spec.specs.Extend.{create2_payload, destination, extend_payload, extend_request, handshake_reply, handshake_reply_payload, handshake_request};
 ghost use Rattle.tor_spec.specs.RelayCell.{extend2_command, extended2_command, relay_body};
 ghost use Rattle.relay_cell.specs.Extend.{address_of, extend_of};
 
@@ -93,6 +93,18 @@ pub fn extend2_body(to: Dest4, htype: u16, hdata: &[u8]) -> [u8; 509]
     payload.put(&(hdata.len() as u16).to_be_bytes());
     payload.put(hdata);
     write_body(command::EXTEND2, 0, payload.as_slice())
+}
+
+/// The payload of a CREATE2 with this handshake.
+pub fn create2_payload(htype: u16, hdata: &[u8]) -> [u8; 509]
+    requires { length hdata.now ≤ 505 }
+    ensures { result ≡ create2_payload htype hdata.now }
+{
+    let mut payload = [0; 509];
+    payload[..2].copy_from_slice(&htype.to_be_bytes());
+    payload[2..4].copy_from_slice(&(hdata.len() as u16).to_be_bytes());
+    payload[4..4 + hdata.len()].copy_from_slice(hdata);
+    payload
 }
 
 /// The body of an EXTENDED2 with this answer to a handshake.

@@ -30,8 +30,8 @@ pub use body::{put_digest, put_padding, write_body};
 pub use connected::{connected_body, read_connected};
 pub use ends::{end_body, end_reason, truncate_body, truncated_body};
 pub use extend::{
-    Dest4, Extend2, extend2_body, extended2_body, read_extend2, read_handshake_reply,
-    read_handshake_request,
+    Dest4, Extend2, create2_payload, extend2_body, extended2_body, read_extend2,
+    read_handshake_reply, read_handshake_request,
 };
 pub use head::{Opened, RelayHead, payload_of, read_head};
 pub use resolve::{read_resolve, resolve_body, resolved_body};

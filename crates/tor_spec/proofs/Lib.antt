@@ -8,6 +8,7 @@ pub mod CellSizes
 pub mod CircuitWindows
 pub mod Decimals
 pub mod Extends
+pub mod Fields
 pub mod NetinfoSteps
 pub mod Payloads
 pub mod RelayCells

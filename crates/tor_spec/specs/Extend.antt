@@ -3,6 +3,7 @@
 -- CREATED2, carries the answer.
 use Rattle.std.specs.Prelude.{ℕ, ◌+◌, zero, suc, [], ◌∷◌, ◌++◌, List, length, Bool, ◌==◌, ◌&&◌, true, nat_le, if◌then◌else◌, Option, Some, None, option_map, option_and_then, take, drop, find}
 use Rattle.std.specs.Int.{w16, to_be_bytes, from_be_bytes}
+use Rattle.tor_spec.specs.CellEncoding.{fixed_payload}
 use Rattle.tor_spec.specs.declared.address.Address.{Address as Declared}
 
 -- An IPv4 address of 4 bytes, and a port.
@@ -75,6 +76,10 @@ handshake_reply_payload handshake = to_be_bytes w16 (length handshake) ++ handsh
 -- The client's half of a handshake as EXTEND2 and CREATE2 carry it: HTYPE (2 bytes), HLEN (2), HDATA (HLEN).
 abbrev pub handshake_request_payload : ℕ → List ℕ → List ℕ
 handshake_request_payload handshake_type handshake = to_be_bytes w16 handshake_type ++ handshake_reply_payload handshake
+
+-- The payload of a CREATE2.
+abbrev pub create2_payload : ℕ → List ℕ → List ℕ
+create2_payload handshake_type handshake = fixed_payload (handshake_request_payload handshake_type handshake)
 
 -- The client's half of a handshake in an EXTEND2 or CREATE2, its type and its data: HTYPE (2 bytes),
 -- HLEN (2), HDATA (HLEN). Anything may follow.

@@ -1,5 +1,5 @@
 use Rattle.std.proofs.Common.{refl}
-use Rattle.hop_handshake.proofs.Fields.{put_last}
+use Rattle.tor_spec.proofs.Fields.{put_last}
 use Rattle.hop_handshake.proofs.fast.fast_answer.Goals as goal
 
 pub returns-clause-reply : goal.returns-clause-reply

@@ -2,7 +2,7 @@ use Rattle.std.proofs.Common.{◌≡◌, ◌+◌, ◌-◌, refl, length, arith}
 use Rattle.std.specs.Int.{w16, to_be_bytes}
 use Rattle.tor_spec.specs.Extend.{handshake_reply_payload}
 use Rattle.tor_spec.specs.CellEncoding.{fixed_payload}
-use Rattle.hop_handshake.proofs.Fields.{put_in_zeros}
+use Rattle.tor_spec.proofs.Fields.{put_in_zeros}
 use Rattle.hop_handshake.proofs.payload.created2_payload.Goals as goal
 
 pub returns : goal.returns
