@@ -4,6 +4,7 @@
 //! both must give the same effects.
 #![tactic(auto, using(crate::proofs::Logs::log_of_more))]
 
+pub mod edge;
 pub mod extending;
 pub mod log;
 pub mod next_hop;

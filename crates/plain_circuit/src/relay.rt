@@ -5,6 +5,7 @@ ghost use Rattle.circuit_model.specs.Effects.{message_effects, passed_on, forwar
 ghost use Rattle.circuit_model.specs.Words.{entry_after, in_order, log, effects};
 ghost use Rattle.plain_circuit.specs.Values.{log_of, rules_of, entry_of};
 
+use crate::edge::{connected_effects, drained_effects, edge_data_effects, ended_effects};
 use crate::extending::{answered_effects, extend_effects, linked_effects, truncate_effects};
 use crate::log::Entry;
 use crate::next_hop::next_hop;
@@ -12,8 +13,7 @@ use crate::places::place_at;
 use crate::received::{is_closed, message_of, read_cell};
 use crate::rules::Rules;
 use crate::streams::{
-    begin_effects, connected_effects, data_effects, drained_effects, edge_data_effects,
-    end_effects, ended_effects, ending, resolve_effects, sendme_effects,
+    begin_effects, data_effects, end_effects, ending, resolve_effects, sendme_effects,
 };
 use cell_codec::destroy_reason;
 use circuit_model::{CircuitCell, Effects, Event, Message, NextHop, Received};

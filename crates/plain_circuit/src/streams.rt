@@ -1,11 +1,11 @@
-//! Messages that concern streams, and what the edge reports of a place.
+//! Messages that concern streams.
 
 ghost use Rattle.std.specs.Prelude.{◌≡◌, IfOk, IsTrue, option_and_then};
 ghost use Rattle.tor_spec.specs.RelayCell.{fits_length, relay_body, resolved_command, sendme_command};
 ghost use Rattle.tor_spec.specs.Resolve.{resolve_host};
 ghost use Rattle.tor_spec.specs.Sendme.{sendme_payload};
 ghost use Rattle.circuit_model.specs.Rules.{resolved_address};
-ghost use Rattle.circuit_model.specs.Streams.{ending, begin_effects, acknowledging, data_effects, end_effects, stream_sendme_at, sendme_effects, resolved_value, resolve_effects, connected_effects, edge_data_effects, ended_effects, drained_effects};
+ghost use Rattle.circuit_model.specs.Streams.{ending, begin_effects, acknowledging, data_effects, end_effects, stream_sendme_at, sendme_effects, resolved_value, resolve_effects};
 ghost use Rattle.plain_circuit.specs.Values.{log_of, rules_of};
 
 use crate::log::Entry;
@@ -14,14 +14,14 @@ use crate::places::{place_count, taken_places};
 use crate::rules::{Rules, allowed_address, resolved_address};
 use crate::sendme::is_right_sendme;
 use crate::windows::{
-    CIRCUIT_STEP, STREAM_START, STREAM_STEP, accept_grant, accepted_data, carried, drained,
-    grant_for, packed_for,
+    CIRCUIT_STEP, STREAM_START, STREAM_STEP, accept_grant, accepted_data, carried, grant_for,
+    packed_for,
 };
 use cell_codec::destroy_reason;
-use circuit_model::{Effects, Message, Order, Payload, Place, StreamKey};
+use circuit_model::{Effects, Message, Order, Payload, StreamKey};
 use relay_cell::{
-    circuit_sendme_body, connected_body, data_body, end_body, end_reason, read_begin, read_resolve,
-    resolved_body, resolved_type, stream_end, stream_sendme_body,
+    circuit_sendme_body, end_body, end_reason, read_begin, read_resolve, resolved_body,
+    resolved_type, stream_end,
 };
 use std::alloc::{AllocError, Global};
 use tor_spec::Address;
@@ -30,7 +30,7 @@ use tor_spec::Address;
 const PLACE_LIMIT: usize = 32;
 
 /// For how many seconds answers about names may be kept.
-const TIME_TO_LIVE: u32 = 60;
+pub const TIME_TO_LIVE: u32 = 60;
 
 /// An END with this reason.
 #[tactic(auto, using(tor_spec::proofs::Bodies::relay_body_fits))]
@@ -202,77 +202,4 @@ pub fn resolve_effects(
 {
     let to = looked_up(rules, message.payload.as_slice());
     packaging(alloc, log, &answer_body(message.stream, to))
-}
-
-/// The place's connection is made.
-#[tactic(auto, using(tor_spec::proofs::Fitting::body_fits, tor_spec::proofs::Fitting::address_fits))]
-pub fn connected_effects(
-    alloc: Global,
-    log: &[Entry<'_>],
-    place: Option<Place>,
-) -> Result<Effects, AllocError>
-    ensures { IfOk result (λ effects. effects ≡ connected_effects (log_of log.now) place) }
-{
-    match place {
-        Some(place) => packaging(
-            alloc,
-            log,
-            &connected_body(place.key.stream, place.to.ip, TIME_TO_LIVE),
-        ),
-        None => Ok(Effects::none()),
-    }
-}
-
-/// The place's connection gave bytes.
-#[tactic(auto, using(tor_spec::proofs::Bodies::relay_body_fits))]
-pub fn edge_data_effects(
-    alloc: Global,
-    log: &[Entry<'_>],
-    bytes: &Payload,
-    place: Option<Place>,
-) -> Result<Effects, AllocError>
-    ensures { IfOk result (λ effects. effects ≡ edge_data_effects (log_of log.now) bytes.now place) }
-{
-    match place {
-        Some(place) => packaging(alloc, log, &data_body(place.key.stream, bytes.as_slice())),
-        None => Ok(Effects::none()),
-    }
-}
-
-/// The place's connection ended.
-pub fn ended_effects(
-    alloc: Global,
-    log: &[Entry<'_>],
-    reason: u8,
-    place: Option<Place>,
-) -> Result<Effects, AllocError>
-    ensures { IfOk result (λ effects. effects ≡ ended_effects (log_of log.now) reason place) }
-{
-    let Some(place) = place else {
-        return Ok(Effects::none());
-    };
-    let ended = ending(alloc, log, place.key.stream, reason)?;
-    Ok(Effects {
-        edge: Some(Order::Close(place.key, reason)),
-        ..ended
-    })
-}
-
-/// The place's connection has taken one more DATA.
-#[tactic(auto, using(tor_spec::proofs::Bodies::relay_body_fits))]
-pub fn drained_effects(
-    alloc: Global,
-    log: &[Entry<'_>],
-    place: Option<Place>,
-) -> Result<Effects, AllocError>
-    ensures { IfOk result (λ effects. effects ≡ drained_effects (log_of log.now) place) }
-{
-    let Some(place) = place else {
-        return Ok(Effects::none());
-    };
-    if (drained(log, place.key.serial) as u128 + 1) % STREAM_STEP == 0 {
-        packaging(alloc, log, &stream_sendme_body(place.key.stream))
-    } else {
-        Ok(Effects::none())
-    }
 }

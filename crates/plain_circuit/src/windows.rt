@@ -1,6 +1,6 @@
 //! Flow control: counts over the whole log, and how far they may go.
 
-ghost use Rattle.std.specs.Prelude.{◌≡◌, ◌<◌, ◌^◌, nat_le, option_map};
+ghost use Rattle.std.specs.Prelude.{◌≡◌, ◌<◌, ◌^◌, nat_le};
 ghost use Rattle.circuit_model.specs.Windows.{has_command, has_stream, has_place, is_accepted, packs_data, is_data_of, carries, drains, circuit_packaged, good_sendmes, circuit_grant, stream_packaged, stream_sendmes, stream_grant, accepted_data, carried, drained, accept_grant};
 ghost use Rattle.plain_circuit.specs.Values.{rules_of, log_of, entry_of};
 
