@@ -234,8 +234,5 @@ opened c rules reply keys pad hop early made packs stands free = record {
 pub put_forth : (e : Effects) (cell : CircuitCell) → e ≡ no_effects → record e { forth = Some cell } ≡ record no_effects { forth = Some cell }
 put_forth e cell none = ap (λ (x : Effects). record x { forth = Some cell }) none
 
-pub put_back : (e : Effects) (body : List ℕ) → e ≡ no_effects → record e { back = Some body } ≡ record no_effects { back = Some body }
-put_back e body none = ap (λ (x : Effects). record x { back = Some body }) none
-
 pub failed_gives : (c : Circuit) (rules : Rules) (h : List Event) → IsCircuit c rules h → effects rules h Failed ≡ closing 6
 failed_gives c rules h is = failed_does rules (log rules h) is.unclosed

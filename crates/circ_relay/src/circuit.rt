@@ -75,7 +75,11 @@ impl Circuit {
     {
         Effects {
             back: Some(*body),
-            ..Effects::none()
+            forth: None,
+            edge: None,
+            dial: None,
+            cut: false,
+            close: None,
         }
     }
 
@@ -101,7 +105,7 @@ impl Circuit {
         self.places.place_of(key.id, key.serial)
     }
 
-    // Packages a body towards the client.
+    // Packages a body towards the client: the one thing to do.
     pub(crate) fn packaging(&mut self, body: &[u8; 509]) -> Effects
         requires count { self.old.packager.padding.count < 2 ^ 63 }
         requires fits { IsTrue (fits_length body.now) }
@@ -112,10 +116,26 @@ impl Circuit {
         ensures count { self.new.packager.padding.count ≡ self.old.packager.padding.count + 1 }
         ensures rest { self.new ≡ record self.old { packager = self.new.packager } }
     {
-        let packaged = self.packager.package(body);
-        Effects {
-            back: Some(packaged.body),
-            ..Effects::none()
-        }
+        let mut outcome = Effects::none();
+        self.package_into(body, &mut outcome);
+        outcome
+    }
+
+    // Packages a body towards the client, where nothing is to be done yet.
+    #[inline(never)]
+    pub(crate) fn package_into(&mut self, body: &[u8; 509], outcome: &mut Effects)
+        requires count { self.old.packager.padding.count < 2 ^ 63 }
+        requires fits { IsTrue (fits_length body.now) }
+        requires blank { effects_of outcome.old ≡ no_effects }
+        ensures effects { (log : Log) → IsPackager self.old.packager log → effects_of outcome.new ≡ record no_effects { back = Some (finished log body.now) } }
+        ensures next { Packages self.old.packager self.new.packager body.now }
+        ensures unclosed { outcome.new.close ≡ None }
+        ensures orderless { outcome.new.edge ≡ None }
+        ensures count { self.new.packager.padding.count ≡ self.old.packager.padding.count + 1 }
+        ensures rest { self.new ≡ record self.old { packager = self.new.packager } }
+    {
+        let mut packaged = *body;
+        let _digest = self.packager.package(&mut packaged);
+        outcome.back = Some(packaged);
     }
 }

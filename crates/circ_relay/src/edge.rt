@@ -80,11 +80,16 @@ impl Circuit {
     {
         let place = self.taken_place(key);
         self.places.packed(place);
-        let packaged = self.packager.package(&data_body(key.id, bytes));
-        self.windows.packed(&packaged.digest);
+        let mut body = data_body(key.id, bytes);
+        let digest = self.packager.package(&mut body);
+        self.windows.packed(&digest);
         Effects {
-            back: Some(packaged.body),
-            ..Effects::none()
+            back: Some(body),
+            forth: None,
+            edge: None,
+            dial: None,
+            cut: false,
+            close: None,
         }
     }
 

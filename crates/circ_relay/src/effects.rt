@@ -45,8 +45,12 @@ impl Effects {
         ensures { effects_of result ≡ closing reason }
     {
         Effects {
+            back: None,
+            forth: None,
+            edge: None,
+            dial: None,
+            cut: false,
             close: Some(reason),
-            ..Effects::none()
         }
     }
 }

@@ -1,11 +1,12 @@
 // Relay cells from the client's side.
 
-ghost use Rattle.std.specs.Prelude.{◌≡◌, ℕ, ◌+◌, ◌≤◌, [], ◌∷◌, List, position, is_some, not, nat_le, ◌==◌, ◌&&◌, if◌then◌else◌, None, IfOk, OnErr, IsTrue, IfSome};
+ghost use Rattle.std.specs.Prelude.{◌≡◌, ◌≢◌, ℕ, ◌+◌, ◌≤◌, [], ◌∷◌, List, position, is_some, not, nat_le, ◌==◌, ◌&&◌, if◌then◌else◌, Some, None, IfOk, OnErr, IsTrue, IfSome};
 ghost use Rattle.tor_spec.specs.CellCommands.{relay_early_command};
 ghost use Rattle.tor_spec.specs.RelayCell.{data_command};
 ghost use Rattle.circuit_model.specs.Events.{Event};
 ghost use Rattle.circuit_model.specs.declared.event.Event.TheVariants.{Forward};
-ghost use Rattle.circuit_model.specs.Log.{Log, Message as ModelMessage};
+ghost use Rattle.circuit_model.specs.Log.{Log, Message as ModelMessage, no_effects};
+ghost use Rattle.circuit_model.specs.Rules.{Rules as ModelRules};
 ghost use Rattle.circuit_model.specs.NextHop.{next_hop};
 ghost use Rattle.circuit_model.specs.Effects.{effects_after, message_effects, passed_on};
 ghost use Rattle.circuit_model.specs.Received.{relay_early_limit};
@@ -37,6 +38,7 @@ pub(crate) const TIME_TO_LIVE: u32 = 60;
 impl Circuit {
     /// A relay cell from the client's side, with this relay's layer taken off: `command` is RELAY or
     /// RELAY_EARLY. It takes memory for DATA to a live stream alone; without it nothing changes.
+    #[inline(always)] // A body that is passed on is then copied to its place at the caller.
     pub fn forward(
         &mut self,
         alloc: Global,
@@ -56,15 +58,21 @@ impl Circuit {
         ensures order { IfOk result (λ given. IfSome given.edge (λ order. (stream_of order).circ ≡ self.old.number)) }
         ensures memory { OnErr result (IsTrue (is_data_for_live opened.now self.old.places)) }
     {
+        let Some(digest) = opened.recognised else {
+            return Ok(self.for_next_hop(opened, command));
+        };
         let room = if self.carries(opened) {
             Bytes::with_room(alloc, 498)?
         } else {
             Bytes::new(alloc)
         };
-        Ok(self.forward_in(rules, opened, command, room))
+        let mut outcome = Effects::none();
+        self.for_this_relay(rules, opened, digest, command, room, &mut outcome);
+        Ok(outcome)
     }
 
     /// The same without taking memory: the bytes of an order go into `room`.
+    #[inline(always)]
     pub fn forward_reserved(
         &mut self,
         rules: &Rules,
@@ -84,7 +92,12 @@ impl Circuit {
         ensures number { self.new.number ≡ self.old.number }
         ensures order { IfSome result.edge (λ order. (stream_of order).circ ≡ self.old.number) }
     {
-        self.forward_in(rules, opened, command, room)
+        let Some(digest) = opened.recognised else {
+            return self.for_next_hop(opened, command);
+        };
+        let mut outcome = Effects::none();
+        self.for_this_relay(rules, opened, digest, command, room, &mut outcome);
+        outcome
     }
 
     // Whether the cell is DATA for a stream that is live.
@@ -101,23 +114,51 @@ impl Circuit {
         }
     }
 
-    fn forward_in(&mut self, rules: &Rules, opened: &Opened, command: u8, room: Bytes) -> Effects
+    // A cell that isn't recognised.
+    fn for_next_hop(&mut self, opened: &Opened, command: u8) -> Effects
+        requires { opened.now.recognised ≡ None }
+        ensures effects { (rules : ModelRules) (h : List Event) (body : List ℕ) → IsCircuit self.old rules h → IsOpened opened.now (log rules h) body → effects_of result ≡ effects rules h (Forward command body) }
+        ensures circuit { (rules : ModelRules) (h : List Event) (body : List ℕ) → IsCircuit self.old rules h → IsOpened opened.now (log rules h) body → result.close ≡ None → IsCircuit self.new rules (Forward command body ∷ h) }
+        ensures orderless { result.edge ≡ None }
+        ensures rest { self.new ≡ record self.old { early = self.new.early } }
+    {
+        if !self.counts(command) {
+            return Effects::closing(destroy_reason::PROTOCOL);
+        }
+        self.passed_on(command, &opened.body)
+    }
+
+    // A recognised cell. What it has the circuit do goes into `outcome`, where nothing is to be done yet: handed
+    // from function to function as a result, its bodies would be copied each time.
+    #[inline(never)]
+    fn for_this_relay(
+        &mut self,
+        rules: &Rules,
+        opened: &Opened,
+        digest: [u8; 20],
+        command: u8,
+        room: Bytes,
+        outcome: &mut Effects,
+    )
         requires calls { HasCalls self.old }
+        requires recognised { opened.now.recognised ≡ Some digest }
         requires empty { room.items ≡ [] }
         requires ample { IsTrue (is_data_for_live opened.now self.old.places) → 498 ≤ room.spare }
-        ensures effects { (h : List Event) (body : List ℕ) → IsCircuit self.old (rules_of rules.now) h → IsOpened opened.now (log (rules_of rules.now) h) body → effects_of result ≡ effects (rules_of rules.now) h (Forward command body) }
-        ensures circuit { (h : List Event) (body : List ℕ) → IsCircuit self.old (rules_of rules.now) h → IsOpened opened.now (log (rules_of rules.now) h) body → result.close ≡ None → IsCircuit self.new (rules_of rules.now) (Forward command body ∷ h) }
+        requires blank { effects_of outcome.old ≡ no_effects }
+        ensures effects { (h : List Event) (body : List ℕ) → IsCircuit self.old (rules_of rules.now) h → IsOpened opened.now (log (rules_of rules.now) h) body → effects_of outcome.new ≡ effects (rules_of rules.now) h (Forward command body) }
+        ensures circuit { (h : List Event) (body : List ℕ) → IsCircuit self.old (rules_of rules.now) h → IsOpened opened.now (log (rules_of rules.now) h) body → outcome.new.close ≡ None → IsCircuit self.new (rules_of rules.now) (Forward command body ∷ h) }
         ensures windows { self.new.windows.calls ≤ self.old.windows.calls + 1 }
         ensures places { self.new.places.calls ≤ self.old.places.calls + 1 }
         ensures packaged { self.new.packager.padding.count ≤ self.old.packager.padding.count + 1 }
         ensures limits { KeepsLimits self.old.windows self.new.windows }
         ensures number { self.new.number ≡ self.old.number }
-        ensures order { IfSome result.edge (λ order. (stream_of order).circ ≡ self.old.number) }
+        ensures order { IfSome outcome.new.edge (λ order. (stream_of order).circ ≡ self.old.number) }
     {
         if !self.counts(command) {
-            return Effects::closing(destroy_reason::PROTOCOL);
+            *outcome = Effects::closing(destroy_reason::PROTOCOL);
+            return;
         }
-        self.received(rules, opened, command, room)
+        self.received(rules, opened, digest, command, room, outcome);
     }
 
     // Counts a RELAY_EARLY, unless it is one more than a circuit takes.
@@ -136,26 +177,34 @@ impl Circuit {
         true
     }
 
-    // A cell that isn't one RELAY_EARLY too many.
-    fn received(&mut self, rules: &Rules, opened: &Opened, command: u8, room: Bytes) -> Effects
+    // A recognised cell that isn't one RELAY_EARLY too many.
+    fn received(
+        &mut self,
+        rules: &Rules,
+        opened: &Opened,
+        digest: [u8; 20],
+        command: u8,
+        room: Bytes,
+        outcome: &mut Effects,
+    )
         requires calls { HasCalls self.old }
+        requires recognised { opened.now.recognised ≡ Some digest }
         requires empty { room.items ≡ [] }
         requires ample { IsTrue (is_data_for_live opened.now self.old.places) → 498 ≤ room.spare }
-        ensures effects { (log : Log) (body : List ℕ) → IsCell opened.now log command body → IsMadeBy self.old (rules_of rules.now) → HasParts self.old log → effects_of result ≡ effects_after (rules_of rules.now) log (Forward command body) }
-        ensures parts { (log : Log) (body : List ℕ) → IsCell opened.now log command body → IsMadeBy self.old (rules_of rules.now) → HasParts self.old log → result.close ≡ None → HasParts self.new (after_cell (rules_of rules.now) log command body) }
+        requires blank { effects_of outcome.old ≡ no_effects }
+        ensures effects { (log : Log) (body : List ℕ) → IsCell opened.now log command body → IsMadeBy self.old (rules_of rules.now) → HasParts self.old log → effects_of outcome.new ≡ effects_after (rules_of rules.now) log (Forward command body) }
+        ensures parts { (log : Log) (body : List ℕ) → IsCell opened.now log command body → IsMadeBy self.old (rules_of rules.now) → HasParts self.old log → outcome.new.close ≡ None → HasParts self.new (after_cell (rules_of rules.now) log command body) }
         ensures windows { self.new.windows.calls ≤ self.old.windows.calls + 1 }
         ensures places { self.new.places.calls ≤ self.old.places.calls + 1 }
         ensures packaged { self.new.packager.padding.count ≤ self.old.packager.padding.count + 1 }
         ensures limits { KeepsLimits self.old.windows self.new.windows }
         ensures early { self.new.early ≡ self.old.early }
         ensures number { self.new.number ≡ self.old.number }
-        ensures order { IfSome result.edge (λ order. (stream_of order).circ ≡ self.old.number) }
+        ensures order { IfSome outcome.new.edge (λ order. (stream_of order).circ ≡ self.old.number) }
     {
-        let Some(digest) = opened.recognised else {
-            return self.passed_on(command, &opened.body);
-        };
         let Some(head) = read_head(&opened.body) else {
-            return Effects::closing(destroy_reason::PROTOCOL);
+            *outcome = Effects::closing(destroy_reason::PROTOCOL);
+            return;
         };
         let message = Message {
             command: head.command,
@@ -164,7 +213,7 @@ impl Circuit {
             digest,
             early: command == cell_command::RELAY_EARLY,
         };
-        self.message(rules, &message, room)
+        self.message(rules, &message, room, outcome);
     }
 
     // A body for another hop goes on with the command of its cell, if there is a next hop.
@@ -174,17 +223,44 @@ impl Circuit {
     {
         match self.next_hop {
             NextHop::There => Effects {
+                back: None,
                 forth: Some((command, *body)),
-                ..Effects::none()
+                edge: None,
+                dial: None,
+                cut: false,
+                close: None,
             },
             _ => Effects::closing(destroy_reason::PROTOCOL),
         }
     }
 
-    fn message(&mut self, rules: &Rules, message: &Message<'_>, room: Bytes) -> Effects
+    fn message(&mut self, rules: &Rules, message: &Message<'_>, room: Bytes, outcome: &mut Effects)
         requires calls { HasCalls self.old }
         requires empty { room.items ≡ [] }
         requires ample { message.now.command ≡ data_command → IsTrue (is_some (position (is_live_as message.now.stream) self.old.places.held)) → 498 ≤ room.spare }
+        requires blank { effects_of outcome.old ≡ no_effects }
+        ensures effects { (log : Log) (command : ℕ) (body : List ℕ) (m : ModelMessage) → IsBrought message.now log command body m → IsMadeBy self.old (rules_of rules.now) → HasParts self.old log → effects_of outcome.new ≡ message_effects (rules_of rules.now) log m }
+        ensures parts { (log : Log) (command : ℕ) (body : List ℕ) (m : ModelMessage) → IsBrought message.now log command body m → IsMadeBy self.old (rules_of rules.now) → HasParts self.old log → outcome.new.close ≡ None → HasParts self.new (after_cell (rules_of rules.now) log command body) }
+        ensures windows { self.new.windows.calls ≤ self.old.windows.calls + 1 }
+        ensures places { self.new.places.calls ≤ self.old.places.calls + 1 }
+        ensures packaged { self.new.packager.padding.count ≤ self.old.packager.padding.count + 1 }
+        ensures limits { KeepsLimits self.old.windows self.new.windows }
+        ensures early { self.new.early ≡ self.old.early }
+        ensures number { self.new.number ≡ self.old.number }
+        ensures order { IfSome outcome.new.edge (λ order. (stream_of order).circ ≡ self.old.number) }
+    {
+        if message.command == command::DATA {
+            self.data(message, room, outcome);
+            return;
+        }
+        *outcome = self.other_message(rules, message);
+    }
+
+    // A message that isn't DATA: these are few.
+    #[inline(never)]
+    fn other_message(&mut self, rules: &Rules, message: &Message<'_>) -> Effects
+        requires calls { HasCalls self.old }
+        requires other { message.now.command ≢ data_command }
         ensures effects { (log : Log) (command : ℕ) (body : List ℕ) (m : ModelMessage) → IsBrought message.now log command body m → IsMadeBy self.old (rules_of rules.now) → HasParts self.old log → effects_of result ≡ message_effects (rules_of rules.now) log m }
         ensures parts { (log : Log) (command : ℕ) (body : List ℕ) (m : ModelMessage) → IsBrought message.now log command body m → IsMadeBy self.old (rules_of rules.now) → HasParts self.old log → result.close ≡ None → HasParts self.new (after_cell (rules_of rules.now) log command body) }
         ensures windows { self.new.windows.calls ≤ self.old.windows.calls + 1 }
@@ -197,7 +273,6 @@ impl Circuit {
     {
         match message.command {
             command::BEGIN => self.begin(rules, message),
-            command::DATA => self.data(message, room),
             command::END => self.end(message),
             command::SENDME => self.sendme(message),
             command::TRUNCATE => self.truncate(),

@@ -31,13 +31,6 @@ impl Model for Packager {
     ghost view = { λ p. record { digest = p.digest; padding = p.padding } };
 }
 
-/// A packaged body, and the 20 bytes of the running digest after it.
-#[derive(Clone, Copy)]
-pub struct Packaged {
-    pub body: [u8; 509],
-    pub digest: [u8; 20],
-}
-
 impl Packager {
     /// Before the first body, by the seed of the backward digest and the key of the padding.
     pub fn of(seed: &[u8; 20], pad: Option<[u8; 16]>) -> Packager
@@ -50,22 +43,21 @@ impl Packager {
         }
     }
 
-    /// The next body, with its padding and its Digest.
+    /// Gives the next body its padding and its Digest; the 20 bytes of the running digest after it.
     #[tactic(auto, unfolding(circuit_model::specs::Packaged::digested))]
-    pub fn package(&mut self, body: &[u8; 509]) -> Packaged
+    pub fn package(&mut self, body: &mut [u8; 509]) -> [u8; 20]
         requires count { self.old.padding.count < 2 ^ 63 }
-        requires fits { IsTrue (fits_length body.now) }
-        ensures body { (log : Log) → IsPackager self.old log → result.body ≡ finished log body.now }
-        ensures digest { (log : Log) → IsPackager self.old log → result.digest ≡ back_digest log (own log ++ result.body ∷ []) }
-        ensures next { (log : Log) → IsPackager self.old log → IsPackagedNext self.new log (Some result.body) }
+        requires fits { IsTrue (fits_length body.old) }
+        ensures body { (log : Log) → IsPackager self.old log → body.new ≡ finished log body.old }
+        ensures digest { (log : Log) → IsPackager self.old log → result ≡ back_digest log (own log ++ body.new ∷ []) }
+        ensures next { (log : Log) → IsPackager self.old log → IsPackagedNext self.new log (Some body.new) }
         ensures count { self.new.padding.count ≡ self.old.padding.count + 1 }
     {
-        let mut body = *body;
-        self.padding.put(&mut body);
-        self.digest.absorb(&body);
+        self.padding.put(body);
+        self.digest.absorb(body);
         let digest = self.digest.digest();
         let [a, b, c, d, ..] = digest;
-        put_digest(&mut body, [a, b, c, d]);
-        Packaged { body, digest }
+        put_digest(body, [a, b, c, d]);
+        digest
     }
 }

@@ -6,7 +6,7 @@ ghost use Rattle.tor_spec.specs.RelayCell.{relay_body, data_command, end_command
 ghost use Rattle.tor_spec.specs.CircuitWindow.{CircuitWindow, after_accepting};
 ghost use Rattle.sendme_windows.specs.WindowsState.{KeepsLimits, StandsFor};
 ghost use Rattle.circuit_model.specs.Rules.{Rules as ModelRules};
-ghost use Rattle.circuit_model.specs.Log.{Log, Message as ModelMessage};
+ghost use Rattle.circuit_model.specs.Log.{Log, Message as ModelMessage, no_effects};
 ghost use Rattle.circuit_model.specs.Places.{live_place};
 ghost use Rattle.circuit_model.specs.Streams.{ending, acknowledging, data_effects, end_effects, sendme_effects};
 ghost use Rattle.circuit_model.specs.Words.{effects, log};
@@ -69,53 +69,56 @@ impl Circuit {
         self.packaging(&end_body(stream, reason))
     }
 
-    pub(crate) fn data(&mut self, message: &Message<'_>, room: Bytes) -> Effects
+    pub(crate) fn data(&mut self, message: &Message<'_>, room: Bytes, outcome: &mut Effects)
         requires calls { HasCalls self.old }
         requires empty { room.items ≡ [] }
         requires ample { IsTrue (is_some (position (is_live_as message.now.stream) self.old.places.held)) → 498 ≤ room.spare }
-        ensures effects { (log : Log) (command : ℕ) (body : List ℕ) (m : ModelMessage) → IsBrought message.now log command body m → HasParts self.old log → effects_of result ≡ data_effects log m }
-        ensures parts { (rules : ModelRules) (log : Log) (command : ℕ) (body : List ℕ) (m : ModelMessage) → IsBrought message.now log command body m → HasParts self.old log → m.command ≡ data_command → result.close ≡ None → HasParts self.new (after_cell rules log command body) }
+        requires blank { effects_of outcome.old ≡ no_effects }
+        ensures effects { (log : Log) (command : ℕ) (body : List ℕ) (m : ModelMessage) → IsBrought message.now log command body m → HasParts self.old log → effects_of outcome.new ≡ data_effects log m }
+        ensures parts { (rules : ModelRules) (log : Log) (command : ℕ) (body : List ℕ) (m : ModelMessage) → IsBrought message.now log command body m → HasParts self.old log → m.command ≡ data_command → outcome.new.close ≡ None → HasParts self.new (after_cell rules log command body) }
         ensures windows { self.new.windows.calls ≤ self.old.windows.calls + 1 }
         ensures places { self.new.places.calls ≤ self.old.places.calls + 1 }
         ensures packaged { self.new.packager.padding.count ≤ self.old.packager.padding.count + 1 }
         ensures limits { KeepsLimits self.old.windows self.new.windows }
         ensures early { self.new.early ≡ self.old.early }
         ensures number { self.new.number ≡ self.old.number }
-        ensures order { IfSome result.edge (λ order. (stream_of order).circ ≡ self.old.number) }
+        ensures order { IfSome outcome.new.edge (λ order. (stream_of order).circ ≡ self.old.number) }
     {
         let Some(place) = self.live_place(message.stream) else {
-            return self.acknowledging(&message.digest);
+            self.acknowledging(&message.digest, outcome);
+            return;
         };
         let key = self.key_at(message.stream, place);
         match self.places.accepted(place) {
-            AcceptAnswer::Overrun => Effects::closing(destroy_reason::PROTOCOL),
-            AcceptAnswer::Accepted => Effects {
-                edge: Some(EdgeOrder::Carry(key, filled(room, message.payload))),
-                ..self.acknowledging(&message.digest)
-            },
+            AcceptAnswer::Overrun => *outcome = Effects::closing(destroy_reason::PROTOCOL),
+            AcceptAnswer::Accepted => {
+                self.acknowledging(&message.digest, outcome);
+                outcome.edge = Some(EdgeOrder::Carry(key, filled(room, message.payload)));
+            }
         }
     }
 
     // Each 100th DATA that the circuit accepts is acknowledged with the digest of its body.
     #[tactic(auto, using(tor_spec::proofs::Fitting::body_fits, tor_spec::proofs::Fitting::proof_fits))]
-    fn acknowledging(&mut self, digest: &[u8; 20]) -> Effects
+    fn acknowledging(&mut self, digest: &[u8; 20], outcome: &mut Effects)
         requires calls { self.old.windows.calls < 2 ^ 63 }
         requires packaged { self.old.packager.padding.count < 2 ^ 63 }
-        ensures effects { (log : Log) (m : ModelMessage) → IsPackager self.old.packager log → StandsFor self.old.windows (window_of log) → m.digest ≡ digest.now → effects_of result ≡ acknowledging log m }
+        requires blank { effects_of outcome.old ≡ no_effects }
+        ensures effects { (log : Log) (m : ModelMessage) → IsPackager self.old.packager log → StandsFor self.old.windows (window_of log) → m.digest ≡ digest.now → effects_of outcome.new ≡ acknowledging log m }
         ensures packager { (log : Log) (m : ModelMessage) → IsPackager self.old.packager log → StandsFor self.old.windows (window_of log) → m.digest ≡ digest.now → IsPackagedNext self.new.packager log (acknowledging log m).back }
         ensures stands { (w : CircuitWindow) → StandsFor self.old.windows w → StandsFor self.new.windows (after_accepting w) }
         ensures windows { self.new.windows.calls ≡ self.old.windows.calls + 1 }
         ensures limits { KeepsLimits self.old.windows self.new.windows }
         ensures packaged { self.new.packager.padding.count ≤ self.old.packager.padding.count + 1 }
         ensures rest { self.new ≡ record self.old { packager = self.new.packager; windows = self.new.windows } }
-        ensures unclosed { result.close ≡ None }
-        ensures orderless { result.edge ≡ None }
+        ensures unclosed { outcome.new.close ≡ None }
+        ensures orderless { outcome.new.edge ≡ None }
     {
-        if self.windows.accepted() {
-            self.packaging(&circuit_sendme_body(digest))
-        } else {
-            Effects::none()
+        let is_due = self.windows.accepted();
+        if !is_due {
+            return;
         }
+        self.package_into(&circuit_sendme_body(digest), outcome);
     }
 
     pub(crate) fn end(&mut self, message: &Message<'_>) -> Effects

@@ -2,13 +2,11 @@
 
 ghost use Rattle.std.specs.Prelude.{◌≤◌, length};
 
+pub use cell_codec::command::{RELAY, RELAY_EARLY};
+
 use kdf_tor::LayerKeys;
 use relay_cell::{Opened, write_body};
 use tr_io::names::Dest;
-
-pub const RELAY: u8 = 3;
-
-pub const RELAY_EARLY: u8 = 9;
 
 pub const KEYS: LayerKeys = LayerKeys {
     df: [0; 20],

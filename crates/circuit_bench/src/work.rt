@@ -22,20 +22,22 @@ pub fn pass_on(alloc: Global, count: u32) -> Result<Report, AllocError> {
     let mut circuit = fresh(None, &rules);
     extend(&mut circuit, alloc, &rules)?;
     let mut opener = Opener::of(&KEYS);
-    let mut body = [0; 509];
+    let mut opened = Opened {
+        body: [0; 509],
+        recognised: None,
+    };
     let mut cells = 0u64;
     for _passed in 0..count {
-        let recognised = opener.take_off(&mut body);
-        let opened = Opened { body, recognised };
+        opened.recognised = opener.take_off(&mut opened.body);
         let effects = circuit.forward(alloc, &rules, &opened, RELAY)?;
         if let Some(passed) = passed_on(&effects) {
-            body.copy_from_slice(passed);
+            opened.body.copy_from_slice(passed);
             cells = cells.saturating_add(1);
         }
     }
     Ok(Report {
         cells,
-        last: first_of(&body),
+        last: first_of(&opened.body),
     })
 }
 

@@ -1,12 +1,10 @@
-use Rattle.std.proofs.Common.{sym, ◌∙◌}
-use Rattle.circ_relay.specs.Values.{effects_of}
-use Rattle.circ_relay.proofs.Nexts.{put_back, backward_gives, backward_keeps}
+use Rattle.std.proofs.Common.{sym}
+use Rattle.circ_relay.proofs.Nexts.{backward_gives, backward_keeps}
 use Rattle.circ_relay.proofs.circuit.Circuit.backward.Goals as goal
 
 pub returns-clause-effects : goal.returns-clause-effects
 returns-clause-effects c = λ rules h is.
-    put_back (effects_of c.none.result) c.args.body.now c.none.ensures
-    ∙ sym (backward_gives c.args.self.now rules h c.args.body.now is)
+    sym (backward_gives c.args.self.now rules h c.args.body.now is)
 
 pub returns-clause-circuit : goal.returns-clause-circuit
 returns-clause-circuit c = λ rules h is. backward_keeps c.args.self.now rules h c.args.body.now is

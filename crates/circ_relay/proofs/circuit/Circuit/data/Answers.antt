@@ -26,7 +26,7 @@ returns-in-Overrun-clause-effects c = λ log command body m b has.
 pub returns-in-Accepted-clause-effects : goal.returns-in-Accepted-clause-effects
 returns-in-Accepted-clause-effects c = λ log command body m b has.
     let live = c.in-Some.ensures.live in
-    carried_effects c.acknowledging-in-Accepted.result (acknowledging log m) c.key_at-key.result c.filled.result c.args.message.now.stream c.args.message.now.payload.now m live.0.serial
+    carried_effects c.acknowledging-in-Accepted.new.outcome (acknowledging log m) c.key_at-key.result c.filled.result c.args.message.now.stream c.args.message.now.payload.now m live.0.serial
     (c.acknowledging-in-Accepted.ensures.effects log m has.packager has.windows (sym b.digest)) (c.key_at-key.ensures.key live.0 live.1) c.filled.ensures b.stream b.payload
     ∙ sym (accepted_does c.args.self.now.places log m c.in-Some.place.0 live.0 c.accepted.result has.places live.1
     (brought_place c.args.message.now log command body m (Some live.0.serial) b (c.in-Some.ensures.serial log live.0 has.places b.named live.1)) (c.accepted.ensures.answer live.0 live.1) c.in-Accepted.is)

@@ -2,7 +2,7 @@ use Rattle.std.proofs.Common.{not, sym, ap, ◌∙◌}
 use Rattle.circuit_model.specs.Words.{log}
 use Rattle.circ_relay.specs.Values.{effects_of, rules_of}
 use Rattle.circ_relay.proofs.ReceivedCells.{too_many_does, too_many, cell_of_history, early_apart, made_early, limits_early, circuit_after}
-use Rattle.circ_relay.proofs.circuit.Circuit.forward_in.Goals as goal
+use Rattle.circ_relay.proofs.circuit.Circuit.for_this_relay.Goals as goal
 
 pub returns-then-not-counts-clause-effects : goal.returns-then-not-counts-clause-effects
 returns-then-not-counts-clause-effects c = λ h body is opens.
@@ -24,7 +24,7 @@ returns-clause-circuit c = λ h body is opens unclosed.
     let cell = cell_of_history c.args.self.now c.args.opened.now rules h c.args.command body c.counts.result is opens c.counts.ensures.test c.if-not-counts.false in
     let has = early_apart c.args.self.now c.counts.new.self c.counts.new.self.early (log rules h) c.counts.ensures.rest is.parts in
     let made = made_early c.args.self.now c.counts.new.self c.counts.new.self.early rules c.counts.ensures.rest is.made in
-    circuit_after c.args.self.now c.received.new.self rules h c.args.command body (effects_of c.received.result) is (sym (c.received.ensures.effects (log rules h) body cell made has)) unclosed
+    circuit_after c.args.self.now c.received.new.self rules h c.args.command body (effects_of c.received.new.outcome) is (sym (c.received.ensures.effects (log rules h) body cell made has)) unclosed
     (c.received.ensures.early ∙ c.counts.ensures.early c.if-not-counts.false)
     (limits_early c.args.self.now c.counts.new.self c.received.new.self c.counts.new.self.early c.counts.ensures.rest c.received.ensures.limits)
     (c.received.ensures.parts (log rules h) body cell made has unclosed)
