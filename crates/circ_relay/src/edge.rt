@@ -28,6 +28,7 @@ impl Circuit {
     /// What the edge connection of a stream reports (tor-spec, "Opening streams and transferring data",
     /// "Closing streams"). A connection that is made is told by CONNECTED, bytes are packaged as DATA,
     /// and an end is told by END, with an order to close the connection.
+    #[inline(always)] // A body that is packaged is then copied to its place at the caller.
     pub fn edge(&mut self, key: StreamKey, event: &EdgeEvent) -> Effects
         requires calls { HasCalls self.old }
         requires stream { MayReport self.old key event.now }
