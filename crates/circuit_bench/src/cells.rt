@@ -3,7 +3,6 @@
 ghost use Rattle.std.specs.Prelude.{◌≤◌, length};
 
 pub use cell_codec::command::{RELAY, RELAY_EARLY};
-
 use kdf_tor::LayerKeys;
 use relay_cell::{Opened, write_body};
 use tr_io::names::Dest;

@@ -47,15 +47,18 @@ fn passed_on(effects: &Effects) -> Option<&[u8; 509]> {
     Some(&forth.1)
 }
 
-/// As many cells as one circuit takes in.
+/// As many DATA as a stream takes in before its connection has taken any.
+const FIVE_HUNDRED: usize = 500;
+
+/// As many DATA as a SENDME of the circuit is for.
 const HUNDRED: usize = 100;
 
 /// DATA cells of stream 1, as the client seals them for the relay alone.
-fn sealed() -> [[u8; 509]; HUNDRED] {
+fn sealed() -> [[u8; 509]; FIVE_HUNDRED] {
     let mut stream = Stream::of(&KEYS.kf);
     let mut running = Running::seeded(&KEYS.df);
-    let mut bodies = [[0; 509]; HUNDRED];
-    for number in 0..HUNDRED {
+    let mut bodies = [[0; 509]; FIVE_HUNDRED];
+    for number in 0..FIVE_HUNDRED {
         let mut body = data_body(1, &[7; 498]);
         running.absorb(&body);
         let [a, b, c, d, ..] = running.digest();
@@ -67,13 +70,13 @@ fn sealed() -> [[u8; 509]; HUNDRED] {
 }
 
 /// Takes the relay's layer off DATA cells that are meant for it, and has a circuit bring their bytes to
-/// the stream: by hundreds, each in a circuit of its own.
+/// the stream: by five hundreds, each in a circuit of its own.
 pub fn accept(alloc: Global, count: u32) -> Result<Report, AllocError> {
     let rules = rules(alloc)?;
     let bodies = sealed();
     let mut cells = 0u64;
     let mut last = [0; 20];
-    for _hundred in 0..count / 100 {
+    for _five_hundred in 0..count / 500 {
         let accepted = accept_all(alloc, &rules, &bodies)?;
         cells = cells.saturating_add(accepted.cells);
         last = accepted.last;
@@ -84,7 +87,7 @@ pub fn accept(alloc: Global, count: u32) -> Result<Report, AllocError> {
 fn accept_all(
     alloc: Global,
     rules: &Rules,
-    bodies: &[[u8; 509]; HUNDRED],
+    bodies: &[[u8; 509]; FIVE_HUNDRED],
 ) -> Result<Report, AllocError> {
     let mut circuit = fresh(None, rules);
     let _stream = join(&mut circuit, alloc, rules)?;
@@ -93,7 +96,7 @@ fn accept_all(
         cells: 0,
         last: [0; 20],
     };
-    for number in 0..HUNDRED {
+    for number in 0..FIVE_HUNDRED {
         let mut opened = Opened {
             body: bodies[number],
             recognised: None,
@@ -125,8 +128,8 @@ pub fn package(alloc: Global, pad: Option<[u8; 16]>, count: u32) -> Result<Repor
     Ok(Report { cells, last })
 }
 
-/// As many DATA with these bytes as a SENDME of the circuit is for, where the windows allow them. Each has
-/// its bytes in room of its own, as an edge connection reports them.
+/// As many DATA with these bytes as a SENDME of the circuit is for, where the windows allow them. Each body
+/// is copied out, as onto a leg.
 fn package_all(
     circuit: &mut Circuit,
     alloc: Global,
@@ -142,12 +145,13 @@ fn package_all(
     ensures places { circuit.new.places.calls ≤ circuit.old.places.calls + 100 }
     ensures packaged { circuit.new.packager.padding.count ≤ circuit.old.packager.padding.count + 100 }
 {
+    let data = EdgeEvent::Data(Bytes::of(alloc, bytes)?);
+    let mut sent = [0; 509];
     let mut report = Report {
         cells: 0,
         last: [0; 20],
     };
     for number in 0..HUNDRED {
-        let data = EdgeEvent::Data(Bytes::of(alloc, bytes)?);
         let Some(Phase::Joined) = circuit.phase(key) else {
             return Ok(report);
         };
@@ -155,10 +159,11 @@ fn package_all(
             return Ok(report);
         };
         if let Some(body) = circuit.edge(key, &data).back {
+            sent.copy_from_slice(&body);
             report.cells = report.cells.saturating_add(1);
-            report.last.copy_from_slice(&body[5..25]);
         }
     }
+    report.last.copy_from_slice(&sent[5..25]);
     Ok(report)
 }
 
