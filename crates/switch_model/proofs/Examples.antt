@@ -31,15 +31,16 @@ pub one_circuit-legal : (start : Start) (keys : LayerKeys) (reply : List ℕ) �
 unfolding open_effects
 one_circuit-legal start keys reply = ((tt, refl), ((is-reply keys (id_of 0) reply, refl), ((tt, refl), tt)))
 
-pub bad_id-legal : (start : Start) (keys : LayerKeys) (reply : List ℕ) → IsLegal start (bad_id keys reply)
+pub bad_id-legal : (start : Start) (keys : LayerKeys) (reply : Cell) → IsReply reply (Some keys) → IsLegal start (bad_id keys reply)
 unfolding open_effects
-bad_id-legal start keys reply = ((tt, refl), ((is-reply keys 1 reply, refl), ((tt, refl), tt)))
+bad_id-legal start keys reply replies = ((tt, refl), ((replies, refl), ((tt, refl), tt)))
 
-pub crossing_destroys-legal : (start : Start) (keys : LayerKeys) (refused reply reason : List ℕ) → length reason ≤ 65535 → IsLegal start (crossing_destroys keys refused reply reason)
+pub crossing_destroys-legal : (start : Start) (keys : LayerKeys) (refused : Cell) (reply reason : List ℕ) → IsReply refused (Some keys) → length reason ≤ 65535 →
+    IsLegal start (crossing_destroys keys refused reply reason)
 unfolding open_effects
-crossing_destroys-legal start keys refused reply reason short = (
+crossing_destroys-legal start keys refused reply reason replies short = (
   (is-reply keys (id_of 0) reply, refl),
-  ((tt, refl), ((fits-destroy 0 reason short, refl), ((is-reply keys (id_of 0) refused, refl), ((tt, refl), ((is-reply keys (id_of 0) reply, refl), ((tt, refl), tt)))))),
+  ((tt, refl), ((fits-destroy 0 reason short, refl), ((replies, refl), ((tt, refl), ((is-reply keys (id_of 0) reply, refl), ((tt, refl), tt)))))),
 )
 
 pub three_circuits-legal : (start : Start) (keys : LayerKeys) (reply : List ℕ) → IsLegal start (three_circuits keys reply)

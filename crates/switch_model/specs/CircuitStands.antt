@@ -70,7 +70,9 @@ abbrev pub IsNoted : ℕ → Dir → ℕ → Option KeptClaim → Type 0
 IsNoted c dir home None = ⊤
 IsNoted c dir home (Some kept) = IsNoteOf c dir home kept
 
-pub record WayStands (c : ℕ) (dir : Dir) (way : WayState) (settled given : List CircuitCell) (count : ℕ) (note : Option ClaimNote) (all : List ℕ) : Type 0 where
+pub record WayStands
+    (c : ℕ) (dir : Dir) (way : WayState) (settled given : List CircuitCell)
+    (count : ℕ) (note : Option ClaimNote) (all : List ℕ) : Type 0 where
   pub claimed : way.claimed ≡ count
   pub out : way.claimed ≡ length settled + length (kept_cells way.kept)
   pub kept : kept_note way.kept ≡ note
@@ -118,8 +120,11 @@ pub record CircuitStands (rules : Rules) (closes : List Ordered) (x : CircuitSta
   pub relay : RelayStands x.relay (log rules p.events)
   pub hops : length x.legs ≡ p.hops + 1
   pub legs : (k : ℕ) → LegAt rules (slot_at x.legs k) k p (has_id k)
-  pub forth : WayStands c Forth x.forth (settled_forth (log rules p.events)) p.taken_forth (p.claimed Forth) (p.kept Forth) (e.numbers Forth)
-  pub back : WayStands c Back x.back (take p.sealed_count (relay_cells (behind (log rules p.events)))) (relay_cells (behind (log rules p.events))) (p.claimed Back) (p.kept Back) (e.numbers Back)
+  pub forth :
+      WayStands c Forth x.forth (settled_forth (log rules p.events)) p.taken_forth (p.claimed Forth) (p.kept Forth) (e.numbers Forth)
+  pub back :
+      WayStands c Back x.back (take p.sealed_count (relay_cells (behind (log rules p.events))))
+      (relay_cells (behind (log rules p.events))) (p.claimed Back) (p.kept Back) (e.numbers Back)
   pub orders : (serial : ℕ) → filter (is_for serial) x.orders ≡ e.waiting serial
   pub no_left : (serial : ℕ) → left_at closes c serial ≡ []
   pub relayed : IsRelayed rules p.events p.taken_forth p.taken_back

@@ -68,8 +68,8 @@ IsFirstDifference start other given returned None = (other ≡ start) × (return
 IsFirstDifference start other given returned (Some zero) = other ≡ start → ⊥
 IsFirstDifference start other given returned (Some (suc i)) = (other ≡ start) × DiffersAt i given returned
 
--- For so many bodies of a direction there is room for what their return can need: those of the claim that
--- is out. It was made when they were claimed, so that their return takes no memory.
+-- How many bodies of a direction have room for all that their return can need: those of the claim that is
+-- out. The room was made at the claim, so the return takes no memory.
 abbrev pub bodies_with_room : Option ClaimNote → ℕ
 bodies_with_room (Some note) = note.count
 bodies_with_room None = 0

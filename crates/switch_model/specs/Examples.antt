@@ -53,10 +53,10 @@ abbrev pub one_circuit : LayerKeys → List ℕ → List Step
 one_circuit keys reply = left 0 (cell_of 0 created_fast_command reply) ∷ opened keys 0 reply ∷ peer_came ∷ []
 
 -- The peer opens a circuit at CircID 1, whose highest bit is clear, and gets DESTROY with PROTOCOL.
-abbrev pub bad_id : LayerKeys → List ℕ → List Step
+abbrev pub bad_id : LayerKeys → Cell → List Step
 bad_id keys reply =
     left 0 (cell_at 1 (destroy destroy_protocol))
-    ∷ OpenCircuit (chan_no 0) 1 (cell_at 1 (record { command = created_fast_command; body = reply })) (Some keys) None (Refused OpenRefusal.BadId)
+    ∷ OpenCircuit (chan_no 0) 1 reply (Some keys) None (Refused OpenRefusal.BadId)
     ∷ peer_came
     ∷ []
 
@@ -98,12 +98,12 @@ two_claimed start keys reply first second =
 
 -- Our DESTROY waits and the peer's is taken: ours never leaves, and the CircID, in use until then, is
 -- free.
-abbrev pub crossing_destroys : LayerKeys → List ℕ → List ℕ → List ℕ → List Step
+abbrev pub crossing_destroys : LayerKeys → Cell → List ℕ → List ℕ → List Step
 crossing_destroys keys refused reply reason =
     OpenCircuit (chan_no 0) (id_of 0) (cell_of 0 created_fast_command reply) (Some keys) None (Opened (circ_no 1))
     ∷ nothing_left 0
     ∷ Take (chan_no 0) (cell_of 0 destroy_command reason) (TakeAnswer.PassedOver Why.NoCircuit)
-    ∷ OpenCircuit (chan_no 0) (id_of 0) (cell_of 0 created_fast_command refused) (Some keys) None (Refused OpenRefusal.InUse)
+    ∷ OpenCircuit (chan_no 0) (id_of 0) refused (Some keys) None (Refused OpenRefusal.InUse)
     ∷ TearDown (circ_no 0) destroy_requested (BackAnswer.Down destroy_requested)
     ∷ opened keys 0 reply
     ∷ peer_came

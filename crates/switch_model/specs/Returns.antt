@@ -74,4 +74,5 @@ events_behind events (cell ∷ cells) = events_behind (forward_of cell ∷ event
 -- None of the cells closes the circuit.
 abbrev pub AllGo : Rules → ℕ → List Event → List CircuitCell → Type 0
 AllGo rules left events [] = ⊤
-AllGo rules left events (cell ∷ cells) = (closing_at rules left events cell ≡ Goes) × AllGo rules left (forward_of cell ∷ events) cells
+AllGo rules left events (cell ∷ cells) =
+    (closing_at rules left events cell ≡ Goes) × AllGo rules left (forward_of cell ∷ events) cells

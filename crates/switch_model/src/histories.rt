@@ -1,6 +1,6 @@
 //! Laws on histories: circuits that a step doesn't concern, the order of bodies and cells, and small
 //! histories that are legal.
-ghost use Rattle.std.specs.Prelude.{◌≡◌, ◌≤◌, ◌==◌, ℕ, ◌++◌, List, [], ◌∷◌, Some, true, false, length, IsTrue, IsFalse};
+ghost use Rattle.std.specs.Prelude.{◌≡◌, ◌≤◌, ◌==◌, ℕ, ◌++◌, List, [], ◌∷◌, Some, true, false, length};
 ghost use Rattle.cell_codec.specs.declared.cell.Cell.{Cell};
 ghost use Rattle.cell_codec.specs.Cells.{IsWellFormed};
 ghost use Rattle.kdf_tor.specs.declared.LayerKeys.{LayerKeys};
@@ -20,6 +20,7 @@ ghost use Rattle.tr_io.specs.declared.names.ClaimNote.{ClaimNote};
 ghost use Rattle.tr_io.specs.declared.names.Dir.TheVariants.{Forth};
 ghost use Rattle.tr_io.specs.declared.step.Step.{Step};
 ghost use Rattle.tr_io.specs.declared.step.Step.TheVariants.{Take};
+ghost use Rattle.switch_model.specs.Conditions.{IsReply};
 ghost use Rattle.switch_model.specs.Names.{circuit_cell};
 ghost use Rattle.switch_model.specs.Lanes.{lane};
 ghost use Rattle.switch_model.specs.Legs.{Port, port, hops, at, holds_id};
@@ -44,7 +45,8 @@ pub fn other_circuits_keep_their_past()
 #[tactic(auto, using(crate::proofs::Waits::sent_and_queued))]
 pub fn sent_and_queued_are_sendable()
     ensures { (rules : Rules) (h : List Step) (c k : ℕ) (rest : List CircuitCell) →
-        is_live_circuit rules h c ≡ true → holds_id h c k ≡ true → sent rules h c k ++ rest ≡ sendable (circuit_log rules h c) (sealed_count h c) k →
+        is_live_circuit rules h c ≡ true → holds_id h c k ≡ true →
+        sent rules h c k ++ rest ≡ sendable (circuit_log rules h c) (sealed_count h c) k →
         sent rules h c k ++ queue rules h c k ≡ sendable (circuit_log rules h c) (sealed_count h c) k }
 {}
 
@@ -66,8 +68,9 @@ pub fn next_hops_body_goes_first()
         ≡ behind (circuit_log rules h note.circ.0) ++ (circuit_cell from_hop).body ∷ answer ∷ [] }
 {}
 
-/// Two bodies come home together, a TRUNCATE and then one that closes: the TRUNCATE has ended the leg
-/// towards the next hop by then, so that leg is sent DESTROY with REQUESTED, whatever the reason is.
+/// A TRUNCATE and then a body that closes come home in one claim, of a circuit with one next hop, on another
+/// channel than the client's. TRUNCATE has ended that leg by then, so a DESTROY with REQUESTED is put for it,
+/// whatever the reason is.
 #[tactic(auto, using(crate::proofs::Batches::truncated_then_closed))]
 pub fn a_truncated_leg_keeps_its_reason()
     ensures { (rules : Rules) (h : List Step) (note : ClaimNote) (reason : ℕ) (truncate closer : CircuitCell) (client hop : Port) →
@@ -96,7 +99,7 @@ pub fn answer_to_an_opening_leaves()
 
 /// An opening at a CircID of the wrong side is refused, and DESTROY 1 leaves.
 pub fn bad_id_is_answered_by_destroy()
-    ensures { (start : Start) (keys : LayerKeys) (reply : List ℕ) → IsLegal start (bad_id keys reply) }
+    ensures { (start : Start) (keys : LayerKeys) (reply : Cell) → IsReply reply (Some keys) → IsLegal start (bad_id keys reply) }
 {}
 
 /// A circuit is torn down while its cipher is at a worker: the return finds it gone, one DESTROY 3
@@ -114,8 +117,8 @@ pub fn a_claim_takes_what_waits()
 
 /// While our DESTROY waits its CircID is in use. The peer's DESTROY takes it away, and the CircID is free.
 pub fn crossing_destroy_frees_the_id()
-    ensures { (start : Start) (keys : LayerKeys) (refused reply reason : List ℕ) → length reason ≤ 65535 →
-        IsLegal start (crossing_destroys keys refused reply reason) }
+    ensures { (start : Start) (keys : LayerKeys) (refused : Cell) (reply reason : List ℕ) → IsReply refused (Some keys) →
+        length reason ≤ 65535 → IsLegal start (crossing_destroys keys refused reply reason) }
 {}
 
 /// A channel that ends tears its circuits down, and nothing leaves on it any more.
