@@ -25,7 +25,7 @@ use Rattle.switch_model.specs.Legs.{at}
 use Rattle.switch_model.specs.Taken.{is_hop, is_hop_leg, taken_forth, claimed_cells}
 use Rattle.switch_model.specs.History.{is_live_circuit, events, with_event, taken_from_hop, is_awaited, edge_event}
 use Rattle.switch_model.specs.Returns.{Closing, Goes, Closes, Full, closing_at, settled, settled_with, forward_of}
-use Rattle.switch_model.specs.Claims.{given_bodies, circuit_at, circuit_served, new_bodies, new_at, born_bodies, count_way}
+use Rattle.switch_model.specs.Claims.{bodies, given_bodies, circuit_at, circuit_served, new_bodies, new_at, born_bodies, count_way}
 use Rattle.switch_model.proofs.Ids.{same-number}
 
 -- how many bodies went back behind some events
@@ -230,6 +230,15 @@ forth-counted rules h g c (Some n) grown before = forth-some rules h g c n (n ==
 back-listed : (rules : Rules) (h : List Step) (c : ℕ) → count_way (record { circ = c; dir = Back }) (born_bodies rules h) ≡ back_count rules (events rules h c)
 back-listed rules [] c = refl
 back-listed rules (s ∷ h) c = back-counted rules h (s ∷ h) c (circuit_served h s) (back-grown rules h s c) (back-listed rules h c)
+
+-- so no step takes bodies from a direction
+no-less : (b : Bool) (before after : ℕ) → Grown b before after → before ≤ after
+no-less true before after grown = grown
+no-less false before after grown = omega (arith, grown)
+
+pub given-grows : (rules : Rules) (h : List Step) (s : Step) (c : ℕ) (dir : Dir) → bodies rules h (record { circ = c; dir = dir }) dir ≤ bodies rules (s ∷ h) (record { circ = c; dir = dir }) dir
+given-grows rules h s c Forth = no-less (serves c (circuit_served h s)) _ _ (forth-grown h s c)
+given-grows rules h s c Back = no-less (serves c (circuit_served h s)) _ _ (back-grown rules h s c)
 
 forth-listed : (rules : Rules) (h : List Step) (c : ℕ) → count_way (record { circ = c; dir = Forth }) (born_bodies rules h) ≡ length (taken_forth h c)
 forth-listed rules [] c = refl

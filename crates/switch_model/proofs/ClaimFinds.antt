@@ -23,7 +23,7 @@ some-first : (a b : Option Way) → is_some a ≡ true → is_some (option_or a 
 some-first None b some = absurd cc
 some-first (Some way) b some = refl
 
-dir-is : (a b : Dir) → same_dir a b ≡ true → a ≡ b
+pub dir-is : (a b : Dir) → same_dir a b ≡ true → a ≡ b
 dir-is Forth Forth same = refl
 dir-is Back Back same = refl
 dir-is Forth Back same = absurd cc
@@ -32,7 +32,7 @@ dir-is Back Forth same = absurd cc
 ways-same : (a b : ℕ) (x y : Dir) → a ≡ b → x ≡ y → ◌≡◌ {A = Way} (record { circ = a; dir = x }) (record { circ = b; dir = y })
 ways-same a b x y same_circ same_direction = rw (same_circ, same_direction) refl
 
-way-is : (a b : Way) → same_way a b ≡ true → a ≡ b
+pub way-is : (a b : Way) → same_way a b ≡ true → a ≡ b
 way-is a b same =
     let same_circ : a.circ ≡ b.circ = same-number a.circ b.circ (and-first (a.circ == b.circ) _ same) in
     let same_direction : a.dir ≡ b.dir = dir-is a.dir b.dir (and-second (a.circ == b.circ) _ same) in

@@ -33,3 +33,10 @@ pub mod AtRest
 pub mod Isolation
 pub mod BodiesListed
 pub mod ClaimFinds
+pub mod Returning
+pub mod ForthSame
+pub mod Claiming
+pub mod Ways
+pub mod Unopened
+pub mod WaysHold
+pub mod ForthInOrder

@@ -11,14 +11,11 @@ use Rattle.tr_io.specs.declared.step.Step.{Step}
 use Rattle.switch_model.specs.Start.{Start}
 use Rattle.switch_model.specs.Names.{Leg, is_leg, circuit_cell}
 use Rattle.switch_model.specs.Legs.{at, holds_id}
-use Rattle.switch_model.specs.History.{is_live_circuit, sent, events}
+use Rattle.switch_model.specs.History.{is_live_circuit, sent}
 use Rattle.switch_model.specs.Queues.{circuit_log, sealed_count, sendable}
 use Rattle.switch_model.specs.Lanes.{Destroy, lane}
 use Rattle.switch_model.specs.Past.{Past, past}
-use Rattle.switch_model.specs.EdgePast.{EdgePast, edge_past}
-use Rattle.switch_model.specs.EdgeAnswers.{Ordered}
-use Rattle.switch_model.specs.Relayed.{IsRelayed}
-use Rattle.switch_model.specs.Taken.{taken_forth, taken_back}
+use Rattle.switch_model.specs.EdgePast.{edge_past}
 use Rattle.switch_model.specs.SendAnswers.{cell_at, first_of_queue, destroy_or, next_cell_answer}
 use Rattle.switch_model.specs.State.{ChannelState, LegState, CircuitState, State, slot_at}
 use Rattle.switch_model.specs.Machine.{leg_at, leg_in}
@@ -116,11 +113,3 @@ pub next_is_one : (start : Start) (s : State) (h : List Step) → Stands start s
     slice_get (one (circuit_log start.rules h c) k) (length (sent start.rules h c k)) ≡ Some (circuit_cell cell)
 next_is_one start s h st chan given c k cell gives named alive =
     channel-next start s h chan given c k cell (slot_at s.channels chan) st (st.channel chan) (next-said start s h chan given st ∙ gives) named alive
-
--- what a circuit relayed, live or torn down
-relayed-by : (rules : Rules) (closes : List Ordered) (x : Option CircuitState) (c : ℕ) (p : Past) (has_id : ℕ → Bool) (e : EdgePast) → CircuitAt rules closes x c p has_id e → IsRelayed rules p.events p.taken_forth p.taken_back
-relayed-by rules closes None c p has_id e gone = gone.relayed
-relayed-by rules closes (Some x) c p has_id e own = own.relayed
-
-pub relayed_in_order : (start : Start) (s : State) (h : List Step) → Stands start s h → (c : ℕ) → IsRelayed start.rules (events start.rules h c) (taken_forth h c) (taken_back h c)
-relayed_in_order start s h st c = relayed-by start.rules s.last_closes (slot_at s.circuits c) c (past start.rules h c) (λ j. holds_id h c j) (edge_past start.rules h c) (st.circuit c)

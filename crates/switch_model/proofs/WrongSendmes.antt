@@ -1,47 +1,28 @@
 -- A body that closes ends its claim's return with its reason, and the circuit with it.
-use Rattle.std.proofs.Common.{◌≡◌, ℕ, ◌==◌, Bool, true, false, not, nat_lt, if◌then◌else◌, List, [], ◌∷◌, ◌++◌, length, Option, Some, None, refl, ◌∙◌, ap}
+use Rattle.std.proofs.Common.{◌≡◌, ℕ, true, false, List, [], ◌∷◌, ◌++◌, length, Option, Some, refl, ◌∙◌, ap}
 use Rattle.circuit_model.specs.Events.{CircuitCell, Event}
 use Rattle.circuit_model.specs.Log.{Effects, closing}
 use Rattle.circuit_model.specs.Rules.{Rules}
 use Rattle.circuit_model.specs.Words.{effects}
 use Rattle.tr_io.specs.declared.answers.BackAnswer.{BackAnswer}
-use Rattle.tr_io.specs.declared.answers.BackAnswer.TheVariants.{Down, Gone, Stranger}
-use Rattle.tr_io.specs.declared.answers.Difference.{Difference}
-use Rattle.tr_io.specs.declared.answers.Difference.TheVariants.{Note}
+use Rattle.tr_io.specs.declared.answers.BackAnswer.TheVariants.{Down}
 use Rattle.tr_io.specs.declared.names.ClaimNote.{ClaimNote}
 use Rattle.tr_io.specs.declared.names.Dir.TheVariants.{Forth}
 use Rattle.tr_io.specs.declared.step.Step.{Step}
 use Rattle.tr_io.specs.declared.step.Step.TheVariants.{GiveBack}
 use Rattle.switch_model.specs.Start.{Start}
-use Rattle.switch_model.specs.Names.{way_of}
-use Rattle.switch_model.specs.Legs.{circuits}
 use Rattle.switch_model.specs.Taken.{claimed_cells}
 use Rattle.switch_model.specs.History.{is_live_circuit, sent, events, is_accepted_return}
-use Rattle.switch_model.specs.Claims.{kept}
 use Rattle.switch_model.specs.Returns.{settling_reason, forward_of, AllGo, events_behind}
-use Rattle.switch_model.specs.ClaimAnswers.{is_note, returned, done, done_by, return_answer}
+use Rattle.switch_model.specs.ClaimAnswers.{done, done_by}
 use Rattle.switch_model.specs.Legal.{IsLegal}
 use Rattle.switch_model.proofs.Common.{self_eq}
+use Rattle.switch_model.proofs.Returning.{passed}
 
 pub reason-behind : (rules : Rules) (left reason : ℕ) (ev : List Event) (before : List CircuitCell) (closer : CircuitCell) (rest : List CircuitCell) → AllGo rules left ev before →
     effects rules (events_behind ev before) (forward_of closer) ≡ closing reason → settling_reason rules left ev (before ++ closer ∷ rest) ≡ Some reason
 reason-behind rules left reason ev [] closer rest go closes = rw (closes, ap (λ (e : Effects). e.close) closes) refl
 reason-behind rules left reason ev (cell ∷ before) closer rest go closes = rw go.0 (reason-behind rules left reason (forward_of cell ∷ ev) before closer rest go.1 closes)
-
--- a return that is accepted is answered by what it settles
-accepted-is : (name inside live kept_one : Bool) (other : BackAnswer) (note : ClaimNote) (a : Difference) (b : Difference) (place : Option ℕ) (answer : BackAnswer) →
-    is_accepted_return (if not name then Stranger a else if not inside then Stranger a else if not live then Gone else if not kept_one then Stranger b else returned note place answer) ≡ true →
-    (if not name then Stranger a else if not inside then Stranger a else if not live then Gone else if not kept_one then Stranger b else returned note place answer) ≡ answer
-accepted-is false inside live kept_one other note a b place answer accepted = absurd cc
-accepted-is true false live kept_one other note a b place answer accepted = absurd cc
-accepted-is true true false kept_one other note a b place answer accepted = absurd cc
-accepted-is true true true false other note a b place answer accepted = absurd cc
-accepted-is true true true true other note a b (Some n) answer accepted = absurd cc
-accepted-is true true true true other note a b None answer accepted = refl
-
-done-by : (start : Start) (h : List Step) (note : ClaimNote) (place : Option ℕ) (answer : BackAnswer) → is_accepted_return (return_answer start h note place answer) ≡ true → return_answer start h note place answer ≡ answer
-done-by start h note place answer accepted =
-    accepted-is (note.switch == start.name) (nat_lt note.circ.0 (circuits h)) (is_live_circuit start.rules h note.circ.0) (is_note note (kept h (way_of note))) Gone note (Note None note) (Note (kept h (way_of note)) note) place answer accepted
 
 pub closing_return_is_down : (start : Start) (h : List Step) (note : ClaimNote) (place : Option ℕ) (a : BackAnswer) (reason : ℕ) (before : List CircuitCell) (closer : CircuitCell) (rest : List CircuitCell) →
     IsLegal start (GiveBack note place a ∷ h) → is_accepted_return a ≡ true → note.dir ≡ Forth → claimed_cells h note ≡ before ++ closer ∷ rest →
@@ -49,7 +30,7 @@ pub closing_return_is_down : (start : Start) (h : List Step) (note : ClaimNote) 
     effects start.rules (events_behind (events start.rules h note.circ.0) before) (forward_of closer) ≡ closing reason → a ≡ Down reason
 closing_return_is_down start h note place a reason before closer rest legal accepted forth claimed go closes =
     let said = legal.0.1 in
-    let is = said ∙ done-by start h note place (done start.rules h note note.dir) (rw said at accepted) in
+    let is = said ∙ (passed start h note place (done start.rules h note note.dir) (rw said at accepted)).answer_is in
     is ∙ rw (forth, claimed) (ap done_by (reason-behind start.rules _ reason (events start.rules h note.circ.0) before closer rest go closes))
 
 pub down_ends_circuit : (rules : Rules) (h : List Step) (note : ClaimNote) (place : Option ℕ) (reason : ℕ) → is_live_circuit rules (GiveBack note place (Down reason) ∷ h) note.circ.0 ≡ false

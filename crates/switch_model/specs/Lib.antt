@@ -48,3 +48,4 @@ pub mod DialMemory
 pub mod CircuitStands
 pub mod Stands
 pub mod Adds
+pub mod Homecoming

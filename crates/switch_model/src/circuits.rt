@@ -43,12 +43,10 @@ pub fn bodies_from_next_hops_keep_their_order()
     ensures { (rules : Rules) (h : List Step) (c : ℕ) → bodies_from_hops (circuit_log rules h c) ≡ taken_back h c }
 {}
 
-/// Whatever history a state stands for, of each circuit, live or torn down: the forward cells in its
-/// history are the beginning of those taken, the bodies from next hops are those taken, and no window is
-/// passed.
-#[tactic(auto, using(crate::proofs::Prefix::relayed_in_order))]
+/// Of each circuit of a legal history, live or torn down: the forward cells in its history are the beginning of
+/// those taken, the bodies from next hops are those taken, and no window is passed.
 pub fn each_circuit_relays_in_order()
-    ensures { (start : Start) (s : State) (h : List Step) → Stands start s h → (c : ℕ) →
+    ensures { (start : Start) (h : List Step) (c : ℕ) → IsLegal start h →
         IsRelayed start.rules (events start.rules h c) (taken_forth h c) (taken_back h c) }
 {}
 

@@ -1,0 +1,23 @@
+//! Laws on returns: what an accepted one adds to its circuit.
+ghost use Rattle.std.specs.Prelude.{◌≡◌, ℕ, List, ◌∷◌, Option, true};
+ghost use Rattle.tr_io.specs.declared.answers.BackAnswer.{BackAnswer};
+ghost use Rattle.tr_io.specs.declared.answers.BackAnswer.TheVariants.{Settled};
+ghost use Rattle.tr_io.specs.declared.names.ClaimNote.{ClaimNote};
+ghost use Rattle.tr_io.specs.declared.names.Dir.TheVariants.{Forth, Back};
+ghost use Rattle.tr_io.specs.declared.step.Step.{Step};
+ghost use Rattle.tr_io.specs.declared.step.Step.TheVariants.{GiveBack};
+ghost use Rattle.switch_model.specs.Start.{Start};
+ghost use Rattle.switch_model.specs.History.{is_accepted_return};
+ghost use Rattle.switch_model.specs.Homecoming.{AddsNext, SealsNext};
+ghost use Rattle.switch_model.specs.Legal.{IsLegal};
+
+/// A claim that comes home and is accepted adds exactly its bodies, which are the next of their direction: forth
+/// the cells become events one after another, up to one that closes the circuit; back the bodies are sealed.
+#[tactic(auto, using(crate::proofs::ForthInOrder::return_adds_next, crate::proofs::ForthInOrder::return_seals_next))]
+pub fn an_accepted_return_adds_the_next_bodies()
+    ensures forth { (start : Start) (h : List Step) (note : ClaimNote) (place : Option ℕ) (answer : BackAnswer) →
+        IsLegal start (GiveBack note place answer ∷ h) → is_accepted_return answer ≡ true → note.dir ≡ Forth →
+        AddsNext start.rules h note place answer }
+    ensures back { (start : Start) (h : List Step) (note : ClaimNote) (place : Option ℕ) →
+        IsLegal start (GiveBack note place Settled ∷ h) → note.dir ≡ Back → SealsNext start.rules h note place }
+{}
