@@ -40,3 +40,5 @@ pub mod Ways
 pub mod Unopened
 pub mod WaysHold
 pub mod ForthInOrder
+pub mod Ported
+pub mod OneDestroy

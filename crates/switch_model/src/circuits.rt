@@ -16,7 +16,7 @@ ghost use Rattle.switch_model.specs.Channels.{is_live_channel};
 ghost use Rattle.switch_model.specs.ClaimAnswers.{claim_answer};
 ghost use Rattle.switch_model.specs.Claims.{is_ready};
 ghost use Rattle.switch_model.specs.History.{is_live_circuit, is_accepted_return, sent, events};
-ghost use Rattle.switch_model.specs.LegEnds.{is_ended_outside};
+ghost use Rattle.switch_model.specs.LegEnds.{is_ended_by_us, is_ended_outside, sent_torn, IsOneDestroy};
 ghost use Rattle.switch_model.specs.Legal.{IsLegal};
 ghost use Rattle.switch_model.specs.Legs.{at};
 ghost use Rattle.switch_model.specs.Names.{Way, is_leg};
@@ -98,6 +98,15 @@ pub fn a_claim_finds_nothing_where_none_is_ready()
 pub fn a_torn_circuit_sends_destroys_alone()
     ensures { (rules : Rules) (h : List Step) (chan tick c k : ℕ) (cell : Cell) → next_cell_answer rules h chan tick ≡ Some cell →
         is_leg c k (at h chan cell.circ) ≡ true → is_live_circuit rules h c ≡ false → IsOldestDestroy rules h chan cell }
+{}
+
+/// Of a circuit of a legal history one cell at most leaves on each leg once the circuit is torn down: a DESTROY.
+/// And once this side's DESTROY has left on a leg, no CircID is that leg's any more.
+#[tactic(auto, using(crate::proofs::OneDestroy::torn_sends_one, crate::proofs::OneDestroy::ended_leg_is_gone))]
+pub fn a_torn_circuit_sends_one_destroy_a_leg()
+    ensures one { (start : Start) (h : List Step) (c k : ℕ) → IsLegal start h → IsOneDestroy (sent_torn start.rules h c k) }
+    ensures ended { (start : Start) (h : List Step) (c k chan id : ℕ) → IsLegal start h → is_ended_by_us h c k ≡ true →
+        is_leg c k (at h chan id) ≡ false }
 {}
 
 /// At rest a circuit was sent all that the one-thread relay sends, on each leg that neither the peer nor
