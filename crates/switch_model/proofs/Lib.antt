@@ -42,3 +42,4 @@ pub mod WaysHold
 pub mod ForthInOrder
 pub mod Ported
 pub mod OneDestroy
+pub mod OneAnswer

@@ -7,6 +7,7 @@
 //! functions here have no code: their contracts are laws that show what the definitions mean.
 #![tactic(auto)]
 
+pub mod answers;
 pub mod circuits;
 pub mod counts;
 pub mod histories;
