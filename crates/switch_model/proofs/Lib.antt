@@ -43,3 +43,4 @@ pub mod ForthInOrder
 pub mod Ported
 pub mod OneDestroy
 pub mod OneAnswer
+pub mod StaysTorn

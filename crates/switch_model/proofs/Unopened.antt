@@ -41,7 +41,7 @@ none-came : (rules : Rules) (c : ℕ) (dir : Dir) → came_home rules [] c dir �
 none-came rules c Forth = refl
 none-came rules c Back = refl
 
-stays-torn : (rules : Rules) (h : List Step) (s : Step) (c : ℕ) (b : Bool) → is_live_circuit rules (s ∷ h) c ≡ b → opens c s ≡ false → is_live_circuit rules h c ≡ false → is_live_circuit rules (s ∷ h) c ≡ false
+pub stays-torn : (rules : Rules) (h : List Step) (s : Step) (c : ℕ) (b : Bool) → is_live_circuit rules (s ∷ h) c ≡ b → opens c s ≡ false → is_live_circuit rules h c ≡ false → is_live_circuit rules (s ∷ h) c ≡ false
 stays-torn rules h s c true is none torn = let on = was-live rules h s c none is in let no : true ≡ false = sym on ∙ torn in absurd cc
 stays-torn rules h s c false is none torn = is
 

@@ -1,5 +1,5 @@
 //! Laws on what each circuit relays, packages and sends, live or torn down, in every legal history.
-ghost use Rattle.std.specs.Prelude.{◌≡◌, ℕ, ◌++◌, List, [], ◌∷◌, length, is_some, Option, None, Some, true, false};
+ghost use Rattle.std.specs.Prelude.{◌≡◌, ◌<◌, ℕ, ◌++◌, List, [], ◌∷◌, length, is_some, Option, None, Some, true, false};
 ghost use Rattle.cell_codec.specs.declared.cell.Cell.{Cell};
 ghost use Rattle.circuit_model.specs.Events.{CircuitCell};
 ghost use Rattle.circuit_model.specs.Log.{closing};
@@ -18,7 +18,7 @@ ghost use Rattle.switch_model.specs.Claims.{is_ready};
 ghost use Rattle.switch_model.specs.History.{is_live_circuit, is_accepted_return, sent, events};
 ghost use Rattle.switch_model.specs.LegEnds.{is_ended_by_us, is_ended_outside, sent_torn, IsOneDestroy};
 ghost use Rattle.switch_model.specs.Legal.{IsLegal};
-ghost use Rattle.switch_model.specs.Legs.{at};
+ghost use Rattle.switch_model.specs.Legs.{circuits, at};
 ghost use Rattle.switch_model.specs.Names.{Way, is_leg};
 ghost use Rattle.switch_model.specs.Queues.{circuit_log};
 ghost use Rattle.switch_model.specs.Relayed.{bodies_from_hops, AlwaysKeepsWindows, IsRelayed, AreComparable};
@@ -98,6 +98,13 @@ pub fn a_claim_finds_nothing_where_none_is_ready()
 pub fn a_torn_circuit_sends_destroys_alone()
     ensures { (rules : Rules) (h : List Step) (chan tick c k : ℕ) (cell : Cell) → next_cell_answer rules h chan tick ≡ Some cell →
         is_leg c k (at h chan cell.circ) ≡ true → is_live_circuit rules h c ≡ false → IsOldestDestroy rules h chan cell }
+{}
+
+/// A circuit that was torn down is never live again.
+#[tactic(auto, using(crate::proofs::StaysTorn::torn_stays_torn))]
+pub fn a_torn_circuit_stays_torn()
+    ensures { (start : Start) (newer older : List Step) (c : ℕ) → IsLegal start (newer ++ older) → c < circuits older →
+        is_live_circuit start.rules older c ≡ false → is_live_circuit start.rules (newer ++ older) c ≡ false }
 {}
 
 /// Of a circuit of a legal history one cell at most leaves on each leg once the circuit is torn down: a DESTROY.
