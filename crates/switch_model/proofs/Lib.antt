@@ -44,3 +44,4 @@ pub mod Ported
 pub mod OneDestroy
 pub mod OneAnswer
 pub mod StaysTorn
+pub mod BodiesStay

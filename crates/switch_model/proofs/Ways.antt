@@ -62,7 +62,7 @@ keeps l m out next sum total came now given more live same_out same_sum same_cam
 }
 
 -- a claim takes all that waits, up to the limit
-within-limit : (sum given count : ℕ) → sum ≤ given → count ≡ min 32 (given - sum) → sum + count ≤ given
+pub within-limit : (sum given count : ℕ) → sum ≤ given → count ≡ min 32 (given - sum) → sum + count ≤ given
 within-limit sum given count below is = grind (arith, common_steps)
 
 pub claims-more : (l m : Bool) (note : ClaimNote) (out next : Option ClaimNote) (sum total came now given more : ℕ) → (m ≡ true → l ≡ true) → out ≡ None → next ≡ Some note → total ≡ sum + note.count → now ≡ came →
