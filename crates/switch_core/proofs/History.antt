@@ -11,12 +11,12 @@ use Rattle.tr_io.specs.declared.names.ChanNo.{ChanNo}
 use Rattle.tr_io.specs.declared.names.Side.{Side}
 use Rattle.tr_io.specs.declared.step.Step.TheVariants.{ChannelUp, OpenCircuit, NextCell}
 use Rattle.switch_model.specs.Start.{Start}
-use Rattle.switch_model.specs.State.{State}
-use Rattle.switch_model.specs.Machine.{new_state}
-use Rattle.switch_model.specs.ChannelUpCall.{channel_up_result, channel_up_state}
-use Rattle.switch_model.specs.OpenCircuitCall.{open_result, open_state}
-use Rattle.switch_model.specs.Adds.{Adds, StandsForSome, UpCase, OpenCase}
-use Rattle.switch_model.proofs.Laws.{stands_new, channel_up_adds, open_adds, stays}
+use Rattle.switch_machine.specs.State.{State}
+use Rattle.switch_machine.specs.Machine.{new_state}
+use Rattle.switch_machine.specs.Calls.ChannelUp.{channel_up_result, channel_up_state}
+use Rattle.switch_machine.specs.Calls.OpenCircuit.{open_result, open_state}
+use Rattle.switch_machine.specs.Adds.{Adds, StandsForSome, UpCase, OpenCase}
+use Rattle.switch_machine.proofs.Laws.{stands_new, channel_up_adds, open_adds, stays}
 
 pub new_stands : (start : Start) (s : State) → s ≡ new_state → StandsForSome start s
 new_stands start s is = record { history = []; stands = stands_new start s is }

@@ -3,10 +3,10 @@ use Rattle.std.proofs.Common.{◌≡◌, ◌<◌, ℕ, List, [], ◌∷◌, leng
 use Rattle.cell_codec.specs.declared.cell.Cell.{Cell}
 use Rattle.kdf_tor.specs.declared.LayerKeys.{LayerKeys}
 use Rattle.switch_model.specs.Names.{Leg}
-use Rattle.switch_model.specs.State.{ChannelState, LegState, CircuitState, State, slot_at, with_slot}
-use Rattle.switch_model.specs.Machine.{leg_at, leg_in}
-use Rattle.switch_model.specs.NextCellCall.{ticked, first_cell, cell_of_leg, picked_leg, sent_first, with_leg, sent_from, lane_of, next_cell_result, next_cell_state}
-use Rattle.switch_model.proofs.PlainLists.{all_there, length-all_there, with_slot-all_there}
+use Rattle.switch_machine.specs.State.{ChannelState, LegState, CircuitState, State, slot_at, with_slot}
+use Rattle.switch_machine.specs.Machine.{leg_at, leg_in}
+use Rattle.switch_machine.specs.Calls.NextCell.{ticked, first_cell, cell_of_leg, picked_leg, sent_first, with_leg, sent_from, lane_of, next_cell_result, next_cell_state}
+use Rattle.switch_machine.proofs.PlainLists.{all_there, length-all_there, with_slot-all_there}
 use Rattle.switch_core.specs.Meaning.{state_of, circuit_of, FirstLeaves}
 use Rattle.switch_core.specs.Picking.{first_leg_of, FirstSent, DestroyLeaves}
 use Rattle.switch_core.proofs.Plain.{there}

@@ -1,10 +1,10 @@
 -- How the search for the leg that is served next goes on.
 use Rattle.std.proofs.Common.{◌≡◌, ◌+◌, ◌++◌, ℕ, Bool, true, false, nat_lt, [], ◌∷◌, Option, Some, None, IfSome, if◌then◌else◌, refl, ap, ◌∙◌, append-nil, arith}
-use Rattle.switch_model.specs.Counts.{least_of}
-use Rattle.switch_model.specs.State.{State, slot_at}
-use Rattle.switch_model.specs.Machine.{leg_at, legs_of}
-use Rattle.switch_model.specs.NextCellCall.{waits_on, cell_count_in, waiting_before}
-use Rattle.switch_model.proofs.PlainLists.{better, least_of-last, waiting_before-more}
+use Rattle.switch_model.specs.Waiting.Counts.{least_of}
+use Rattle.switch_machine.specs.State.{State, slot_at}
+use Rattle.switch_machine.specs.Machine.{leg_at, legs_of}
+use Rattle.switch_machine.specs.Calls.NextCell.{waits_on, cell_count_in, waiting_before}
+use Rattle.switch_machine.proofs.PlainLists.{better, least_of-last, waiting_before-more}
 use Rattle.switch_core.specs.declared.pick.Waiting.{Waiting}
 use Rattle.switch_core.specs.Picking.{better_of, first_leg_of, leg_of, IsWaiting, Picks}
 

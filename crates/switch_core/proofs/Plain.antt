@@ -5,11 +5,11 @@ use Rattle.kdf_tor.specs.declared.LayerKeys.{LayerKeys}
 use Rattle.tr_io.specs.declared.answers.OpenAnswer.TheVariants.{Opened, Refused}
 use Rattle.tr_io.specs.declared.answers.OpenRefusal.{OpenRefusal}
 use Rattle.tr_io.specs.declared.names.CircNo.{CircNo}
-use Rattle.switch_model.specs.State.{ChannelState, State, slot_at}
-use Rattle.switch_model.specs.Machine.{counted}
-use Rattle.switch_model.specs.OpenCircuitCall.{open_result_on, open_state_by, with_circuit}
+use Rattle.switch_machine.specs.State.{ChannelState, State, slot_at}
+use Rattle.switch_machine.specs.Machine.{counted}
+use Rattle.switch_machine.specs.Calls.OpenCircuit.{open_result_on, open_state_by, with_circuit}
 use Rattle.switch_core.specs.Meaning.{refused_on}
-pub use Rattle.switch_model.proofs.PlainLists.{all_there, length-all_there, slot_at-all_there, with_slot-all_there, all_there-push, filled-all_there, list_any-all_there}
+pub use Rattle.switch_machine.proofs.PlainLists.{all_there, length-all_there, slot_at-all_there, with_slot-all_there, all_there-push, filled-all_there, list_any-all_there}
 
 pub ruleset plain_lists = (length-all_there, slot_at-all_there, with_slot-all_there, all_there-push, filled-all_there, list_any-all_there)
 

@@ -4,14 +4,14 @@ use Rattle.cell_codec.specs.declared.cell.Cell.{Cell}
 use Rattle.kdf_tor.specs.declared.LayerKeys.{LayerKeys}
 use Rattle.tr_io.specs.declared.names.Side.{Side}
 use Rattle.circuit_model.specs.Sent.{destroy}
-use Rattle.switch_model.specs.SendAnswers.{cell_at}
-use Rattle.switch_model.specs.Lanes.{Destroy}
+use Rattle.switch_model.specs.Answers.NextCell.{cell_at}
+use Rattle.switch_model.specs.Waiting.Lanes.{Destroy}
 use Rattle.switch_model.specs.Start.{Start}
-use Rattle.switch_model.specs.State.{ChannelState, LegState, CircuitState, State, with_slot}
-use Rattle.switch_model.specs.Machine.{new_state}
-use Rattle.switch_model.specs.OpenCircuitCall.{no_bodies, refusing}
+use Rattle.switch_machine.specs.State.{ChannelState, LegState, CircuitState, State, with_slot}
+use Rattle.switch_machine.specs.Machine.{new_state}
+use Rattle.switch_machine.specs.Calls.OpenCircuit.{no_bodies, refusing}
 use Rattle.tr_io.specs.declared.answers.OpenRefusal.{OpenRefusal}
-use Rattle.switch_model.proofs.PlainLists.{all_there}
+use Rattle.switch_machine.proofs.PlainLists.{all_there}
 use Rattle.circ_relay.specs.declared.rules.Rules.{Rules as RuleList}
 use Rattle.circ_relay.specs.Values.{rules_of}
 

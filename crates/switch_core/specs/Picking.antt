@@ -2,12 +2,12 @@
 use Rattle.std.specs.Prelude.{ℕ, nat_lt, ◌≡◌, ◌<◌, ◌∷◌, List, Option, Some, None, IfSome, if◌then◌else◌}
 use Rattle.cell_codec.specs.declared.cell.Cell.{Cell}
 use Rattle.circuit_model.specs.Sent.{destroy}
-use Rattle.switch_model.specs.SendAnswers.{cell_at}
+use Rattle.switch_model.specs.Answers.NextCell.{cell_at}
 use Rattle.switch_model.specs.Names.{Leg}
-use Rattle.switch_model.specs.Lanes.{Destroy}
-use Rattle.switch_model.specs.State.{ChannelState, LegState, CircuitState, State, slot_at, with_slot}
-use Rattle.switch_model.specs.Machine.{leg_at}
-use Rattle.switch_model.specs.NextCellCall.{cell_count_in, sent_first}
+use Rattle.switch_model.specs.Waiting.Lanes.{Destroy}
+use Rattle.switch_machine.specs.State.{ChannelState, LegState, CircuitState, State, slot_at, with_slot}
+use Rattle.switch_machine.specs.Machine.{leg_at}
+use Rattle.switch_machine.specs.Calls.NextCell.{cell_count_in, sent_first}
 use Rattle.switch_core.specs.declared.pick.Waiting.{Waiting}
 
 -- The one with the lesser count; the earlier where the counts are equal.

@@ -2,7 +2,7 @@
 ghost use Rattle.std.specs.Prelude.{◌≡◌, ◌-◌, ◌∷◌, ◌++◌, ◌≤◌, [], length, replicate};
 ghost use Rattle.cell_codec.specs.Cells.{IsWellFormed};
 ghost use Rattle.circuit_model.specs.Sent.{destroy};
-ghost use Rattle.switch_model.specs.SendAnswers.{cell_at};
+ghost use Rattle.switch_model.specs.Answers.NextCell.{cell_at};
 
 use cell_codec::{Body, Cell, command};
 

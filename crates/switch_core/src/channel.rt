@@ -2,9 +2,9 @@
 ghost use Rattle.std.specs.Prelude.{◌≡◌, ◌==◌, [], IfSome, IfNone, OnErr, OnOk, Some, IsTrue, ◌↔◌, count_by};
 ghost use Rattle.std.specs.List.{list_any};
 ghost use Rattle.cell_codec.specs.Cells.{IsWellFormed};
-ghost use Rattle.switch_model.specs.Channels.{is_ours};
-ghost use Rattle.switch_model.specs.OpenCircuitCall.{has_peers_bit, refusing};
-ghost use Rattle.switch_model.specs.Lanes.{refusal_reason, with_refusal};
+ghost use Rattle.switch_model.specs.History.Channels.{is_ours};
+ghost use Rattle.switch_machine.specs.Calls.OpenCircuit.{has_peers_bit, refusing};
+ghost use Rattle.switch_model.specs.Waiting.Lanes.{refusal_reason, with_refusal};
 ghost use Rattle.switch_core.specs.Meaning.{channel_of, FirstLeaves};
 
 use crate::cells::destroy_cell;
@@ -29,7 +29,7 @@ struct Destroy {
 }
 
 impl Model for Destroy {
-    ghost use Rattle.switch_model.specs.Lanes.{Destroy as WaitingDestroy};
+    ghost use Rattle.switch_model.specs.Waiting.Lanes.{Destroy as WaitingDestroy};
 
     ghost Value = { WaitingDestroy };
 
@@ -46,7 +46,7 @@ pub struct Channel {
 }
 
 impl Model for Channel {
-    ghost use Rattle.switch_model.specs.State.{ChannelState};
+    ghost use Rattle.switch_machine.specs.State.{ChannelState};
     ghost use Rattle.switch_core.specs.Meaning.{channel_of};
 
     ghost Value = { ChannelState };

@@ -1,9 +1,9 @@
 //! One circuit: what it was opened with, and its leg towards the previous hop.
 ghost use Rattle.std.specs.Prelude.{◌≡◌, IfSome, Some, length};
 ghost use Rattle.cell_codec.specs.Cells.{IsWellFormed};
-ghost use Rattle.switch_model.specs.Machine.{leg_at};
-ghost use Rattle.switch_model.specs.NextCellCall.{waits_on, count_of_found, first_cell};
-ghost use Rattle.switch_model.specs.OpenCircuitCall.{circuit_has_id};
+ghost use Rattle.switch_machine.specs.Machine.{leg_at};
+ghost use Rattle.switch_machine.specs.Calls.NextCell.{waits_on, count_of_found, first_cell};
+ghost use Rattle.switch_machine.specs.Calls.OpenCircuit.{circuit_has_id};
 ghost use Rattle.switch_core.specs.Picking.{FirstSent};
 
 use crate::leg::Leg;
@@ -26,7 +26,7 @@ pub struct Circuit {
 }
 
 impl Model for Circuit {
-    ghost use Rattle.switch_model.specs.State.{CircuitState};
+    ghost use Rattle.switch_machine.specs.State.{CircuitState};
     ghost use Rattle.switch_core.specs.Meaning.{circuit_of};
 
     ghost Value = { CircuitState };
@@ -34,7 +34,7 @@ impl Model for Circuit {
     ghost view = { λ c. circuit_of c.keys c.pad c.leg };
 }
 
-#[tactic(auto, using(crate::proofs::Plain::or_false), unfolding(switch_model::specs::State::slot_at))]
+#[tactic(auto, using(crate::proofs::Plain::or_false), unfolding(switch_machine::specs::State::slot_at))]
 impl Circuit {
     /// Whether this CircID of this channel is that of the circuit's leg.
     pub fn has_port(&self, chan: ChanNo, id: u32) -> bool

@@ -2,10 +2,10 @@
 //! it, and its decaying count of cells.
 ghost use Rattle.std.specs.Prelude.{◌≡◌, IfSome, Some, IsTrue, false};
 ghost use Rattle.cell_codec.specs.Cells.{is_var, IsWellFormed};
-ghost use Rattle.switch_model.specs.Machine.{has_port};
-ghost use Rattle.switch_model.specs.NextCellCall.{waits_on, count_of, first_cell, sent_first};
-ghost use Rattle.switch_model.specs.OpenCircuitCall.{first_leg};
-ghost use Rattle.switch_model.specs.Counts.{halved};
+ghost use Rattle.switch_machine.specs.Machine.{has_port};
+ghost use Rattle.switch_machine.specs.Calls.NextCell.{waits_on, count_of, first_cell, sent_first};
+ghost use Rattle.switch_machine.specs.Calls.OpenCircuit.{first_leg};
+ghost use Rattle.switch_model.specs.Waiting.Counts.{halved};
 ghost use Rattle.tor_spec.specs.CellCommands.{opens_circuit};
 
 use cell_codec::{Body, Cell};
@@ -49,7 +49,7 @@ pub struct Leg {
 
 impl Model for Leg {
     ghost use Rattle.std.specs.Prelude.{option_to_list};
-    ghost use Rattle.switch_model.specs.State.{LegState};
+    ghost use Rattle.switch_machine.specs.State.{LegState};
 
     ghost Value = { LegState };
 

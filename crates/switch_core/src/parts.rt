@@ -3,12 +3,12 @@ ghost use Rattle.std.specs.Prelude.{◌≡◌, ◌<◌, ◌^◌, ⊤, [], IfOk, 
 ghost use Rattle.std.specs.List.{list_any};
 ghost use Rattle.cell_codec.specs.Cells.{is_var, IsWellFormed};
 ghost use Rattle.tor_spec.specs.CellCommands.{opens_circuit};
-ghost use Rattle.switch_model.specs.Adds.{UpCase, OpenCase};
-ghost use Rattle.switch_model.specs.Machine.{new_state, counted};
-ghost use Rattle.switch_model.specs.State.{slot_at};
-ghost use Rattle.switch_model.specs.ChannelUpCall.{channel_up_result, channel_up_state};
-ghost use Rattle.switch_model.specs.OpenCircuitCall.{open_result, open_result_on, open_state, circuit_has_id, is_id_taken, with_circuit};
-ghost use Rattle.switch_model.specs.NextCellCall.{ticked, picked_leg, cell_of_leg, sent_from, lane_of, next_cell_result, next_cell_state};
+ghost use Rattle.switch_machine.specs.Adds.{UpCase, OpenCase};
+ghost use Rattle.switch_machine.specs.Machine.{new_state, counted};
+ghost use Rattle.switch_machine.specs.State.{slot_at};
+ghost use Rattle.switch_machine.specs.Calls.ChannelUp.{channel_up_result, channel_up_state};
+ghost use Rattle.switch_machine.specs.Calls.OpenCircuit.{open_result, open_result_on, open_state, circuit_has_id, is_id_taken, with_circuit};
+ghost use Rattle.switch_machine.specs.Calls.NextCell.{ticked, picked_leg, cell_of_leg, sent_from, lane_of, next_cell_result, next_cell_state};
 ghost use Rattle.switch_core.specs.Meaning.{refused_on};
 ghost use Rattle.switch_core.specs.Picking.{DestroyLeaves, Picks};
 
@@ -41,7 +41,7 @@ pub struct Parts {
 }
 
 impl Model for Parts {
-    ghost use Rattle.switch_model.specs.State.{State};
+    ghost use Rattle.switch_machine.specs.State.{State};
     ghost use Rattle.switch_core.specs.Meaning.{state_of};
 
     ghost Value = { State };

@@ -3,11 +3,11 @@ ghost use Rattle.std.specs.Prelude.{◌≡◌, ◌+◌, ◌<◌, ◌≤◌, ◌^
 ghost use Rattle.cell_codec.specs.Cells.{is_var, IsWellFormed};
 ghost use Rattle.tor_spec.specs.CellCommands.{opens_circuit};
 ghost use Rattle.tr_io.specs.declared.step.Step.TheVariants.{ChannelUp, OpenCircuit, NextCell};
-ghost use Rattle.switch_model.specs.Adds.{Adds, UpCase, OpenCase};
-ghost use Rattle.switch_model.specs.Machine.{new_state};
-ghost use Rattle.switch_model.specs.ChannelUpCall.{channel_up_result};
-ghost use Rattle.switch_model.specs.OpenCircuitCall.{open_result};
-ghost use Rattle.switch_model.specs.NextCellCall.{next_cell_result};
+ghost use Rattle.switch_machine.specs.Adds.{Adds, UpCase, OpenCase};
+ghost use Rattle.switch_machine.specs.Machine.{new_state};
+ghost use Rattle.switch_machine.specs.Calls.ChannelUp.{channel_up_result};
+ghost use Rattle.switch_machine.specs.Calls.OpenCircuit.{open_result};
+ghost use Rattle.switch_machine.specs.Calls.NextCell.{next_cell_result};
 ghost use Rattle.switch_core.specs.Meaning.{start_of};
 
 use crate::parts::Parts;
@@ -32,7 +32,7 @@ pub struct Switch {
 }
 
 impl Model for Switch {
-    ghost use Rattle.switch_model.specs.Adds.{StandsForSome};
+    ghost use Rattle.switch_machine.specs.Adds.{StandsForSome};
     ghost use Rattle.switch_core.specs.Meaning.{start_of};
     ghost use Rattle.switch_core.specs.Started.{Started};
 
@@ -43,7 +43,7 @@ impl Model for Switch {
     ghost invariant = { λ s. StandsForSome (start_of s.name s.rules) s.parts };
 }
 
-#[tactic(auto, using(switch_model::proofs::Laws::channel_up_adds, switch_model::proofs::Laws::open_adds, switch_model::proofs::Laws::next_cell_adds, switch_model::proofs::Laws::stays, crate::proofs::History::new_stands, crate::proofs::History::up_adds, crate::proofs::History::opening_adds, crate::proofs::History::up_stays, crate::proofs::History::opening_stays, crate::proofs::History::up_steps, crate::proofs::History::opening_steps, crate::proofs::History::next_steps))]
+#[tactic(auto, using(switch_machine::proofs::Laws::channel_up_adds, switch_machine::proofs::Laws::open_adds, switch_machine::proofs::Laws::next_cell_adds, switch_machine::proofs::Laws::stays, crate::proofs::History::new_stands, crate::proofs::History::up_adds, crate::proofs::History::opening_adds, crate::proofs::History::up_stays, crate::proofs::History::opening_stays, crate::proofs::History::up_steps, crate::proofs::History::opening_steps, crate::proofs::History::next_steps))]
 impl Switch {
     /// A switch with no channel and no circuit. Its name tells its jobs from another switch's.
     ///

@@ -14,12 +14,12 @@ use Rattle.tr_io.specs.declared.step.OrderStep.{OrderStep}
 use Rattle.tr_io.specs.declared.step.Step.{Step}
 use Rattle.tr_io.specs.declared.step.Step.TheVariants.{OpenCircuit, Take, GiveBack, EdgeIn, EdgeOut, Drained, DialDone}
 use Rattle.switch_model.specs.Names.{circuit_cell}
-use Rattle.switch_model.specs.Legs.{at}
-use Rattle.switch_model.specs.Taken.{is_hop_leg, claimed_cells, taken_back}
-use Rattle.switch_model.specs.History.{is_live_circuit, events, with_event, taken_from_hop, returns_forth, is_awaited}
-use Rattle.switch_model.specs.Queues.{circuit_log}
-use Rattle.switch_model.specs.Returns.{Closing, Goes, Closes, Full, closing_at, settled, settled_with, forward_of}
-use Rattle.switch_model.specs.Relayed.{backward_body, bodies_from_hops}
+use Rattle.switch_model.specs.History.Legs.{at}
+use Rattle.switch_model.specs.History.Taken.{is_hop_leg, claimed_cells, taken_back}
+use Rattle.switch_model.specs.History.Circuit.{is_live_circuit, events, with_event, taken_from_hop, returns_forth, is_awaited}
+use Rattle.switch_model.specs.Waiting.Queues.{circuit_log}
+use Rattle.switch_model.specs.History.Returns.{Closing, Goes, Closes, Full, closing_at, settled, settled_with, forward_of}
+use Rattle.switch_model.specs.History.Relayed.{backward_body, bodies_from_hops}
 
 abbrev Are : Rules → List Event → List (List ℕ) → Type 0
 Are rules ev bodies = bodies_from_hops (log rules ev) ≡ bodies

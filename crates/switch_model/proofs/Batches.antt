@@ -10,13 +10,13 @@ use Rattle.tor_spec.specs.Reasons.{destroy_requested}
 use Rattle.tr_io.specs.declared.names.ClaimNote.{ClaimNote}
 use Rattle.tr_io.specs.declared.names.Dir.TheVariants.{Forth}
 use Rattle.tr_io.specs.declared.step.Step.{Step}
-use Rattle.switch_model.specs.Legs.{Port, port, hops, at}
+use Rattle.switch_model.specs.History.Legs.{Port, port, hops, at}
 use Rattle.switch_model.specs.Names.{is_leg}
-use Rattle.switch_model.specs.Taken.{claimed_cells}
-use Rattle.switch_model.specs.History.{is_live_circuit, sent, events, current_leg}
-use Rattle.switch_model.specs.Lanes.{Destroy, lane}
-use Rattle.switch_model.specs.Queues.{circuit_log}
-use Rattle.switch_model.specs.Returns.{Goes, closing_at, settled, forward_of}
+use Rattle.switch_model.specs.History.Taken.{claimed_cells}
+use Rattle.switch_model.specs.History.Circuit.{is_live_circuit, sent, events, current_leg}
+use Rattle.switch_model.specs.Waiting.Lanes.{Destroy, lane}
+use Rattle.switch_model.specs.Waiting.Queues.{circuit_log}
+use Rattle.switch_model.specs.History.Returns.{Goes, closing_at, settled, forward_of}
 use Rattle.switch_model.specs.Examples.{closing_return}
 use Rattle.switch_model.proofs.Common.{self_eq}
 

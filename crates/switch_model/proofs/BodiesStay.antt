@@ -19,15 +19,15 @@ use Rattle.tr_io.specs.declared.step.Step.{Step}
 use Rattle.tr_io.specs.declared.step.Step.TheVariants.{OpenCircuit, Take, Claim, GiveBack, EdgeIn, EdgeOut, Drained, DialDone}
 use Rattle.switch_model.specs.Start.{Start}
 use Rattle.switch_model.specs.Names.{way_of, is_leg, circuit_cell}
-use Rattle.switch_model.specs.Legs.{at}
-use Rattle.switch_model.specs.Taken.{is_hop_leg, taken_forth, claimed_cells}
-use Rattle.switch_model.specs.History.{is_live_circuit, sent, events, with_event, taken_from_hop, is_awaited, edge_event, returns_forth}
-use Rattle.switch_model.specs.Queues.{circuit_log}
-use Rattle.switch_model.specs.Claims.{claimed, bodies}
-use Rattle.switch_model.specs.Contents.{body_of, bodies_in, claimed_bodies}
-use Rattle.switch_model.specs.Returns.{Closing, Goes, Closes, Full, closing_at, settled, settled_with, forward_of}
+use Rattle.switch_model.specs.History.Legs.{at}
+use Rattle.switch_model.specs.History.Taken.{is_hop_leg, taken_forth, claimed_cells}
+use Rattle.switch_model.specs.History.Circuit.{is_live_circuit, sent, events, with_event, taken_from_hop, is_awaited, edge_event, returns_forth}
+use Rattle.switch_model.specs.Waiting.Queues.{circuit_log}
+use Rattle.switch_model.specs.Waiting.Claims.{claimed, bodies}
+use Rattle.switch_model.specs.Waiting.Contents.{body_of, bodies_in, claimed_bodies}
+use Rattle.switch_model.specs.History.Returns.{Closing, Goes, Closes, Full, closing_at, settled, settled_with, forward_of}
 use Rattle.switch_model.specs.Legal.{IsLegal}
-use Rattle.switch_model.proofs.Built.{first_steps_legal}
+use Rattle.switch_model.proofs.FirstSteps.{first_steps_legal}
 use Rattle.switch_model.proofs.Claiming.{claimed-by}
 use Rattle.switch_model.proofs.Ways.{WayHas, within-limit}
 use Rattle.switch_model.proofs.WaysHold.{ways}

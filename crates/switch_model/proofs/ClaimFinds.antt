@@ -8,10 +8,10 @@ use Rattle.tr_io.specs.declared.names.Dir.TheVariants.{Forth, Back}
 use Rattle.tr_io.specs.declared.step.Step.{Step}
 use Rattle.switch_model.specs.Start.{Start}
 use Rattle.switch_model.specs.Names.{Way, same_dir, same_way}
-use Rattle.switch_model.specs.History.{is_live_circuit}
-use Rattle.switch_model.specs.Claims.{claimed, kept, given_bodies, is_ready, born_bodies, count_way, waits_here, first_waiting}
-use Rattle.switch_model.specs.ClaimAnswers.{claim_answer}
-use Rattle.switch_model.proofs.Ids.{same-number, and-first, and-second}
+use Rattle.switch_model.specs.History.Circuit.{is_live_circuit}
+use Rattle.switch_model.specs.Waiting.Claims.{claimed, kept, given_bodies, is_ready, born_bodies, count_way, waits_here, first_waiting}
+use Rattle.switch_model.specs.Answers.Claim.{claim_answer}
+use Rattle.switch_model.proofs.Common.{same-number, and-first, and-second}
 use Rattle.switch_model.proofs.BodiesListed.{listed}
 
 -- one that waits is found

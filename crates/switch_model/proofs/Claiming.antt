@@ -6,10 +6,10 @@ use Rattle.tr_io.specs.declared.names.ClaimNote.{ClaimNote}
 use Rattle.tr_io.specs.declared.step.Step.{Step}
 use Rattle.switch_model.specs.Start.{Start}
 use Rattle.switch_model.specs.Names.{Way, way_of}
-use Rattle.switch_model.specs.History.{is_live_circuit}
-use Rattle.switch_model.specs.Claims.{claimed, kept, is_ready, born_bodies, waits_here, first_waiting, claim_count}
-use Rattle.switch_model.specs.ClaimAnswers.{claim_answer, note_for}
-use Rattle.switch_model.proofs.Ids.{and-first, and-second}
+use Rattle.switch_model.specs.History.Circuit.{is_live_circuit}
+use Rattle.switch_model.specs.Waiting.Claims.{claimed, kept, is_ready, born_bodies, waits_here, first_waiting, claim_count}
+use Rattle.switch_model.specs.Answers.Claim.{claim_answer, note_for}
+use Rattle.switch_model.proofs.Common.{and-first, and-second}
 
 -- it was ready, and its note says which bodies the worker has
 pub record Claimed (start : Start) (h : List Step) (note : ClaimNote) : Type 0 where

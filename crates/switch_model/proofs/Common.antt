@@ -1,10 +1,10 @@
 -- Facts about tests, lists and options.
-use Rattle.std.proofs.Common.{◌≡◌, ℕ, ◌==◌, ◌||◌, Bool, true, false, List, [], ◌∷◌, ◌++◌, length, drop, Option, Some, None, refl, arith}
+use Rattle.std.proofs.Common.{◌≡◌, ℕ, ◌==◌, ◌||◌, ◌&&◌, Bool, true, false, List, [], ◌∷◌, ◌++◌, length, drop, Option, Some, None, refl, arith}
 use Rattle.std.proofs.lemmas.Bool.{eq-eqb}
 use Rattle.std.proofs.lemmas.Bool.Decides.{nat_tests}
 use Rattle.switch_model.specs.Names.{Leg, is_leg}
-use Rattle.switch_model.specs.Taken.{is_hop_leg}
-use Rattle.switch_model.specs.Past.{is_of_circuit}
+use Rattle.switch_model.specs.History.Taken.{is_hop_leg}
+use Rattle.switch_model.specs.History.Past.{is_of_circuit}
 
 pub self_eq : (n : ℕ) → (n == n) ≡ true
 self_eq n = eq-eqb n n refl
@@ -31,3 +31,18 @@ is_hop_leg-other None c other = refl
 pub drop-front : {A : Type 0} (xs ys : List A) → drop (length xs) (xs ++ ys) ≡ ys
 drop-front [] ys = refl
 drop-front (x ∷ xs) ys = drop-front xs ys
+
+pub and-first : (a b : Bool) → (a && b) ≡ true → a ≡ true
+and-first true b e = refl
+and-first false b e = e
+
+pub and-second : (a b : Bool) → (a && b) ≡ true → b ≡ true
+and-second true b e = e
+and-second false b e = cc
+
+pub and-false : (a : Bool) → (a && false) ≡ false
+and-false true = refl
+and-false false = refl
+
+pub same-number : (a b : ℕ) → (a == b) ≡ true → a ≡ b
+same-number a b e = grind (arith, nat_tests)

@@ -5,10 +5,10 @@ use Rattle.kdf_tor.specs.declared.LayerKeys.{LayerKeys}
 use Rattle.circuit_model.specs.Effects.{open_effects}
 use Rattle.circuit_model.specs.Rules.{Rules}
 use Rattle.tor_spec.specs.CellCommands.{relay_command, destroy_command, created_fast_command}
-use Rattle.switch_model.specs.SendAnswers.{cell_at}
+use Rattle.switch_model.specs.Answers.NextCell.{cell_at}
 use Rattle.switch_model.specs.Start.{Start}
 use Rattle.switch_model.specs.Legal.{IsLegal}
-use Rattle.switch_model.specs.Counts.{count_at, least_of}
+use Rattle.switch_model.specs.Waiting.Counts.{count_at, least_of}
 use Rattle.switch_model.proofs.Common.{self_eq}
 use Rattle.cell_codec.specs.Cells.{IsWellFormed}
 use Rattle.std.specs.Prelude.{◌≤◌, length}

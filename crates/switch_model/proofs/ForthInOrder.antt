@@ -16,17 +16,16 @@ use Rattle.tr_io.specs.declared.step.Step.{Step}
 use Rattle.tr_io.specs.declared.step.Step.TheVariants.{Take, GiveBack}
 use Rattle.switch_model.specs.Start.{Start}
 use Rattle.switch_model.specs.Names.{same_dir, is_leg, circuit_cell}
-use Rattle.switch_model.specs.Legs.{at}
-use Rattle.switch_model.specs.Taken.{taken_forth, taken_back, claimed_cells}
-use Rattle.switch_model.specs.History.{events, sent, is_accepted_return, returns_forth}
-use Rattle.switch_model.specs.Queues.{circuit_log, sealed_count}
-use Rattle.switch_model.specs.Returns.{settled}
-use Rattle.switch_model.specs.Contents.{claimed_bodies, bodies_in}
-use Rattle.switch_model.specs.Homecoming.{AddsNext, SealsNext}
-use Rattle.switch_model.specs.Relayed.{settled_forth, BeginsTaken, IsRelayed}
+use Rattle.switch_model.specs.History.Legs.{at}
+use Rattle.switch_model.specs.History.Taken.{taken_forth, taken_back, claimed_cells}
+use Rattle.switch_model.specs.History.Circuit.{events, sent, is_accepted_return, returns_forth}
+use Rattle.switch_model.specs.Waiting.Queues.{circuit_log, sealed_count}
+use Rattle.switch_model.specs.History.Returns.{settled}
+use Rattle.switch_model.specs.Waiting.Contents.{claimed_bodies, bodies_in}
+use Rattle.switch_model.specs.History.Homecoming.{AddsNext, SealsNext}
+use Rattle.switch_model.specs.History.Relayed.{settled_forth, BeginsTaken, IsRelayed}
 use Rattle.switch_model.specs.Legal.{IsLegal}
-use Rattle.switch_model.proofs.Common.{self_eq, drop-front}
-use Rattle.switch_model.proofs.Ids.{and-first, and-second, same-number}
+use Rattle.switch_model.proofs.Common.{self_eq, drop-front, and-first, and-second, same-number}
 use Rattle.switch_model.proofs.ClaimFinds.{dir-is}
 use Rattle.switch_model.proofs.ForthSame.{settles_forth, forth-same}
 use Rattle.switch_model.proofs.Returning.{settles, forth-behind}

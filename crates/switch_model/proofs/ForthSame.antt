@@ -13,11 +13,11 @@ use Rattle.tr_io.specs.declared.step.OrderStep.{OrderStep}
 use Rattle.tr_io.specs.declared.step.Step.{Step}
 use Rattle.tr_io.specs.declared.step.Step.TheVariants.{OpenCircuit, Take, GiveBack, EdgeIn, EdgeOut, Drained, DialDone}
 use Rattle.switch_model.specs.Names.{circuit_cell}
-use Rattle.switch_model.specs.Legs.{at}
-use Rattle.switch_model.specs.Taken.{is_hop_leg}
-use Rattle.switch_model.specs.History.{is_live_circuit, events, with_event, taken_from_hop, returns_forth}
-use Rattle.switch_model.specs.Queues.{circuit_log}
-use Rattle.switch_model.specs.Relayed.{settled_forth}
+use Rattle.switch_model.specs.History.Legs.{at}
+use Rattle.switch_model.specs.History.Taken.{is_hop_leg}
+use Rattle.switch_model.specs.History.Circuit.{is_live_circuit, events, with_event, taken_from_hop, returns_forth}
+use Rattle.switch_model.specs.Waiting.Queues.{circuit_log}
+use Rattle.switch_model.specs.History.Relayed.{settled_forth}
 
 -- whether a step is such a return for circuit c
 abbrev pub settles_forth : ℕ → Step → Bool

@@ -14,10 +14,10 @@ use Rattle.tr_io.specs.declared.names.Dir.TheVariants.{Forth}
 use Rattle.tr_io.specs.declared.step.Step.{Step}
 use Rattle.switch_model.specs.Start.{Start}
 use Rattle.switch_model.specs.Names.{circ_no}
-use Rattle.switch_model.specs.Channels.{channel_at, is_live_channel, live_channels}
-use Rattle.switch_model.specs.Legs.{at}
-use Rattle.switch_model.specs.History.{is_live_circuit}
-use Rattle.switch_model.specs.Queues.{circuit_log, held}
+use Rattle.switch_model.specs.History.Channels.{channel_at, is_live_channel, live_channels}
+use Rattle.switch_model.specs.History.Legs.{at}
+use Rattle.switch_model.specs.History.Circuit.{is_live_circuit}
+use Rattle.switch_model.specs.Waiting.Queues.{circuit_log, held}
 use Rattle.tr_io.specs.declared.answers.EdgeAnswer.TheVariants.{Shut}
 use Rattle.tr_io.specs.declared.answers.ShutWhy.{ShutWhy}
 use Rattle.tr_io.specs.declared.names.StreamKey.{StreamKey}
@@ -26,10 +26,11 @@ use Rattle.tr_io.specs.declared.step.Octets.{Octets}
 use Rattle.circuit_model.specs.Log.{Log}
 use Rattle.circuit_model.specs.declared.places.Phase.TheVariants.{Joined}
 use Rattle.circuit_model.specs.Windows.{circuit_packaged, circuit_grant, stream_packaged, stream_grant}
-use Rattle.switch_model.specs.EdgeAnswers.{phase_of, edge_in_answer}
-use Rattle.switch_model.specs.ChannelAnswers.{channel_up_answer}
-use Rattle.switch_model.specs.CircuitAnswers.{live_circuits, is_in_use, is_peers_id, open_answer, take_answer}
-use Rattle.switch_model.specs.ClaimAnswers.{give_back_answer}
+use Rattle.switch_model.specs.Answers.EdgeIn.{phase_of, edge_in_answer}
+use Rattle.switch_model.specs.Answers.ChannelUp.{channel_up_answer}
+use Rattle.switch_model.specs.Answers.OpenCircuit.{live_circuits, is_in_use, is_peers_id, open_answer}
+use Rattle.switch_model.specs.Answers.Take.{take_answer}
+use Rattle.switch_model.specs.Answers.GiveBack.{give_back_answer}
 
 pub channels_full : (h : List Step) → live_channels h ≡ 64 → channel_up_answer h ≡ UpAnswer.Full 64
 channels_full h full = rw full refl

@@ -9,18 +9,18 @@ use Rattle.circuit_model.specs.Sent.{destroy}
 use Rattle.tr_io.specs.declared.step.Step.{Step}
 use Rattle.switch_model.specs.Names.{Leg, Way, is_leg}
 use Rattle.switch_model.specs.Start.{Start}
-use Rattle.switch_model.specs.Claims.{is_ready, born_bodies, first_waiting}
-use Rattle.switch_model.specs.ClaimAnswers.{claim_answer}
-use Rattle.switch_model.specs.Channels.{is_live_channel}
-use Rattle.switch_model.specs.Legs.{Port, port, on_channel, circuits, hops, at, holds_id}
-use Rattle.switch_model.specs.History.{is_live_circuit}
-use Rattle.switch_model.specs.Lanes.{Destroy, lane}
-use Rattle.switch_model.specs.Queues.{queue}
-use Rattle.switch_model.specs.Counts.{some_in, count_at, waiting_of, waiting_below, waiting_legs, least_of, lesser}
-use Rattle.switch_model.specs.SendAnswers.{first_queued, first_of, destroy_or, next_cell_answer, IsOldestDestroy}
-use Rattle.switch_model.specs.Rest.{queues_of, owed}
-use Rattle.switch_model.proofs.Counting.{least-has}
-use Rattle.switch_model.proofs.Ids.{and-first, and-second, same-number}
+use Rattle.switch_model.specs.Waiting.Claims.{is_ready, born_bodies, first_waiting}
+use Rattle.switch_model.specs.Answers.Claim.{claim_answer}
+use Rattle.switch_model.specs.History.Channels.{is_live_channel}
+use Rattle.switch_model.specs.History.Legs.{Port, port, on_channel, circuits, hops, at, holds_id}
+use Rattle.switch_model.specs.History.Circuit.{is_live_circuit}
+use Rattle.switch_model.specs.Waiting.Lanes.{Destroy, lane}
+use Rattle.switch_model.specs.Waiting.Queues.{queue}
+use Rattle.switch_model.specs.Waiting.Counts.{some_in, count_at, waiting_of, waiting_below, waiting_legs, least_of, lesser}
+use Rattle.switch_model.specs.Answers.NextCell.{first_queued, first_of, destroy_or, next_cell_answer, IsOldestDestroy}
+use Rattle.switch_model.specs.Waiting.Rest.{queues_of, owed}
+use Rattle.switch_model.proofs.Least.{least-has}
+use Rattle.switch_model.proofs.Common.{and-first, and-second, same-number}
 
 -- a leg that waits on a channel
 abbrev pub WaitsThere : Rules → List Step → ℕ → Leg → Type 0

@@ -21,9 +21,9 @@ use Rattle.tr_io.specs.declared.step.OrderStep.{OrderStep}
 use Rattle.tr_io.specs.declared.step.Step.{Step}
 use Rattle.tr_io.specs.declared.step.Step.TheVariants.{ChannelUp, ChannelDown, OpenCircuit, Take, Claim, GiveBack, Abandon, NextCell, EdgeIn, EdgeOut, Drained, DialOrder, DialDone, TearDown, Live, Halted}
 use Rattle.switch_model.specs.Start.{Start}
-use Rattle.switch_model.specs.Dials.{Dial, dials_out}
-use Rattle.switch_model.specs.DialAnswers.{first_dial, dial_order_answer}
-use Rattle.switch_model.specs.EdgeAnswers.{order_given}
+use Rattle.switch_model.specs.Waiting.Dials.{Dial, dials_out}
+use Rattle.switch_model.specs.Answers.DialOrder.{first_dial, dial_order_answer}
+use Rattle.switch_model.specs.Answers.EdgeOut.{order_given}
 use Rattle.switch_model.specs.Legal.{IsDialOrder, IsLegal}
 
 pub one_channel_up : (start : Start) (h : List Step) (slot : ℕ) (side : Side) (a b : UpAnswer) → IsLegal start (ChannelUp slot side a ∷ h) → IsLegal start (ChannelUp slot side b ∷ h) → a ≡ b

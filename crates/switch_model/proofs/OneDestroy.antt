@@ -8,14 +8,13 @@ use Rattle.tr_io.specs.declared.step.Step.{Step}
 use Rattle.tr_io.specs.declared.step.Step.TheVariants.{NextCell}
 use Rattle.switch_model.specs.Start.{Start}
 use Rattle.switch_model.specs.Names.{Leg, is_leg, circuit_cell}
-use Rattle.switch_model.specs.Legs.{Port, port, at, is_destroy_for}
-use Rattle.switch_model.specs.History.{is_live_circuit}
-use Rattle.switch_model.specs.Lanes.{Destroy}
-use Rattle.switch_model.specs.LegEnds.{is_ended_by_us, sent_torn, IsOneDestroy}
-use Rattle.switch_model.specs.SendAnswers.{cell_at}
+use Rattle.switch_model.specs.History.Legs.{Port, port, at, is_destroy_for}
+use Rattle.switch_model.specs.History.Circuit.{is_live_circuit}
+use Rattle.switch_model.specs.Waiting.Lanes.{Destroy}
+use Rattle.switch_model.specs.History.LegEnds.{is_ended_by_us, sent_torn, IsOneDestroy}
+use Rattle.switch_model.specs.Answers.NextCell.{cell_at}
 use Rattle.switch_model.specs.Legal.{IsLegal}
-use Rattle.switch_model.proofs.Common.{self_eq}
-use Rattle.switch_model.proofs.Ids.{and-first, and-second}
+use Rattle.switch_model.proofs.Common.{self_eq, and-first, and-second}
 use Rattle.switch_model.proofs.Leaving.{torn_sends_destroy}
 use Rattle.switch_model.proofs.Ported.{ported, Lost, stays-lost}
 

@@ -9,11 +9,11 @@ use Rattle.tr_io.specs.declared.answers.TakeAnswer.{TakeAnswer}
 use Rattle.tr_io.specs.declared.step.OrderStep.{OrderStep}
 use Rattle.tr_io.specs.declared.step.Step.{Step}
 use Rattle.tr_io.specs.declared.step.Step.TheVariants.{ChannelUp, ChannelDown, OpenCircuit, Take, Claim, GiveBack, Abandon, NextCell, EdgeIn, EdgeOut, Drained, DialOrder, DialDone, TearDown, Live, Halt, Halted}
-use Rattle.switch_model.specs.Legs.{at}
-use Rattle.switch_model.specs.Teardowns.{teardown, reason_of}
-use Rattle.switch_model.specs.History.{lies_on}
-use Rattle.switch_model.specs.Queues.{circuit_log}
-use Rattle.switch_model.specs.Past.{past, concerns, names_circuit}
+use Rattle.switch_model.specs.History.Legs.{at}
+use Rattle.switch_model.specs.History.Teardowns.{teardown, reason_of}
+use Rattle.switch_model.specs.History.Circuit.{lies_on}
+use Rattle.switch_model.specs.Waiting.Queues.{circuit_log}
+use Rattle.switch_model.specs.History.Past.{past, concerns, names_circuit}
 use Rattle.switch_model.proofs.Common.{or-first, or-second, is_leg-other, is_hop_leg-other}
 
 others : (rules : Rules) (h : List Step) (s : Step) (d : ℕ) → names_circuit h s d ≡ false →

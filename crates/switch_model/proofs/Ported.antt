@@ -9,10 +9,10 @@ use Rattle.tr_io.specs.declared.step.Step.{Step}
 use Rattle.tr_io.specs.declared.step.Step.TheVariants.{ChannelDown, OpenCircuit, Take, NextCell, DialDone}
 use Rattle.switch_model.specs.Start.{Start}
 use Rattle.switch_model.specs.Names.{Leg, is_leg}
-use Rattle.switch_model.specs.Channels.{next_given_id}
-use Rattle.switch_model.specs.Legs.{Port, port, circuits, hops, at, is_destroy_for}
+use Rattle.switch_model.specs.History.Channels.{next_given_id}
+use Rattle.switch_model.specs.History.Legs.{Port, port, circuits, hops, at, is_destroy_for}
 use Rattle.switch_model.specs.Legal.{IsLegal}
-use Rattle.switch_model.proofs.Ids.{and-first, and-second, and-false, same-number}
+use Rattle.switch_model.proofs.Common.{and-first, and-second, and-false, same-number}
 use Rattle.switch_model.proofs.Unopened.{opened-number}
 
 -- a port that was given tells that its leg was made

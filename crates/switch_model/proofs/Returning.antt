@@ -12,12 +12,12 @@ use Rattle.tr_io.specs.declared.names.ClaimNote.{ClaimNote}
 use Rattle.tr_io.specs.declared.step.Step.{Step}
 use Rattle.switch_model.specs.Start.{Start}
 use Rattle.switch_model.specs.Names.{way_of}
-use Rattle.switch_model.specs.Legs.{circuits}
-use Rattle.switch_model.specs.History.{is_live_circuit, is_accepted_return}
-use Rattle.switch_model.specs.Claims.{kept}
-use Rattle.switch_model.specs.ClaimAnswers.{is_note, returned, return_answer}
-use Rattle.switch_model.specs.Returns.{Closing, Goes, Closes, Full, closing_at, settled, settling_reason, forward_of, events_behind}
-use Rattle.switch_model.specs.Relayed.{settled_forth}
+use Rattle.switch_model.specs.History.Legs.{circuits}
+use Rattle.switch_model.specs.History.Circuit.{is_live_circuit, is_accepted_return}
+use Rattle.switch_model.specs.Waiting.Claims.{kept}
+use Rattle.switch_model.specs.Answers.GiveBack.{is_note, returned, return_answer}
+use Rattle.switch_model.specs.History.Returns.{Closing, Goes, Closes, Full, closing_at, settled, settling_reason, forward_of, events_behind}
+use Rattle.switch_model.specs.History.Relayed.{settled_forth}
 
 -- it passed them all
 pub record Passed (is_live is_kept : Bool) (given answer : BackAnswer) : Type 0 where

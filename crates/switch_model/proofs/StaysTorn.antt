@@ -4,10 +4,10 @@ use Rattle.tr_io.specs.declared.answers.OpenAnswer.TheVariants.{Opened}
 use Rattle.tr_io.specs.declared.step.Step.{Step}
 use Rattle.tr_io.specs.declared.step.Step.TheVariants.{OpenCircuit}
 use Rattle.switch_model.specs.Start.{Start}
-use Rattle.switch_model.specs.Legs.{circuits}
-use Rattle.switch_model.specs.History.{is_live_circuit, opens}
+use Rattle.switch_model.specs.History.Legs.{circuits}
+use Rattle.switch_model.specs.History.Circuit.{is_live_circuit, opens}
 use Rattle.switch_model.specs.Legal.{IsLegal}
-use Rattle.switch_model.proofs.Ids.{same-number}
+use Rattle.switch_model.proofs.Common.{same-number}
 use Rattle.switch_model.proofs.Unopened.{opened-number, stays-torn}
 
 no-number : (b : Bool) (n c : ℕ) → (n == c) ≡ b → c < n → (n == c) ≡ false

@@ -14,14 +14,14 @@ use Rattle.tr_io.specs.declared.step.Step.TheVariants.{OpenCircuit, Claim, GiveB
 use Rattle.switch_model.specs.Start.{Start}
 use Rattle.switch_model.specs.Limits.{circuit_limit}
 use Rattle.switch_model.specs.Names.{Way, same_way, way_of, circ_no}
-use Rattle.switch_model.specs.Channels.{channel_at, is_live_channel}
-use Rattle.switch_model.specs.Legs.{circuits}
-use Rattle.switch_model.specs.History.{is_live_circuit, opens, is_accepted_return}
-use Rattle.switch_model.specs.Claims.{claimed, kept}
-use Rattle.switch_model.specs.CircuitAnswers.{is_in_use, is_peers_id, live_circuits, open_answer}
-use Rattle.switch_model.specs.ClaimAnswers.{is_note, done, return_answer}
+use Rattle.switch_model.specs.History.Channels.{channel_at, is_live_channel}
+use Rattle.switch_model.specs.History.Legs.{circuits}
+use Rattle.switch_model.specs.History.Circuit.{is_live_circuit, opens, is_accepted_return}
+use Rattle.switch_model.specs.Waiting.Claims.{claimed, kept}
+use Rattle.switch_model.specs.Answers.OpenCircuit.{is_in_use, is_peers_id, live_circuits, open_answer}
+use Rattle.switch_model.specs.Answers.GiveBack.{is_note, done, return_answer}
 use Rattle.switch_model.specs.Legal.{IsLegal}
-use Rattle.switch_model.proofs.Ids.{and-first, and-second, same-number}
+use Rattle.switch_model.proofs.Common.{and-first, and-second, same-number}
 use Rattle.switch_model.proofs.ClaimFinds.{way-is}
 use Rattle.switch_model.proofs.Claiming.{Claimed, claimed-by}
 use Rattle.switch_model.proofs.Returning.{Passed, passed}

@@ -15,11 +15,11 @@ use Rattle.tr_io.specs.declared.names.Dir.TheVariants.{Forth}
 use Rattle.tr_io.specs.declared.step.Step.{Step}
 use Rattle.tr_io.specs.declared.step.Step.TheVariants.{Take}
 use Rattle.switch_model.specs.Names.{circuit_cell}
-use Rattle.switch_model.specs.Legs.{at, holds_id}
-use Rattle.switch_model.specs.Taken.{is_hop_leg, claimed_cells}
-use Rattle.switch_model.specs.History.{is_live_circuit, sent, events}
-use Rattle.switch_model.specs.Queues.{circuit_log, sealed_count, sendable, queue}
-use Rattle.switch_model.specs.Returns.{Goes, closing_at, forward_of}
+use Rattle.switch_model.specs.History.Legs.{at, holds_id}
+use Rattle.switch_model.specs.History.Taken.{is_hop_leg, claimed_cells}
+use Rattle.switch_model.specs.History.Circuit.{is_live_circuit, sent, events}
+use Rattle.switch_model.specs.Waiting.Queues.{circuit_log, sealed_count, sendable, queue}
+use Rattle.switch_model.specs.History.Returns.{Goes, closing_at, forward_of}
 use Rattle.switch_model.specs.Examples.{hop_cell_then_return}
 use Rattle.switch_model.proofs.Common.{self_eq, drop-front}
 

@@ -12,14 +12,14 @@ use Rattle.tr_io.specs.declared.names.Dir.TheVariants.{Forth, Back}
 use Rattle.tr_io.specs.declared.step.Step.{Step}
 use Rattle.tr_io.specs.declared.step.Step.TheVariants.{GiveBack}
 use Rattle.switch_model.specs.Names.{same_dir, same_way, way_of}
-use Rattle.switch_model.specs.Teardowns.{teardown, reason_of}
-use Rattle.switch_model.specs.History.{is_live_circuit, opens, lies_on, is_accepted_return}
-use Rattle.switch_model.specs.Queues.{circuit_log, sealed_count}
-use Rattle.switch_model.specs.Claims.{claimed, kept, bodies}
-use Rattle.switch_model.specs.ClaimAnswers.{is_note}
-use Rattle.switch_model.specs.Contents.{bodies_with_room}
-use Rattle.switch_model.specs.Relayed.{settled_forth}
-use Rattle.switch_model.proofs.Ids.{and-first, and-second, same-number}
+use Rattle.switch_model.specs.History.Teardowns.{teardown, reason_of}
+use Rattle.switch_model.specs.History.Circuit.{is_live_circuit, opens, lies_on, is_accepted_return}
+use Rattle.switch_model.specs.Waiting.Queues.{circuit_log, sealed_count}
+use Rattle.switch_model.specs.Waiting.Claims.{claimed, kept, bodies}
+use Rattle.switch_model.specs.Answers.GiveBack.{is_note}
+use Rattle.switch_model.specs.Waiting.Contents.{bodies_with_room}
+use Rattle.switch_model.specs.History.Relayed.{settled_forth}
+use Rattle.switch_model.proofs.Common.{and-first, and-second, same-number}
 use Rattle.switch_model.proofs.ForthSame.{forth-same}
 
 -- the claim that is out begins at the first body that hasn't come home

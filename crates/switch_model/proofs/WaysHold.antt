@@ -19,15 +19,14 @@ use Rattle.tr_io.specs.declared.step.Step.{Step}
 use Rattle.tr_io.specs.declared.step.Step.TheVariants.{OpenCircuit, Claim, GiveBack}
 use Rattle.switch_model.specs.Start.{Start}
 use Rattle.switch_model.specs.Names.{Way, same_way, way_of}
-use Rattle.switch_model.specs.Taken.{taken_forth, claimed_cells}
-use Rattle.switch_model.specs.History.{is_live_circuit, sent, events, opens, is_accepted_return}
-use Rattle.switch_model.specs.Claims.{claimed, kept, bodies}
-use Rattle.switch_model.specs.ClaimAnswers.{done, done_by}
-use Rattle.switch_model.specs.Returns.{settled, settling_reason, events_behind}
-use Rattle.switch_model.specs.Relayed.{settled_forth}
+use Rattle.switch_model.specs.History.Taken.{taken_forth, claimed_cells}
+use Rattle.switch_model.specs.History.Circuit.{is_live_circuit, sent, events, opens, is_accepted_return}
+use Rattle.switch_model.specs.Waiting.Claims.{claimed, kept, bodies}
+use Rattle.switch_model.specs.Answers.GiveBack.{done, done_by}
+use Rattle.switch_model.specs.History.Returns.{settled, settling_reason, events_behind}
+use Rattle.switch_model.specs.History.Relayed.{settled_forth}
 use Rattle.switch_model.specs.Legal.{IsLegal}
-use Rattle.switch_model.proofs.Common.{self_eq}
-use Rattle.switch_model.proofs.Ids.{and-first, and-second, same-number}
+use Rattle.switch_model.proofs.Common.{self_eq, and-first, and-second, same-number}
 use Rattle.switch_model.proofs.BodiesListed.{given-grows}
 use Rattle.switch_model.proofs.ClaimFinds.{way-is}
 use Rattle.switch_model.proofs.Claiming.{Claimed, claimed-by}

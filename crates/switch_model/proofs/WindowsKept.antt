@@ -22,15 +22,15 @@ use Rattle.tr_io.specs.declared.step.Step.TheVariants.{OpenCircuit, Take, GiveBa
 use Rattle.switch_model.specs.Limits.{held_limit}
 use Rattle.switch_model.specs.Start.{Start}
 use Rattle.switch_model.specs.Names.{circuit_cell}
-use Rattle.switch_model.specs.Legs.{at}
-use Rattle.switch_model.specs.Taken.{is_hop_leg, claimed_cells}
-use Rattle.switch_model.specs.History.{is_live_circuit, events, with_event, taken_from_hop, returns_forth}
-use Rattle.switch_model.specs.Queues.{circuit_log}
-use Rattle.switch_model.specs.Returns.{Closing, Goes, Closes, Full, closing_at, settled, settled_with, forward_of}
-use Rattle.switch_model.specs.EdgeAnswers.{phase_of, is_joined, edge_in_answer}
+use Rattle.switch_model.specs.History.Legs.{at}
+use Rattle.switch_model.specs.History.Taken.{is_hop_leg, claimed_cells}
+use Rattle.switch_model.specs.History.Circuit.{is_live_circuit, events, with_event, taken_from_hop, returns_forth}
+use Rattle.switch_model.specs.Waiting.Queues.{circuit_log}
+use Rattle.switch_model.specs.History.Returns.{Closing, Goes, Closes, Full, closing_at, settled, settled_with, forward_of}
+use Rattle.switch_model.specs.Answers.EdgeIn.{phase_of, is_joined, edge_in_answer}
 use Rattle.switch_model.specs.Legal.{IsLegal}
-use Rattle.switch_model.specs.Relayed.{KeepsWindows, AlwaysKeepsWindows}
-use Rattle.switch_model.proofs.Ids.{same-number}
+use Rattle.switch_model.specs.History.Relayed.{KeepsWindows, AlwaysKeepsWindows}
+use Rattle.switch_model.proofs.Common.{same-number}
 
 count-up : (test : Entry → Bool) (e : Entry) (l : Log) (b : Bool) → test e ≡ b → count_of test l ≤ count_of test (e ∷ l)
 count-up test e l true is = rw is (omega arith)

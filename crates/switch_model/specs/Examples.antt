@@ -21,7 +21,7 @@ use Rattle.tr_io.specs.declared.step.Step.{Step}
 use Rattle.tr_io.specs.declared.step.Step.TheVariants.{ChannelUp, ChannelDown, OpenCircuit, Take, Claim, GiveBack, NextCell, EdgeOut, DialOrder, TearDown, Live, Halt, Halted}
 use Rattle.switch_model.specs.Limits.{given_id_base}
 use Rattle.switch_model.specs.Names.{Leg, chan_no, circ_no}
-use Rattle.switch_model.specs.SendAnswers.{cell_at}
+use Rattle.switch_model.specs.Answers.NextCell.{cell_at}
 use Rattle.switch_model.specs.Start.{Start}
 
 -- A peer connects at slot 0, and gets channel 0.

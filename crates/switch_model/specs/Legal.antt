@@ -8,13 +8,23 @@ use Rattle.tr_io.specs.declared.step.Step.{Step}
 use Rattle.tr_io.specs.declared.step.Step.TheVariants.{ChannelUp, ChannelDown, OpenCircuit, Take, Claim, GiveBack, Abandon, NextCell, EdgeIn, EdgeOut, Drained, DialOrder, DialDone, TearDown, Live, Halt, Halted}
 use Rattle.switch_model.specs.Start.{Start}
 use Rattle.switch_model.specs.Conditions.{MeetsCondition}
-use Rattle.switch_model.specs.Dials.{Dial, dials, dials_out, dial_step}
-use Rattle.switch_model.specs.ChannelAnswers.{channel_up_answer, channel_down_answer, live_answer, halted_answer}
-use Rattle.switch_model.specs.CircuitAnswers.{open_answer, take_answer, tear_down_answer}
-use Rattle.switch_model.specs.ClaimAnswers.{claim_answer, give_back_answer, abandon_answer}
-use Rattle.switch_model.specs.SendAnswers.{next_cell_answer}
-use Rattle.switch_model.specs.EdgeAnswers.{edge_in_answer, edge_out_answer, drained_answer, order_given}
-use Rattle.switch_model.specs.DialAnswers.{dial_order_answer, dial_done_answer}
+use Rattle.switch_model.specs.Waiting.Dials.{Dial, dials, dials_out, dial_step}
+use Rattle.switch_model.specs.Answers.ChannelUp.{channel_up_answer}
+use Rattle.switch_model.specs.Answers.ChannelDown.{channel_down_answer}
+use Rattle.switch_model.specs.Answers.Live.{live_answer}
+use Rattle.switch_model.specs.Answers.Halted.{halted_answer}
+use Rattle.switch_model.specs.Answers.OpenCircuit.{open_answer}
+use Rattle.switch_model.specs.Answers.Take.{take_answer}
+use Rattle.switch_model.specs.Answers.TearDown.{tear_down_answer}
+use Rattle.switch_model.specs.Answers.Claim.{claim_answer}
+use Rattle.switch_model.specs.Answers.GiveBack.{give_back_answer}
+use Rattle.switch_model.specs.Answers.Abandon.{abandon_answer}
+use Rattle.switch_model.specs.Answers.NextCell.{next_cell_answer}
+use Rattle.switch_model.specs.Answers.EdgeIn.{edge_in_answer}
+use Rattle.switch_model.specs.Answers.EdgeOut.{edge_out_answer, order_given}
+use Rattle.switch_model.specs.Answers.Drained.{drained_answer}
+use Rattle.switch_model.specs.Answers.DialOrder.{dial_order_answer}
+use Rattle.switch_model.specs.Answers.DialDone.{dial_done_answer}
 
 -- Memory may have been wanting when an order was done; it is then handed out again. The history
 -- doesn't show that, so an order that is out may be given where the oldest that waits would be.

@@ -23,8 +23,8 @@ ghost use Rattle.tr_io.specs.declared.step.Step.TheVariants.{ChannelUp, ChannelD
 ghost use Rattle.tr_io.specs.declared.step.Step.TheVariants.{Abandon, NextCell, EdgeIn, EdgeOut, Drained, DialOrder};
 ghost use Rattle.tr_io.specs.declared.step.Step.TheVariants.{DialDone, TearDown, Live, Halted};
 ghost use Rattle.switch_model.specs.Start.{Start};
-ghost use Rattle.switch_model.specs.Dials.{dials_out};
-ghost use Rattle.switch_model.specs.EdgeAnswers.{order_given};
+ghost use Rattle.switch_model.specs.Waiting.Dials.{dials_out};
+ghost use Rattle.switch_model.specs.Answers.EdgeOut.{order_given};
 ghost use Rattle.switch_model.specs.Legal.{IsLegal};
 
 /// After the same steps two calls with the same arguments have the same answer.

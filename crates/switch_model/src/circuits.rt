@@ -12,23 +12,21 @@ ghost use Rattle.tr_io.specs.declared.names.ClaimNote.{ClaimNote};
 ghost use Rattle.tr_io.specs.declared.names.Dir.TheVariants.{Forth};
 ghost use Rattle.tr_io.specs.declared.step.Step.{Step};
 ghost use Rattle.tr_io.specs.declared.step.Step.TheVariants.{GiveBack};
-ghost use Rattle.switch_model.specs.Channels.{is_live_channel};
-ghost use Rattle.switch_model.specs.ClaimAnswers.{claim_answer};
-ghost use Rattle.switch_model.specs.Claims.{is_ready};
-ghost use Rattle.switch_model.specs.History.{is_live_circuit, is_accepted_return, sent, events};
-ghost use Rattle.switch_model.specs.LegEnds.{is_ended_by_us, is_ended_outside, sent_torn, IsOneDestroy};
+ghost use Rattle.switch_model.specs.History.Channels.{is_live_channel};
+ghost use Rattle.switch_model.specs.Answers.Claim.{claim_answer};
+ghost use Rattle.switch_model.specs.Waiting.Claims.{is_ready};
+ghost use Rattle.switch_model.specs.History.Circuit.{is_live_circuit, is_accepted_return, sent, events};
+ghost use Rattle.switch_model.specs.History.LegEnds.{is_ended_by_us, sent_torn, IsOneDestroy};
 ghost use Rattle.switch_model.specs.Legal.{IsLegal};
-ghost use Rattle.switch_model.specs.Legs.{circuits, at};
+ghost use Rattle.switch_model.specs.History.Legs.{circuits, at};
 ghost use Rattle.switch_model.specs.Names.{Way, is_leg};
-ghost use Rattle.switch_model.specs.Queues.{circuit_log};
-ghost use Rattle.switch_model.specs.Relayed.{bodies_from_hops, AlwaysKeepsWindows, IsRelayed, AreComparable};
-ghost use Rattle.switch_model.specs.Rest.{owed, IsAtRest};
-ghost use Rattle.switch_model.specs.Returns.{forward_of, AllGo, events_behind};
-ghost use Rattle.switch_model.specs.SendAnswers.{next_cell_answer, IsOldestDestroy};
-ghost use Rattle.switch_model.specs.Stands.{Stands};
+ghost use Rattle.switch_model.specs.Waiting.Queues.{circuit_log};
+ghost use Rattle.switch_model.specs.History.Relayed.{bodies_from_hops, AlwaysKeepsWindows, IsRelayed};
+ghost use Rattle.switch_model.specs.Waiting.Rest.{owed};
+ghost use Rattle.switch_model.specs.History.Returns.{forward_of, AllGo, events_behind};
+ghost use Rattle.switch_model.specs.Answers.NextCell.{next_cell_answer, IsOldestDestroy};
 ghost use Rattle.switch_model.specs.Start.{Start};
-ghost use Rattle.switch_model.specs.State.{State};
-ghost use Rattle.switch_model.specs.Taken.{claimed_cells, taken_forth, taken_back};
+ghost use Rattle.switch_model.specs.History.Taken.{claimed_cells, taken_forth, taken_back};
 
 /// Behind each event of a circuit of a legal history no more DATA was packaged than was granted, for the
 /// circuit and for each of its streams.
@@ -48,15 +46,6 @@ pub fn bodies_from_next_hops_keep_their_order()
 pub fn each_circuit_relays_in_order()
     ensures { (start : Start) (h : List Step) (c : ℕ) → IsLegal start h →
         IsRelayed start.rules (events start.rules h c) (taken_forth h c) (taken_back h c) }
-{}
-
-/// Whatever two histories two states stand for: where a circuit of each has the same events, the cells
-/// sent on a leg of the one begin those sent on that leg of the other, or the other way round, whatever
-/// other circuits did.
-#[tactic(auto, using(crate::proofs::Isolation::comparable_cells))]
-pub fn equal_events_give_comparable_cells()
-    ensures { (start : Start) (s t : State) (h g : List Step) (c d k : ℕ) → Stands start s h → Stands start t g →
-        events start.rules h c ≡ events start.rules g d → AreComparable (sent start.rules h c k) (sent start.rules g d k) }
 {}
 
 /// A claim comes home with a body that closes, as a circuit SENDME with a wrong proof does with PROTOCOL
@@ -114,12 +103,4 @@ pub fn a_torn_circuit_sends_one_destroy_a_leg()
     ensures one { (start : Start) (h : List Step) (c k : ℕ) → IsLegal start h → IsOneDestroy (sent_torn start.rules h c k) }
     ensures ended { (start : Start) (h : List Step) (c k chan id : ℕ) → IsLegal start h → is_ended_by_us h c k ≡ true →
         is_leg c k (at h chan id) ≡ false }
-{}
-
-/// At rest a circuit was sent all that the one-thread relay sends, on each leg that neither the peer nor
-/// its channel ended.
-#[tactic(auto, using(crate::proofs::AtRest::at_rest_all_is_sent))]
-pub fn at_rest_all_is_sent()
-    ensures { (start : Start) (s : State) (h : List Step) → Stands start s h → (c : ℕ) → IsAtRest start.rules h c →
-        (k : ℕ) → is_ended_outside h c k ≡ false → sent start.rules h c k ≡ one (circuit_log start.rules h c) k }
 {}

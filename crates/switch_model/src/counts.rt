@@ -2,7 +2,7 @@
 ghost use Rattle.std.specs.Prelude.{◌≡◌, ℕ, List, [], ◌∷◌, Some, map};
 ghost use Rattle.kdf_tor.specs.declared.LayerKeys.{LayerKeys};
 ghost use Rattle.circuit_model.specs.Rules.{Rules};
-ghost use Rattle.switch_model.specs.Counts.{count_at, least_of};
+ghost use Rattle.switch_model.specs.Waiting.Counts.{count_at, least_of};
 ghost use Rattle.switch_model.specs.Examples.{three_circuits, three_legs, leg_0, more_cells};
 
 /// Circuit 0 sent the answer to its opening at tick 0, circuits 1 and 2 theirs at tick 17: then the

@@ -22,14 +22,14 @@ ghost use Rattle.tr_io.specs.declared.step.Step.{Step};
 ghost use Rattle.tr_io.specs.declared.step.Step.TheVariants.{Take};
 ghost use Rattle.switch_model.specs.Conditions.{IsReply};
 ghost use Rattle.switch_model.specs.Names.{circuit_cell};
-ghost use Rattle.switch_model.specs.Lanes.{lane};
-ghost use Rattle.switch_model.specs.Legs.{Port, port, hops, at, holds_id};
-ghost use Rattle.switch_model.specs.Taken.{is_hop_leg, claimed_cells};
-ghost use Rattle.switch_model.specs.History.{is_live_circuit, sent, events};
-ghost use Rattle.switch_model.specs.Queues.{circuit_log, sealed_count, sendable, queue};
-ghost use Rattle.switch_model.specs.Returns.{Goes, closing_at, forward_of};
+ghost use Rattle.switch_model.specs.Waiting.Lanes.{lane};
+ghost use Rattle.switch_model.specs.History.Legs.{Port, port, hops, at, holds_id};
+ghost use Rattle.switch_model.specs.History.Taken.{is_hop_leg, claimed_cells};
+ghost use Rattle.switch_model.specs.History.Circuit.{is_live_circuit, sent, events};
+ghost use Rattle.switch_model.specs.Waiting.Queues.{circuit_log, sealed_count, sendable, queue};
+ghost use Rattle.switch_model.specs.History.Returns.{Goes, closing_at, forward_of};
 ghost use Rattle.switch_model.specs.Start.{Start};
-ghost use Rattle.switch_model.specs.Past.{past, concerns};
+ghost use Rattle.switch_model.specs.History.Past.{past, concerns};
 ghost use Rattle.switch_model.specs.Legal.{IsLegal};
 ghost use Rattle.switch_model.specs.Examples.{closing_return, ended_channel, quiet_switch, one_circuit, bad_id, torn_while_claimed, two_claimed, crossing_destroys, hop_cell_then_return};
 
@@ -87,7 +87,7 @@ pub fn a_truncated_leg_keeps_its_reason()
 {}
 
 /// The first steps of a legal history are a legal history.
-#[tactic(auto, using(crate::proofs::Built::first_steps_legal))]
+#[tactic(auto, using(crate::proofs::FirstSteps::first_steps_legal))]
 pub fn first_steps_are_legal()
     ensures { (start : Start) (newer older : List Step) → IsLegal start (newer ++ older) → IsLegal start older }
 {}

@@ -12,5 +12,4 @@ pub mod circuits;
 pub mod counts;
 pub mod histories;
 pub mod limits;
-pub mod machine;
 pub mod returns;

@@ -17,10 +17,10 @@ ghost use Rattle.tor_spec.specs.Reasons.{destroy_resource_limit};
 ghost use Rattle.switch_model.specs.Limits.{channel_limit, circuit_limit, held_limit};
 ghost use Rattle.switch_model.specs.Start.{Start};
 ghost use Rattle.switch_model.specs.Names.{circ_no};
-ghost use Rattle.switch_model.specs.Channels.{channel_at, is_live_channel, live_channels};
-ghost use Rattle.switch_model.specs.Legs.{at};
-ghost use Rattle.switch_model.specs.History.{is_live_circuit};
-ghost use Rattle.switch_model.specs.Queues.{circuit_log, held};
+ghost use Rattle.switch_model.specs.History.Channels.{channel_at, is_live_channel, live_channels};
+ghost use Rattle.switch_model.specs.History.Legs.{at};
+ghost use Rattle.switch_model.specs.History.Circuit.{is_live_circuit};
+ghost use Rattle.switch_model.specs.Waiting.Queues.{circuit_log, held};
 ghost use Rattle.tr_io.specs.declared.answers.EdgeAnswer.TheVariants.{Shut};
 ghost use Rattle.tr_io.specs.declared.answers.ShutWhy.{ShutWhy};
 ghost use Rattle.tr_io.specs.declared.names.StreamKey.{StreamKey};
@@ -28,10 +28,11 @@ ghost use Rattle.tr_io.specs.declared.step.EventStep.{EventStep};
 ghost use Rattle.tr_io.specs.declared.step.Octets.{Octets};
 ghost use Rattle.circuit_model.specs.declared.places.Phase.TheVariants.{Joined};
 ghost use Rattle.circuit_model.specs.Windows.{circuit_packaged, circuit_grant, stream_packaged, stream_grant};
-ghost use Rattle.switch_model.specs.EdgeAnswers.{phase_of, edge_in_answer};
-ghost use Rattle.switch_model.specs.ChannelAnswers.{channel_up_answer};
-ghost use Rattle.switch_model.specs.CircuitAnswers.{live_circuits, is_in_use, is_peers_id, open_answer, take_answer};
-ghost use Rattle.switch_model.specs.ClaimAnswers.{give_back_answer};
+ghost use Rattle.switch_model.specs.Answers.EdgeIn.{phase_of, edge_in_answer};
+ghost use Rattle.switch_model.specs.Answers.ChannelUp.{channel_up_answer};
+ghost use Rattle.switch_model.specs.Answers.OpenCircuit.{live_circuits, is_in_use, is_peers_id, open_answer};
+ghost use Rattle.switch_model.specs.Answers.Take.{take_answer};
+ghost use Rattle.switch_model.specs.Answers.GiveBack.{give_back_answer};
 
 /// With 64 live channels no further one comes up.
 #[tactic(auto, using(crate::proofs::Fullness::channels_full))]

@@ -7,9 +7,9 @@ ghost use Rattle.tr_io.specs.declared.names.Dir.TheVariants.{Forth, Back};
 ghost use Rattle.tr_io.specs.declared.step.Step.{Step};
 ghost use Rattle.tr_io.specs.declared.step.Step.TheVariants.{Claim, GiveBack};
 ghost use Rattle.switch_model.specs.Start.{Start};
-ghost use Rattle.switch_model.specs.Contents.{claimed_bodies};
-ghost use Rattle.switch_model.specs.History.{is_accepted_return};
-ghost use Rattle.switch_model.specs.Homecoming.{AddsNext, SealsNext};
+ghost use Rattle.switch_model.specs.Waiting.Contents.{claimed_bodies};
+ghost use Rattle.switch_model.specs.History.Circuit.{is_accepted_return};
+ghost use Rattle.switch_model.specs.History.Homecoming.{AddsNext, SealsNext};
 ghost use Rattle.switch_model.specs.Legal.{IsLegal};
 
 /// The bodies of a claim stay what they were when it was made, whatever comes behind it.

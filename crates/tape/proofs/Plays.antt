@@ -12,10 +12,10 @@ use Rattle.tr_io.specs.declared.answers.UpAnswer.{UpAnswer}
 use Rattle.tr_io.specs.declared.names.ChanNo.{ChanNo}
 use Rattle.tr_io.specs.declared.names.Side.{Side}
 use Rattle.tr_io.specs.declared.step.Step.TheVariants as Steps
-use Rattle.switch_model.specs.Adds.{Adds, UpCase, OpenCase}
-use Rattle.switch_model.specs.Stands.{Stands}
+use Rattle.switch_machine.specs.Adds.{Adds, UpCase, OpenCase}
+use Rattle.switch_machine.specs.Stands.{Stands}
 use Rattle.switch_model.specs.Start.{Start}
-use Rattle.switch_model.specs.State.{State}
+use Rattle.switch_machine.specs.State.{State}
 use Rattle.tape.specs.declared.record.CircuitRequest.{CircuitRequest}
 use Rattle.tape.specs.declared.record.Record.{Record}
 use Rattle.tape.specs.declared.record.Record.TheVariants.{ChannelUp, OpenCircuit, NextCell}

@@ -4,9 +4,9 @@ use Rattle.std.proofs.lemmas.List.{append-nil}
 use Rattle.circuit_model.specs.Rules.{Rules}
 use Rattle.tr_io.specs.declared.status.Status.{Status}
 use Rattle.tr_io.specs.declared.status.Status.TheVariants.{Done, Memory}
-use Rattle.switch_model.specs.Stands.{Stands}
-use Rattle.switch_model.specs.State.{State}
-use Rattle.switch_model.proofs.Prefix.{sent_prefix}
+use Rattle.switch_machine.specs.Stands.{Stands}
+use Rattle.switch_machine.specs.State.{State}
+use Rattle.switch_machine.proofs.Prefix.{sent_prefix}
 use Rattle.tape.specs.declared.input.Ending.{Ending}
 use Rattle.tape.specs.declared.input.Ending.TheVariants.{End, Fault, Limit}
 use Rattle.tape.specs.declared.record.Record.{Record}

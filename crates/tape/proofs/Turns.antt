@@ -6,11 +6,11 @@ use Rattle.tr_io.specs.declared.status.Status.{Status}
 use Rattle.tr_io.specs.declared.status.Status.TheVariants.{WriteFault, BadTape, NotBuilt, Memory}
 use Rattle.tr_io.specs.declared.step.Step.{Step}
 use Rattle.switch_core.specs.Started.{Started}
-use Rattle.switch_model.specs.Stands.{Stands}
+use Rattle.switch_machine.specs.Stands.{Stands}
 use Rattle.switch_model.specs.Start.{Start}
-use Rattle.switch_model.specs.State.{State}
-use Rattle.switch_model.specs.Machine.{new_state}
-use Rattle.switch_model.proofs.Laws.{stands_new}
+use Rattle.switch_machine.specs.State.{State}
+use Rattle.switch_machine.specs.Machine.{new_state}
+use Rattle.switch_machine.proofs.Laws.{stands_new}
 use Rattle.tape.specs.declared.input.Ending.{Ending}
 use Rattle.tape.specs.declared.record.Record.{Record}
 use Rattle.tape.specs.Fronts.{record_and, less, no_record, unbuilt}

@@ -5,8 +5,8 @@ use Rattle.tr_io.specs.declared.status.Status.{Status}
 use Rattle.tr_io.specs.declared.status.Status.TheVariants.{Memory}
 use Rattle.tr_io.specs.Faults.{Rose}
 use Rattle.tr_io.specs.declared.step.Step.{Step}
-use Rattle.switch_model.specs.State.{State}
-use Rattle.switch_model.specs.Stands.{Stands}
+use Rattle.switch_machine.specs.State.{State}
+use Rattle.switch_machine.specs.Stands.{Stands}
 use Rattle.tape.specs.declared.input.Ending.{Ending}
 use Rattle.tape.specs.declared.record.Record.{Record}
 use Rattle.tape.specs.Steps.{tape_start, step_of, steps_of, answer_of, output, IsRecords}

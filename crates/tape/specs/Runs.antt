@@ -12,12 +12,12 @@ use Rattle.tape.specs.Records.{front_of}
 use Rattle.circuit_model.specs.Events.{CircuitCell}
 use Rattle.circuit_model.specs.Sent.{one}
 use Rattle.tr_io.specs.declared.step.Step.{Step}
-use Rattle.switch_model.specs.History.{sent}
-use Rattle.switch_model.specs.Queues.{circuit_log}
+use Rattle.switch_model.specs.History.Circuit.{sent}
+use Rattle.switch_model.specs.Waiting.Queues.{circuit_log}
 use Rattle.switch_model.specs.Legal.{IsLegal}
-use Rattle.switch_model.specs.Stands.{Stands}
+use Rattle.switch_machine.specs.Stands.{Stands}
 use Rattle.switch_model.specs.Start.{Start}
-use Rattle.switch_model.specs.State.{State}
+use Rattle.switch_machine.specs.State.{State}
 use Rattle.tape.specs.TapeRules.{RulesFrontOf, rules_and, less_than_rules, no_rules, rules_ahead}
 use Rattle.tape.specs.Steps.{tape_start, steps_of, IsRecords, output}
 use Rattle.tape.specs.Input.{tape_limit, EndCause, IsRead, IsTape}

@@ -4,9 +4,9 @@ use Rattle.circuit_model.specs.Rules.{Rules}
 use Rattle.tr_io.specs.declared.step.Step.{Step}
 use Rattle.tr_io.specs.declared.step.Step.TheVariants as Steps
 use Rattle.switch_model.specs.Start.{Start}
-use Rattle.switch_model.specs.ChannelAnswers.{channel_up_answer}
-use Rattle.switch_model.specs.CircuitAnswers.{open_answer}
-use Rattle.switch_model.specs.SendAnswers.{next_cell_answer}
+use Rattle.switch_model.specs.Answers.ChannelUp.{channel_up_answer}
+use Rattle.switch_model.specs.Answers.OpenCircuit.{open_answer}
+use Rattle.switch_model.specs.Answers.NextCell.{next_cell_answer}
 use Rattle.tape.specs.declared.record.Record.{Record}
 use Rattle.tape.specs.declared.record.Record.TheVariants.{ChannelUp, OpenCircuit, NextCell}
 use Rattle.tape.specs.Fronts.{record_and}

@@ -1,7 +1,7 @@
 //! Makes the calls of a tape's records, and gathers their answers.
 ghost use Rattle.std.specs.Prelude.{◌≡◌, ◌+◌, ◌<◌, ◌≤◌, ◌^◌, [], IfOk, OnOk, OnErr};
 ghost use Rattle.circ_relay.specs.Values.{rules_of};
-ghost use Rattle.switch_model.specs.Machine.{new_state};
+ghost use Rattle.switch_machine.specs.Machine.{new_state};
 ghost use Rattle.tape.specs.Playing.{PlaysOn};
 ghost use Rattle.tape.specs.Steps.{tape_start};
 ghost use Rattle.tape.specs.TapeRules.{tape_rules};

@@ -1,7 +1,7 @@
 //! Plays a tape from its source to its sink.
 ghost use Rattle.std.specs.Prelude.{◌≡◌, ◌-◌, ◌≤◌, ℕ, [], List, Some, true, false, IfOk, OnOk, OnErr, map, length, string_bytes};
 ghost use Rattle.circuit_model.specs.Rules.{Rules};
-ghost use Rattle.switch_model.specs.Machine.{new_state};
+ghost use Rattle.switch_machine.specs.Machine.{new_state};
 ghost use Rattle.tr_io.specs.Faults.{Rose};
 ghost use Rattle.tape.specs.declared.record.Record.{Record};
 ghost use Rattle.tape.specs.Causes.{is_tape_line, IsRunStatus};

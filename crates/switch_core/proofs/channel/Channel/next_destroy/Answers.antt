@@ -1,7 +1,7 @@
 use Rattle.std.proofs.Common.{◌<◌, length, sym, ap, ◌∙◌, arith}
 use Rattle.circuit_model.specs.Sent.{destroy}
-use Rattle.switch_model.specs.SendAnswers.{cell_at}
-use Rattle.switch_model.specs.State.{ChannelState}
+use Rattle.switch_model.specs.Answers.NextCell.{cell_at}
+use Rattle.switch_machine.specs.State.{ChannelState}
 use Rattle.switch_core.proofs.FirstOut.{first_out}
 use Rattle.switch_core.proofs.channel.Channel.next_destroy.Goals as goal
 

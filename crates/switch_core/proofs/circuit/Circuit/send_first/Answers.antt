@@ -1,5 +1,5 @@
 use Rattle.std.proofs.Common.{subst}
-use Rattle.switch_model.specs.State.{CircuitState}
+use Rattle.switch_machine.specs.State.{CircuitState}
 use Rattle.switch_core.specs.Meaning.{circuit_of}
 use Rattle.switch_core.specs.Picking.{FirstSent}
 use Rattle.switch_core.proofs.Leaves.{first_sent}

@@ -1,8 +1,8 @@
 use Rattle.std.proofs.Common.{◌≡◌, ◌<◌, ◌+◌, length, max, Option, Some, ap, sym, subst, ◌∙◌, arith}
-use Rattle.switch_model.specs.Counts.{least_of}
-use Rattle.switch_model.specs.State.{CircuitState, slot_at}
-use Rattle.switch_model.specs.Machine.{leg_at, legs_of}
-use Rattle.switch_model.specs.NextCellCall.{waits_on, count_of_found, cell_count_in, waiting_before}
+use Rattle.switch_model.specs.Waiting.Counts.{least_of}
+use Rattle.switch_machine.specs.State.{CircuitState, slot_at}
+use Rattle.switch_machine.specs.Machine.{leg_at, legs_of}
+use Rattle.switch_machine.specs.Calls.NextCell.{waits_on, count_of_found, cell_count_in, waiting_before}
 use Rattle.switch_core.specs.declared.pick.Waiting.{Waiting}
 use Rattle.switch_core.specs.Picking.{first_leg_of, Picks}
 use Rattle.switch_core.proofs.Plain.{there}

@@ -1,6 +1,6 @@
 use Rattle.std.proofs.Common.{◌≡◌, max}
-use Rattle.switch_model.specs.Counts.{least_of}
-use Rattle.switch_model.specs.NextCellCall.{cell_count_in, waiting_before}
+use Rattle.switch_model.specs.Waiting.Counts.{least_of}
+use Rattle.switch_machine.specs.Calls.NextCell.{cell_count_in, waiting_before}
 use Rattle.switch_core.specs.Picking.{Picks}
 use Rattle.switch_core.proofs.parts.Parts.picked.Given as goal
 

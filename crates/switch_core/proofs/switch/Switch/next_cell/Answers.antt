@@ -1,5 +1,5 @@
 use Rattle.tr_io.specs.declared.step.Step.TheVariants.{NextCell}
-use Rattle.switch_model.proofs.Laws.{next_cell_adds, stays}
+use Rattle.switch_machine.proofs.Laws.{next_cell_adds, stays}
 use Rattle.switch_core.specs.Meaning.{start_of}
 use Rattle.switch_core.proofs.switch.Switch.next_cell.Goals as goal
 

@@ -1,0 +1,55 @@
+-- Each legal history of the calls that have a machine is stood for by some state, and laws of every legal history.
+use Rattle.std.proofs.Common.{ℕ, List, [], ◌∷◌, ◌++◌, Option, sym, ◌∙◌, subst}
+use Rattle.cell_codec.specs.declared.cell.Cell.{Cell}
+use Rattle.kdf_tor.specs.declared.LayerKeys.{LayerKeys}
+use Rattle.tr_io.specs.declared.answers.OpenAnswer.{OpenAnswer}
+use Rattle.tr_io.specs.declared.answers.UpAnswer.{UpAnswer}
+use Rattle.tr_io.specs.declared.names.ChanNo.{ChanNo}
+use Rattle.tr_io.specs.declared.names.Side.{Side}
+use Rattle.tr_io.specs.declared.step.Step.{Step}
+use Rattle.tr_io.specs.declared.step.Step.TheVariants.{ChannelUp, OpenCircuit, NextCell}
+use Rattle.switch_model.specs.Start.{Start}
+use Rattle.switch_model.specs.Legal.{IsLegal}
+use Rattle.switch_machine.specs.State.{State}
+use Rattle.switch_machine.specs.Calls.ChannelUp.{channel_up_result, channel_up_state}
+use Rattle.switch_machine.specs.Calls.OpenCircuit.{open_result, open_state}
+use Rattle.switch_machine.specs.Calls.NextCell.{next_cell_result, next_cell_state}
+use Rattle.switch_machine.specs.Stands.{Stands}
+use Rattle.switch_machine.specs.Adds.{StandsForSomeState, HasMachine}
+use Rattle.switch_machine.proofs.Laws.{stands_empty}
+use Rattle.switch_machine.proofs.Up.{channel_up_kept}
+use Rattle.switch_machine.proofs.Open.{open_kept}
+use Rattle.switch_machine.proofs.Next.{next_cell_kept}
+
+-- a step is known by its answer, and the state's answer is that of the history
+with-up : (start : Start) (h : List Step) (slot : ℕ) (side : Side) (a : UpAnswer) (s : State) → IsLegal start (ChannelUp slot side a ∷ h) → Stands start s h → StandsForSomeState start (ChannelUp slot side a ∷ h)
+with-up start h slot side a s legal st =
+    let kept : Stands start (channel_up_state s side) (ChannelUp slot side (channel_up_result s) ∷ h) = channel_up_kept start s h slot side st in
+    record { state = channel_up_state s side; stands = subst (λ b. Stands start (channel_up_state s side) (ChannelUp slot side b ∷ h)) (kept.legal.0.1 ∙ sym legal.0.1) kept }
+
+with-opening : (start : Start) (h : List Step) (chan : ChanNo) (id : ℕ) (reply : Cell) (keys : Option LayerKeys) (pad : Option (List ℕ)) (a : OpenAnswer) (s : State) →
+    IsLegal start (OpenCircuit chan id reply keys pad a ∷ h) → Stands start s h → StandsForSomeState start (OpenCircuit chan id reply keys pad a ∷ h)
+with-opening start h chan id reply keys pad a s legal st =
+    let kept : Stands start (open_state s chan.0 id reply keys pad) (OpenCircuit chan id reply keys pad (open_result s chan.0 id keys) ∷ h) = open_kept start s h chan.0 id reply keys pad legal.0.0 st in
+    record {
+      state = open_state s chan.0 id reply keys pad;
+      stands = subst (λ b. Stands start (open_state s chan.0 id reply keys pad) (OpenCircuit chan id reply keys pad b ∷ h)) (kept.legal.0.1 ∙ sym legal.0.1) kept;
+    }
+
+with-next : (start : Start) (h : List Step) (chan : ChanNo) (given : ℕ) (a : Option Cell) (s : State) → IsLegal start (NextCell chan given a ∷ h) → Stands start s h → StandsForSomeState start (NextCell chan given a ∷ h)
+with-next start h chan given a s legal st =
+    let kept : Stands start (next_cell_state s chan.0 given) (NextCell chan given (next_cell_result s chan.0 given) ∷ h) = next_cell_kept start s h chan.0 given st in
+    record { state = next_cell_state s chan.0 given; stands = subst (λ b. Stands start (next_cell_state s chan.0 given) (NextCell chan given b ∷ h)) (kept.legal.0.1 ∙ sym legal.0.1) kept }
+
+pub built_stands : (start : Start) (h : List Step) → HasMachine h → IsLegal start h → StandsForSomeState start h
+built_stands start [] built legal = record { state = _; stands = stands_empty start }
+built_stands start (ChannelUp slot side a ∷ h) built legal =
+    let some = built_stands start h built legal.1 in
+    with-up start h slot side a some.state legal some.stands
+built_stands start (OpenCircuit chan id reply keys pad a ∷ h) built legal =
+    let some = built_stands start h built legal.1 in
+    with-opening start h chan id reply keys pad a some.state legal some.stands
+built_stands start (NextCell chan given a ∷ h) built legal =
+    let some = built_stands start h built legal.1 in
+    with-next start h chan given a some.state legal some.stands
+built_stands start (s ∷ h) built legal = absurd built

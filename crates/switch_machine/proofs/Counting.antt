@@ -1,0 +1,77 @@
+-- Counts that are halved late, and the leg with the least.
+use Rattle.std.proofs.Common.{◌≡◌, ℕ, ◌+◌, ◌-◌, ◌/◌, ◌^◌, ◌≤◌, Bool, true, false, if◌then◌else◌, nat_lt, max, List, [], ◌∷◌, Option, Some, None, refl, sym, ◌∙◌, ap, subst, arith}
+use Rattle.std.specs.List.{AllByRecursion}
+use Rattle.std.proofs.Math.Nat.{zero-div, div-one, div-div-eq-div-mul}
+use Rattle.std.proofs.Math.Pow.{pow-add}
+use Rattle.tr_io.specs.declared.step.Step.{Step}
+use Rattle.switch_model.specs.Start.{Start}
+use Rattle.switch_model.specs.Names.{Leg}
+use Rattle.switch_model.specs.Waiting.Counts.{tick, halved, cell_count, count_at, lesser, least_of, pick}
+use Rattle.switch_machine.specs.State.{LegState, State}
+use Rattle.switch_machine.specs.Machine.{leg_in}
+use Rattle.switch_machine.specs.Calls.NextCell.{count_of, count_of_found, waits_on, cell_count_in, waiting_on, picked_leg}
+use Rattle.switch_machine.specs.Stands.{CountAt, CountStands, Stands}
+use Rattle.switch_machine.proofs.Waiting.{Waits, all-waiting, waiting-said}
+use Rattle.switch_model.proofs.Least.{lesser-same, least-has}
+
+pub halved-twice : (n a b : ℕ) → halved (halved n a) b ≡ halved n (a + b)
+halved-twice n a b = div-div-eq-div-mul n (2 ^ a) (2 ^ b) ∙ ap (λ m. n / m) (sym (pow-add 2 a b))
+
+pub halved-none : (ticks : ℕ) → halved 0 ticks ≡ 0
+halved-none ticks = zero-div (2 ^ ticks)
+
+pub halved-never : (n : ℕ) → halved n 0 ≡ n
+halved-never n = div-one n
+
+ticks-between : (since now given : ℕ) → since ≤ now → (now - since) + (given - now) ≡ max now given - since
+ticks-between since now given before = omega arith
+
+-- a count at a later tick
+pub later-by : (leg : LegState) (n now given : ℕ) → CountStands leg n now → halved n (given - now) ≡ count_of (max now given) leg
+later-by leg n now given own = rw own.count (halved-twice leg.count (now - leg.counted_at) (given - now) ∙ ap (halved leg.count) (ticks-between leg.counted_at now given own.since))
+
+pub count-later : (x : Option LegState) (n now given : ℕ) → CountAt x n now → CountAt x (halved n (given - now)) (max now given)
+count-later None n now given own = tt
+count-later (Some leg) n now given own = record {
+  since = let before : leg.counted_at ≤ now = own.since in omega arith;
+  count = later-by leg n now given own;
+}
+
+-- the least of counts that agree
+abbrev pub Agree : (Leg → ℕ) → (Leg → ℕ) → Leg → Type 0
+Agree f g leg = f leg ≡ g leg
+
+pub least-same : (f g : Leg → ℕ) (legs : List Leg) → AllByRecursion (Agree f g) legs → least_of f legs ≡ least_of g legs
+least-same f g [] all = refl
+least-same f g (leg ∷ legs) all =
+    rw (least-same f g legs all.1) (ap Some (lesser-same f g leg (least_of g legs) all.0 (least-has (Agree f g) g legs all.1)))
+
+-- the leg that is picked
+counted-by : (x : Option LegState) (chan n now given : ℕ) → waits_on chan x ≡ true → CountAt x n now → halved n (given - now) ≡ count_of_found (max now given) x
+counted-by None chan n now given waits own = cc
+counted-by (Some leg) chan n now given waits own = later-by leg n now given own
+
+agree-on : (start : Start) (s : State) (h : List Step) → Stands start s h → (chan given : ℕ) (legs : List Leg) → AllByRecursion (Waits s chan) legs →
+    AllByRecursion (Agree (count_at start.rules h given) (cell_count_in s given)) legs
+agree-on start s h st chan given [] all = tt
+agree-on start s h st chan given (leg ∷ legs) all =
+    (rw st.tick (counted-by (leg_in s leg) chan (cell_count start.rules h leg.circ leg.number) (tick h) given all.0 (st.counts leg)), agree-on start s h st chan given legs all.1)
+
+pub picked-said : (start : Start) (s : State) (h : List Step) → Stands start s h → (chan given : ℕ) → picked_leg s chan given ≡ pick start.rules h chan given
+picked-said start s h st chan given =
+    rw (waiting-said start s h st chan)
+    (sym (least-same (count_at start.rules h given) (cell_count_in s given) (waiting_on s chan) (agree-on start s h st chan given (waiting_on s chan) (all-waiting s chan))))
+
+pub picked-waits : (s : State) (chan given : ℕ) (leg : Leg) → picked_leg s chan given ≡ Some leg → Waits s chan leg
+picked-waits s chan given leg found = least-has (Waits s chan) (cell_count_in s given) (waiting_on s chan) (all-waiting s chan) leg found
+
+-- where no leg that waits was counted, the first is picked
+abbrev pub Uncounted : (Leg → ℕ) → Leg → Type 0
+Uncounted f leg = f leg ≡ 0
+
+lesser-first : (f : Leg → ℕ) (leg : Leg) (o : Option Leg) → f leg ≡ 0 → ((other : Leg) → o ≡ Some other → f other ≡ 0) → lesser f leg o ≡ leg
+lesser-first f leg None here found = refl
+lesser-first f leg (Some other) here found = rw (here, found other refl) refl
+
+pub least_of-uncounted : (f : Leg → ℕ) (leg : Leg) (legs : List Leg) → AllByRecursion (Uncounted f) (leg ∷ legs) → least_of f (leg ∷ legs) ≡ Some leg
+least_of-uncounted f leg legs all = ap Some (lesser-first f leg (least_of f legs) all.0 (least-has (Uncounted f) f legs all.1))

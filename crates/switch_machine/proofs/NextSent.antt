@@ -1,0 +1,184 @@
+-- next_cell that gives the first cell of a leg keeps what a state stands for: all circuits together.
+use Rattle.std.proofs.Common.{◌≡◌, ℕ, ◌-◌, ◌≤◌, ◌==◌, ◌&&◌, Bool, true, false, if◌then◌else◌, max, List, [], ◌∷◌, length, drop, Option, Some, None, refl, sym, ◌∙◌, ap, subst, arith, inl, inr}
+use Rattle.std.proofs.lemmas.Bool.Decides.{nat_tests, eqb_tells}
+use Rattle.circuit_model.specs.Events.{CircuitCell}
+use Rattle.tr_io.specs.declared.step.Step.{Step}
+use Rattle.tr_io.specs.declared.step.Step.TheVariants.{NextCell}
+use Rattle.switch_model.specs.Start.{Start}
+use Rattle.switch_model.specs.Names.{Leg, is_leg, chan_no}
+use Rattle.switch_model.specs.History.Legs.{at, is_destroy_for, holds_id}
+use Rattle.switch_model.specs.History.Circuit.{is_live_circuit, sent}
+use Rattle.switch_model.specs.Waiting.Queues.{circuit_log, sealed_count, sendable}
+use Rattle.switch_model.specs.Waiting.Lanes.{Destroy, lane}
+use Rattle.switch_model.specs.Waiting.Counts.{tick, cell_count, halved, charged}
+use Rattle.switch_model.specs.History.Past.{past}
+use Rattle.switch_model.specs.History.EdgePast.{edge_past}
+use Rattle.switch_model.specs.Answers.NextCell.{cell_at, next_cell_answer}
+use Rattle.switch_machine.specs.State.{ChannelState, LegState, CircuitState, State, slot_at, with_slot}
+use Rattle.switch_machine.specs.Machine.{has_port, leg_at, leg_in}
+use Rattle.switch_machine.specs.Calls.NextCell.{count_of, ticked, sent_first}
+use Rattle.switch_machine.specs.CircuitStands.{LegAt, LegStands, CircuitAt, CircuitStands}
+use Rattle.switch_machine.specs.Stands.{CountAt, CountStands, IsUsed, LiesOn, IsDestroyLast, EndsWithDestroy, IsSentWhole, Stands}
+use Rattle.switch_model.proofs.Common.{self_eq, not_equal, and-first, and-second, same-number}
+use Rattle.switch_machine.proofs.Lying.{lies-first, last-first}
+use Rattle.switch_machine.proofs.Slots.{slot_at-with, length-with, slot_at-inside}
+use Rattle.switch_machine.proofs.Ids.{leg-has_id}
+use Rattle.switch_machine.proofs.Counting.{count-later, later-by, halved-none, halved-never}
+use Rattle.switch_machine.proofs.NextDestroy.{leg-fewer, all-apart, circuit-on, past-on, whole-on}
+use Rattle.switch_machine.proofs.NextLeg.{leg-named, circuit-sent, whole-kept}
+
+-- the state after the leg's first cell left
+abbrev pub sent_state : State → ℕ → ℕ → ℕ → CircuitState → LegState → List CircuitCell → State
+sent_state s given c k x leg cells =
+    record (ticked s given) { circuits = with_slot s.circuits c (Some (record x { legs = with_slot x.legs k (sent_first (max s.tick given) leg cells) })) }
+
+turned : (a b : ℕ) → (a == b) ≡ (b == a)
+turned a b = grind (arith, nat_tests)
+
+-- its legs
+leg_in-sent : (s : State) (c k : ℕ) (x : CircuitState) (y : Option LegState) (old : LegState) → slot_at s.circuits c ≡ Some x → slot_at x.legs k ≡ Some old → (leg : Leg) →
+    leg_at (slot_at (with_slot s.circuits c (Some (record x { legs = with_slot x.legs k y }))) leg.circ) leg.number ≡ (if (leg.circ == c) && (leg.number == k) then y else leg_in s leg)
+leg_in-sent s c k x y old found_circuit found_leg leg =
+    let new = Some (record x { legs = with_slot x.legs k y }) in
+    let inside = slot_at-inside s.circuits c x found_circuit in
+    let leg_inside = slot_at-inside x.legs k old found_leg in
+    elim (eqb_tells leg.circ c) [
+      | inl (is, same) ↦ rw (slot_at-with s.circuits c new leg.circ inside, is, slot_at-with x.legs k y leg.number leg_inside, same, found_circuit) refl
+      | inr (is, other) ↦ rw (slot_at-with s.circuits c new leg.circ inside, is) refl
+    ]
+
+clash : (a b : Bool) → (a && (b && true)) ≡ false → (a && b) ≡ true → ⊥
+clash true true kept has = cc
+clash true false kept has = cc
+clash false b kept has = cc
+
+port-when : (m i : ℕ) (leg : LegState) (now : ℕ) (cell : CircuitCell) (cells : List CircuitCell) (d : Bool) → (cell.command == 4) ≡ d → ((leg.chan == m) && ((leg.id == i) && d)) ≡ false →
+    has_port m i (Some leg) ≡ true → has_port m i (sent_first now leg (cell ∷ cells)) ≡ true
+port-when m i leg now cell cells true is_destroy kept has = absurd (clash (leg.chan == m) (leg.id == i) kept has)
+port-when m i leg now cell cells false is_destroy kept has = rw is_destroy has
+
+port-by : (m i : ℕ) (b : Bool) (y z : Option LegState) → (b ≡ true → has_port m i y ≡ true) → has_port m i z ≡ true → has_port m i (if b then y else z) ≡ true
+port-by m i true y z here there = here refl
+port-by m i false y z here there = there
+
+leg-is : (s : State) (c k : ℕ) (leg : LegState) → leg_at (slot_at s.circuits c) k ≡ Some leg → (other : Leg) → ((other.circ == c) && (other.number == k)) ≡ true → leg_in s other ≡ Some leg
+leg-is s c k leg found other it =
+    let same_circ : other.circ ≡ c = same-number other.circ c (and-first (other.circ == c) _ it) in
+    let same_leg : other.number ≡ k = same-number other.number k (and-second (other.circ == c) _ it) in
+    rw (same_circ, same_leg) found
+
+used-sent : (s t : State) (waits : List Destroy) (m i : ℕ) (b : Bool) (x : Option Leg) → ((other : Leg) → b ≡ false → has_port m i (leg_in s other) ≡ true → has_port m i (leg_in t other) ≡ true) →
+    IsUsed s waits m i x → IsUsed t waits m i (if b then None else x)
+used-sent s t waits m i true x keeps used = tt
+used-sent s t waits m i false None keeps used = tt
+used-sent s t waits m i false (Some other) keeps (inl has) = inl (keeps other refl has)
+used-sent s t waits m i false (Some other) keeps (inr waiting) = inr waiting
+
+-- the leg lies where it lay, and what waits ends as before
+pub lies-sent : (slots : List (Option ChannelState)) (b : Bool) (now : ℕ) (leg : LegState) (z : Option LegState) (cell : CircuitCell) (cells : List CircuitCell) → LiesOn slots (Some leg) → LiesOn slots z →
+    LiesOn slots (if b then sent_first now leg (cell ∷ cells) else z)
+lies-sent slots true now leg z cell cells own other = lies-first slots now leg cell cells (cell.command == 4) refl own
+lies-sent slots false now leg z cell cells own other = other
+
+last-sent : (b : Bool) (now : ℕ) (leg : LegState) (z : Option LegState) (cell : CircuitCell) (cells : List CircuitCell) → EndsWithDestroy z → IsDestroyLast (cell ∷ cells) →
+    EndsWithDestroy (if b then sent_first now leg (cell ∷ cells) else z)
+last-sent true now leg z cell cells other own = last-first now leg cell cells (cell.command == 4) refl own.1
+last-sent false now leg z cell cells other own = other
+
+-- the lane of the leg's channel was empty
+drop-none : (b : Bool) (waits : List Destroy) → (b ≡ true → waits ≡ []) → (if b then drop 1 waits else waits) ≡ waits
+drop-none true waits none = rw (none refl) refl
+drop-none false waits none = refl
+
+-- counts
+count-first : (leg : LegState) (n now before given : ℕ) (cell : CircuitCell) (cells : List CircuitCell) (b : Bool) → before ≡ now → CountStands leg n now →
+    CountAt (if b then None else Some (record leg { queue = cells; count = charged (count_of (max before given) leg); counted_at = max before given })) (charged (halved n (given - now))) (max now given)
+count-first leg n now before given cell cells true same own = tt
+count-first leg n now before given cell cells false same own =
+    let none : max now given - max before given ≡ 0 = omega (arith, same) in
+    record {
+      since = omega (arith, same);
+      count = rw (none, halved-never (charged (count_of (max before given) leg)), same, later-by leg n now given own) refl;
+    }
+
+count-by : (b l : Bool) (y z : Option LegState) (n more now : ℕ) → (b ≡ true → l ≡ true) → (b ≡ true → CountAt y more now) → CountAt z n now → CountAt (if b then y else z) (if b && l then more else n) now
+count-by true l y z n more now alive here there = rw (alive refl) (here refl)
+count-by false l y z n more now alive here there = there
+
+pub leg-left : (start : Start) (s : State) (h : List Step) (given c k : ℕ) (x : CircuitState) (leg : LegState) (cell : CircuitCell) (cells : List CircuitCell) → Stands start s h →
+    slot_at s.circuits c ≡ Some x → slot_at x.legs k ≡ Some leg → leg.queue ≡ cell ∷ cells → lane start.rules h leg.chan ≡ [] →
+    Some (cell_at leg.id cell) ≡ next_cell_answer start.rules h leg.chan given →
+    Stands start (sent_state s given c k x leg (cell ∷ cells)) (NextCell (chan_no leg.chan) given (Some (cell_at leg.id cell)) ∷ h)
+leg-left start s h given c k x leg cell cells st found_circuit found_leg queued no_destroy said =
+    let rules = start.rules in
+    let step = NextCell (chan_no leg.chan) given (Some (cell_at leg.id cell)) in
+    let now = max s.tick given in
+    let y = sent_first now leg (cell ∷ cells) in
+    let t = sent_state s given c k x leg (cell ∷ cells) in
+    let inside = slot_at-inside s.circuits c x found_circuit in
+    let own : CircuitStands rules s.last_closes x c (past rules h c) (λ j. holds_id h c j) (edge_past rules h c) =
+    subst (λ z. CircuitAt rules s.last_closes z c (past rules h c) (λ j. holds_id h c j) (edge_past rules h c)) found_circuit (st.circuit c) in
+    let found : leg_at (slot_at s.circuits c) k ≡ Some leg = rw found_circuit found_leg in
+    let named : is_leg c k (at h leg.chan leg.id) ≡ true = leg-has_id start s h st c k leg found in
+    let others : (d j : ℕ) → is_leg d j (at h leg.chan leg.id) ≡ ((c == d) && (k == j)) = λ d j. leg-named c k d j (at h leg.chan leg.id) named in
+    let none : (d : ℕ) → (c == d) ≡ false → (j : ℕ) → (is_leg d j (at h leg.chan leg.id) && is_live_circuit rules h d) ≡ false = λ d unlike j. rw (others d j, unlike) refl in
+    let same_lane : (n : ℕ) → lane rules (step ∷ h) n ≡ lane rules h n = λ n. drop-none (leg.chan == n) (lane rules h n) (λ here. subst (λ a. lane rules h a ≡ []) (same-number leg.chan n here) no_destroy) in
+    let is_it : Leg → Bool = λ other. (other.circ == c) && (other.number == k) in
+    let leg_of : (other : Leg) → leg_in t other ≡ (if is_it other then y else leg_in s other) = leg_in-sent s c k x y leg found_circuit found_leg in
+    let behind : IsDestroyLast (cell ∷ cells) = subst IsDestroyLast queued (subst EndsWithDestroy found (st.last (record { circ = c; number = k }))) in
+    let leg_own : LegStands rules leg k (past rules h c) (holds_id h c k) = subst (λ z. LegAt rules z k (past rules h c) (holds_id h c k)) found_leg (own.legs k) in
+    let whole-here : (j : ℕ) → IsSentWhole rules (step ∷ h) c j = λ j. elim (eqb_tells j k) [
+      | inl (is, same) ↦ λ alive lost ends. subst (λ i. sent rules (step ∷ h) c i ≡ sendable (circuit_log rules (step ∷ h) c) (sealed_count (step ∷ h) c) i) (sym same)
+          (whole-kept rules h given c k leg cell cells (cell.command == 4) refl own.live queued named leg_own behind.0 (subst (λ i. holds_id (step ∷ h) c i ≡ false) same lost))
+      | inr (is, other) ↦ whole-on rules h leg.chan given (cell_at leg.id cell) c j (rw (others c j, self_eq c, not_equal k j other) refl) (st.whole c j)
+    ] in
+    let whole-of : (d j : ℕ) → d ≡ c → IsSentWhole rules (step ∷ h) d j = λ d j same. subst (λ e. IsSentWhole rules (step ∷ h) e j) (sym same) (whole-here j) in
+    record {
+      legal = ((tt, said), st.legal);
+      steps = omega (arith, st.steps);
+      channels = st.channels;
+      circuits = length-with s.circuits c _ ∙ st.circuits;
+      claims = st.claims;
+      bodies = st.bodies;
+      dial_orders = st.dial_orders;
+      channel = λ n. rw (same_lane n) (st.channel n);
+      no_channel = st.no_channel;
+      circuit = λ d. elim (eqb_tells d c) [
+        | inl (is, same) ↦ rw (slot_at-with s.circuits c (Some (record x { legs = with_slot x.legs k y })) d inside, is)
+            (subst (λ e. CircuitAt rules s.last_closes (Some (record x { legs = with_slot x.legs k y })) e (past rules (step ∷ h) e) (λ j. holds_id (step ∷ h) e j) (edge_past rules (step ∷ h) e)) (sym same)
+            (circuit-sent rules s.last_closes h given now c k x leg cell cells found_leg queued named own))
+        | inr (is, other) ↦ rw (slot_at-with s.circuits c (Some (record x { legs = with_slot x.legs k y })) d inside, is)
+            (circuit-on rules s.last_closes h leg.chan given (cell_at leg.id cell) d (slot_at s.circuits d) (none d (not_equal c d other)) (st.circuit d))
+      ];
+      fresh = λ d beyond.
+          let past_end : length s.circuits ≤ d = omega (arith, length-with s.circuits c (Some (record x { legs = with_slot x.legs k y }))) in
+          rw (past-on rules h leg.chan given (cell_at leg.id cell) d (none d (not_equal c d (λ same. absurd (omega arith))))) (st.fresh d past_end);
+      used = λ m i. rw (same_lane m) (used-sent s t (lane rules h m) m i (is_destroy_for (chan_no leg.chan) (cell_at leg.id cell) m i) (at h m i)
+          (λ other unlike has. rw (leg_of other) (port-by m i (is_it other) y (leg_in s other)
+          (λ it. port-when m i leg now cell cells (cell.command == 4) refl unlike (rw (leg-is s c k leg found other it) at has)) has)) (st.used m i));
+      apart = λ m. rw (same_lane m) (all-apart rules h leg.chan given (cell_at leg.id cell) m (lane rules h m) (st.apart m));
+      no_leg = λ d j m i beyond.
+          leg-fewer d j (is_destroy_for (chan_no leg.chan) (cell_at leg.id cell) m i) (at h m i)
+          (st.no_leg d j m i (omega (arith, length-with s.circuits c (Some (record x { legs = with_slot x.legs k y })))));
+      lie = λ other. rw (leg_of other) (lies-sent s.channels (is_it other) now leg (leg_in s other) cell cells (subst (λ z. LiesOn s.channels z) found (st.lie (record { circ = c; number = k }))) (st.lie other));
+      last = λ other. rw (leg_of other) (last-sent (is_it other) now leg (leg_in s other) cell cells (st.last other) behind);
+      whole = λ d j. elim (eqb_tells d c) [
+        | inl (is, same) ↦ whole-of d j same
+        | inr (is, other) ↦ whole-on rules h leg.chan given (cell_at leg.id cell) d j (none d (not_equal c d other) j) (st.whole d j)
+      ];
+      again = st.again;
+      never = st.never;
+      counts = λ other. rw (leg_of other, others other.circ other.number, turned c other.circ, turned k other.number)
+          (count-by (is_it other) (is_live_circuit rules h other.circ) y (leg_in s other) _ _ (max (tick h) given)
+          (λ it. rw (same-number other.circ c (and-first (other.circ == c) _ it)) own.live)
+          (λ it. count-first leg (cell_count rules h other.circ other.number) (tick h) s.tick given cell cells (cell.command == 4) st.tick
+          (subst (λ z. CountAt z (cell_count rules h other.circ other.number) (tick h)) (leg-is s c k leg found other it) (st.counts other)))
+          (count-later (leg_in s other) (cell_count rules h other.circ other.number) (tick h) given (st.counts other)));
+      no_count = λ d j beyond.
+          let past_end : length s.circuits ≤ d = omega (arith, length-with s.circuits c (Some (record x { legs = with_slot x.legs k y }))) in
+          rw (none d (not_equal c d (λ same. absurd (omega arith))) j, st.no_count d j past_end) (halved-none (given - tick h));
+      tick = ap (λ n. max n given) st.tick;
+      slots = st.slots;
+      halts = st.halts;
+      least_halt = st.least_halt;
+    }

@@ -1,0 +1,148 @@
+-- open_circuit keeps what a state stands for.
+use Rattle.std.proofs.Common.{◌≡◌, ℕ, ◌==◌, Bool, true, false, not, if◌then◌else◌, is_some, is_none, List, ◌∷◌, length, Option, Some, None, nat_le, refl, sym, ◌∙◌, ap, subst, arith}
+use Rattle.cell_codec.specs.declared.cell.Cell.{Cell}
+use Rattle.circuit_model.specs.Rules.{Rules}
+use Rattle.kdf_tor.specs.declared.LayerKeys.{LayerKeys}
+use Rattle.tr_io.specs.declared.answers.OpenAnswer.{OpenAnswer}
+use Rattle.tr_io.specs.declared.answers.OpenAnswer.TheVariants.{Opened, Refused}
+use Rattle.tr_io.specs.declared.answers.OpenRefusal.{OpenRefusal}
+use Rattle.tr_io.specs.declared.names.Side.{Side}
+use Rattle.tr_io.specs.declared.names.Side.TheVariants.{PeerOpened, WeOpened}
+use Rattle.tr_io.specs.declared.step.Step.{Step}
+use Rattle.tr_io.specs.declared.step.Step.TheVariants.{OpenCircuit}
+use Rattle.switch_model.specs.Limits.{circuit_limit}
+use Rattle.switch_model.specs.Start.{Start}
+use Rattle.switch_model.specs.Conditions.{IsReply}
+use Rattle.switch_model.specs.Names.{Leg, chan_no, circ_no}
+use Rattle.switch_model.specs.History.Channels.{is_ours, count_below}
+use Rattle.switch_model.specs.History.Legs.{at, holds_id}
+use Rattle.switch_model.specs.History.Circuit.{is_live_circuit}
+use Rattle.switch_model.specs.Waiting.Lanes.{lane, refusal_reason}
+use Rattle.switch_model.specs.Answers.OpenCircuit.{live_circuits, is_in_use, open_answer}
+use Rattle.switch_model.specs.History.Past.{Past, past}
+use Rattle.switch_model.specs.History.EdgePast.{EdgePast, edge_past}
+use Rattle.switch_model.specs.Answers.EdgeOut.{Ordered}
+use Rattle.switch_machine.specs.State.{ChannelState, CircuitState, State, slot_at}
+use Rattle.switch_machine.specs.Machine.{counted, filled_slots}
+use Rattle.switch_machine.specs.Calls.OpenCircuit.{is_id_taken, has_peers_bit, open_result_on, open_result, open_state_by, open_state}
+use Rattle.switch_machine.specs.CircuitStands.{CircuitAt}
+use Rattle.switch_machine.specs.Stands.{channel_past, ChannelAt, ChannelStands, Stands}
+use Rattle.switch_machine.proofs.Slots.{count_below-same}
+use Rattle.switch_machine.proofs.Ids.{taken-said}
+use Rattle.switch_model.proofs.Common.{or-first, or-second}
+use Rattle.switch_machine.proofs.OpenRefused.{refused-kept}
+use Rattle.switch_machine.proofs.OpenAccepted.{opened-kept}
+
+-- what the state has of a circuit says whether it is live
+circuit-live : (rules : Rules) (closes : List Ordered) (x : Option CircuitState) (c : ℕ) (p : Past) (has_id : ℕ → Bool) (e : EdgePast) → CircuitAt rules closes x c p has_id e → is_some x ≡ p.live
+circuit-live rules closes None c p has_id e at = sym at.live
+circuit-live rules closes (Some x) c p has_id e at = sym at.live
+
+pub filled-circuits : (start : Start) (s : State) (h : List Step) → Stands start s h → filled_slots s.circuits ≡ live_circuits start.rules h
+filled-circuits start s h st =
+    count_below-same (λ c. is_some (slot_at s.circuits c)) (is_live_circuit start.rules h)
+    (λ c. circuit-live start.rules s.last_closes (slot_at s.circuits c) c (past start.rules h c) (λ k. holds_id h c k) (edge_past start.rules h c) (st.circuit c)) (length s.circuits)
+    ∙ ap (count_below (is_live_circuit start.rules h)) st.circuits
+
+-- the answer
+open-said_by : (start : Start) (s : State) (h : List Step) (chan id : ℕ) (keys : Option LayerKeys) (x : Option ChannelState) → Stands start s h → ChannelAt x (channel_past start.rules h chan) →
+    open_result_on s chan id keys x ≡ open_answer start.rules h chan id keys
+open-said_by start s h chan id keys None st at = rw at.channel refl
+open-said_by start s h chan id keys (Some channel) st at =
+    rw (at.channel, taken-said start s h st chan id channel at.lane, filled-circuits start s h st, st.circuits) refl
+
+pub open-said : (start : Start) (s : State) (h : List Step) (chan id : ℕ) (keys : Option LayerKeys) → Stands start s h → open_result s chan id keys ≡ open_answer start.rules h chan id keys
+open-said start s h chan id keys st = open-said_by start s h chan id keys (slot_at s.channels chan) st (st.channel chan)
+
+-- a refusal that sends nothing
+if-both : {A : Type 0} (b : Bool) (x : A) → (if b then x else x) ≡ x
+if-both true x = refl
+if-both false x = refl
+
+unknown-channel : (start : Start) (s : State) (h : List Step) (chan id : ℕ) (reply : Cell) (keys : Option LayerKeys) (pad : Option (List ℕ)) → Stands start s h → IsReply reply keys →
+    Refused OpenRefusal.NoChannel ≡ open_answer start.rules h chan id keys →
+    Stands start (counted s) (OpenCircuit (chan_no chan) id reply keys pad (Refused OpenRefusal.NoChannel) ∷ h)
+unknown-channel start s h chan id reply keys pad st asked said =
+    let rules = start.rules in
+    let same : (n : ℕ) → (if chan == n then lane rules h n else lane rules h n) ≡ lane rules h n = λ n. if-both (chan == n) (lane rules h n) in
+    record {
+      legal = ((asked, said), st.legal);
+      steps = omega (arith, st.steps);
+      channels = st.channels;
+      circuits = st.circuits;
+      claims = st.claims;
+      bodies = st.bodies;
+      dial_orders = st.dial_orders;
+      channel = λ n. rw (same n) (st.channel n);
+      no_channel = st.no_channel;
+      circuit = st.circuit;
+      fresh = st.fresh;
+      used = λ n i. rw (same n) (st.used n i);
+      apart = λ n. rw (same n) (st.apart n);
+      no_leg = st.no_leg;
+      lie = st.lie;
+      last = st.last;
+      whole = st.whole;
+      again = st.again;
+      never = st.never;
+      counts = st.counts;
+      no_count = st.no_count;
+      tick = st.tick;
+      slots = st.slots;
+      halts = st.halts;
+      least_halt = st.least_halt;
+    }
+
+-- which refusals send a DESTROY
+none-owed : (side : Side) (id : ℕ) → (id == 0) ≡ true → refusal_reason (is_ours side) id OpenRefusal.BadId ≡ None
+none-owed PeerOpened id zero = rw zero refl
+none-owed WeOpened id zero = refl
+
+not-none : {A : Type 0} (o : Option A) (x : A) → o ≡ None → o ≡ Some x → ⊥
+not-none o x none some = cc
+
+unused : (x : Option Leg) → is_some x ≡ false → x ≡ None
+unused None e = refl
+unused (Some leg) e = cc
+
+judged : Bool → Bool → Bool → Option LayerKeys → Bool → ℕ → OpenAnswer
+judged zero taken peers keys full n =
+    if zero then Refused OpenRefusal.BadId
+    else if taken then Refused OpenRefusal.InUse
+    else if not peers then Refused OpenRefusal.BadId
+    else if is_none keys then Refused OpenRefusal.BadHandshake
+    else if full then Refused (OpenRefusal.Full circuit_limit)
+    else Opened (circ_no n)
+
+open-by : (start : Start) (s : State) (h : List Step) (chan id : ℕ) (reply : Cell) (pad : Option (List ℕ)) (channel : ChannelState) (zero taken peers : Bool) (keys : Option LayerKeys) (full : Bool) →
+    Stands start s h → IsReply reply keys → slot_at s.channels chan ≡ Some channel → (id == 0) ≡ zero → is_in_use start.rules h chan id ≡ taken →
+    judged zero taken peers keys full (length s.circuits) ≡ open_answer start.rules h chan id keys →
+    Stands start (open_state_by s chan id reply keys pad (Some channel) (judged zero taken peers keys full (length s.circuits)))
+    (OpenCircuit (chan_no chan) id reply keys pad (judged zero taken peers keys full (length s.circuits)) ∷ h)
+unfolding judged
+open-by start s h chan id reply pad channel true taken peers keys full st asked found is_zero is_taken said =
+    refused-kept start s h chan id reply keys pad OpenRefusal.BadId channel st found (asked, said) (λ r owed. absurd (not-none _ r (none-owed channel.side id is_zero) owed))
+open-by start s h chan id reply pad channel false true peers keys full st asked found is_zero is_taken said =
+    refused-kept start s h chan id reply keys pad OpenRefusal.InUse channel st found (asked, said) (λ r owed. absurd (not-none _ r refl owed))
+open-by start s h chan id reply pad channel false false false keys full st asked found is_zero is_taken said =
+    refused-kept start s h chan id reply keys pad OpenRefusal.BadId channel st found (asked, said) (λ r owed. unused (at h chan id) (or-first _ _ is_taken))
+open-by start s h chan id reply pad channel false false true None full st asked found is_zero is_taken said =
+    refused-kept start s h chan id reply None pad OpenRefusal.BadHandshake channel st found (asked, said) (λ r owed. unused (at h chan id) (or-first _ _ is_taken))
+open-by start s h chan id reply pad channel false false true (Some keys) true st asked found is_zero is_taken said =
+    refused-kept start s h chan id reply (Some keys) pad (OpenRefusal.Full circuit_limit) channel st found (asked, said) (λ r owed. unused (at h chan id) (or-first _ _ is_taken))
+open-by start s h chan id reply pad channel false false true (Some keys) false st asked found is_zero is_taken said =
+    opened-kept start s h chan id reply keys pad st (asked, said) (rw found refl) (unused (at h chan id) (or-first _ _ is_taken)) (or-second _ _ is_taken)
+
+open-on : (start : Start) (s : State) (h : List Step) (chan id : ℕ) (reply : Cell) (keys : Option LayerKeys) (pad : Option (List ℕ)) (x : Option ChannelState) → Stands start s h → IsReply reply keys → slot_at s.channels chan ≡ x →
+    open_result_on s chan id keys x ≡ open_answer start.rules h chan id keys →
+    Stands start (open_state_by s chan id reply keys pad x (open_result_on s chan id keys x)) (OpenCircuit (chan_no chan) id reply keys pad (open_result_on s chan id keys x) ∷ h)
+unfolding judged
+open-on start s h chan id reply keys pad None st asked found said = unknown-channel start s h chan id reply keys pad st asked said
+open-on start s h chan id reply keys pad (Some channel) st asked found said =
+    let own : ChannelStands channel (channel_past start.rules h chan) = subst (λ x. ChannelAt x (channel_past start.rules h chan)) found (st.channel chan) in
+    open-by start s h chan id reply pad channel (id == 0) (is_id_taken s chan channel id) (has_peers_bit channel.side id) keys (nat_le circuit_limit (filled_slots s.circuits)) st asked found refl
+    (sym (taken-said start s h st chan id channel own.lane)) said
+
+pub open_kept : (start : Start) (s : State) (h : List Step) (chan id : ℕ) (reply : Cell) (keys : Option LayerKeys) (pad : Option (List ℕ)) → IsReply reply keys → Stands start s h →
+    Stands start (open_state s chan id reply keys pad) (OpenCircuit (chan_no chan) id reply keys pad (open_result s chan id keys) ∷ h)
+open_kept start s h chan id reply keys pad asked st = open-on start s h chan id reply keys pad (slot_at s.channels chan) st asked refl (open-said start s h chan id keys st)

@@ -1,5 +1,0 @@
-use Rattle.switch_model.proofs.Laws.{stands_empty}
-use Rattle.switch_model.proofs.machine.a_new_switch_has_no_history.Goals as goal
-
-pub returns : goal.returns
-returns c = stands_empty
