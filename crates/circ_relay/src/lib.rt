@@ -15,6 +15,7 @@ mod effects;
 pub mod effects_by_places;
 mod extend;
 mod extending;
+mod for_this_relay;
 mod forward;
 pub mod going_on;
 mod message;
