@@ -21,7 +21,8 @@ held_bit out = 1
 held_bit shut = 1
 
 module _ {T E : Type 0} where
-  -- Where the state is, where it is to stand for the history by `fits`: while nobody has the turn it lies in the slot, and so once the lock is closed; it is out exactly while a pass has the turn.
+  -- Where the state is, where it is to stand for the history by `fits`: while nobody has the turn it lies in
+  -- the slot, and so once the lock is closed; it is out exactly while a pass has the turn.
   abbrev pub IsHome : (T → List E → Type 0) → List E → Phase → List (Option T) → Type 0
   IsHome fits log out homes = homes ≡ none ∷ []
   IsHome fits log free homes = (t : T) × (homes ≡ some t ∷ []) × fits t log
@@ -64,7 +65,8 @@ module _ {T E B : Type 0} (stands : T → B → List E → Type 0) (legal : B �
     pub room : phase ≡ out → length log < 2 ^ 62
     pub home : IsHome (StandsFor stands legal opening) log phase homes
 
-  -- The rule: one history, for which the state stands; the parts are `seats` together; each place below the history's end is one own step of one pass.
+  -- The rule: one history, for which the state stands; the parts are `seats` together; each place below the
+  -- history's end is one own step of one pass.
   pub record IsOneHistory (opening : Maybe T) (seats : ℕ) (s : State T (View T E)) : Type 0 where
     pub log : List E
     pub phase : Phase
