@@ -21,8 +21,9 @@ use std::hint::spin_loop;
 use std::sync::Wait;
 use tr_io::stepping::{Kept, Stepping};
 
-// Looks at a turn that another has, before it sleeps.
-const LOOKS: u32 = 100;
+// Looks at a turn that another has, before it sleeps. Each look takes the word from who has the turn,
+// so twice as much time passes before the next.
+const LOOKS: u32 = 7;
 
 impl<T: Kept> TurnLock<T> {
     /// May sleep while no step was made behind what the pass saw, until a step gives work. It is no
@@ -39,10 +40,13 @@ impl<T: Kept> TurnLock<T> {
         }
     }
 
-    // Lets a moment pass, and tells how often it did: it sleeps where the turn lasts or others sleep.
+    // Lets time pass after so many looks, and tells how many there were since it slept: it sleeps where
+    // the turn lasts.
     pub(crate) fn pause<R: Wait>(&self, rt: &R, looks: u32) -> u32 {
-        if looks < LOOKS && self.table.shared.peek(WAITING) == 0 {
-            spin_loop();
+        if looks < LOOKS {
+            for _ in 0..1u32 << looks {
+                spin_loop();
+            }
             return looks + 1;
         }
         self.sleep(rt);

@@ -36,7 +36,7 @@ impl<T: Kept> TurnLock<T> {
         ensures turn { TurnCase result (CaughtUp T.stands T.is_legal (known pass.old) (known pass.new) × (length (known pass.new).seen ≡ 2 ^ 62)) (λ a. Turned T.stands T.is_legal (known pass.old) (step_if (S.counts a) (S.step_of step.old a)) (known pass.new)) }
     {
         let before = Snapshot::of(step);
-        let Some(word) = self.take(rt, &mut pass.seat) else {
+        let Some(word) = self.take(rt, &mut pass.seat, pass.count) else {
             pass.count = FULL / 2;
             return Turn::Spent;
         };
@@ -49,8 +49,26 @@ impl<T: Kept> TurnLock<T> {
         Turn::Did(answer)
     }
 
+    // Takes the turn, and waits for it where it must. None: the history has 2^62 steps. Mostly nobody
+    // made a step since the pass saw `count` of them, so it tries that word before it looks.
+    #[inline]
+    fn take<R: Wait>(&self, rt: &R, seat: &mut Place<T>, count: u64) -> Option<u64>
+        requires own { seat.old.table_id ≡ self.now.table.shared.table_id }
+        requires rests { (seat.old.me.1 ≡ []) × (seat.old.me.0.has_turn ≡ false) × (0 < seat.old.me.0.parts) }
+        requires low { count ≤ 2 ^ 62 }
+        ensures own { (seat.new.table_id ≡ seat.old.table_id) × (seat.new.id ≡ seat.old.id) }
+        ensures taken { MatchOption result (CaughtUpFull T.stands T.is_legal seat.old.me seat.new.me) (λ n. (n < 2 ^ 63) × Took T.stands T.is_legal seat.old.me n seat.new.me) }
+    {
+        let word = count * 2;
+        if word < FULL && self.seize(seat, word) {
+            return Some(word);
+        }
+        self.wait(rt, seat)
+    }
+
     // Waits for the turn. None: the history has 2^62 steps.
-    fn take<R: Wait>(&self, rt: &R, seat: &mut Place<T>) -> Option<u64>
+    #[inline(never)]
+    fn wait<R: Wait>(&self, rt: &R, seat: &mut Place<T>) -> Option<u64>
         requires own { seat.old.table_id ≡ self.now.table.shared.table_id }
         requires rests { (seat.old.me.1 ≡ []) × (seat.old.me.0.has_turn ≡ false) × (0 < seat.old.me.0.parts) }
         ensures own { (seat.new.table_id ≡ seat.old.table_id) × (seat.new.id ≡ seat.old.id) }

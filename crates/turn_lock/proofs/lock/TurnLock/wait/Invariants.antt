@@ -1,6 +1,6 @@
 use Rattle.std.proofs.Common.{◌≡◌}
 use Rattle.turn_lock.specs.Plays.{Looked}
-use Rattle.turn_lock.proofs.lock.TurnLock.take.Given as goal
+use Rattle.turn_lock.proofs.lock.TurnLock.wait.Given as goal
 
 abbrev pub invariant-loop : goal.invariant-loop
 invariant-loop g l = (l.seat.table_id ≡ l.initial.seat.table_id) × (l.seat.id ≡ l.initial.seat.id) × Looked l.initial.seat.me l.seat.me

@@ -2,7 +2,7 @@ use Rattle.std.proofs.Common.{rules, refl, sym, subst}
 use Rattle.turn_lock.specs.Plays.{Looked}
 use Rattle.turn_lock.proofs.Keeps.{meets}
 use Rattle.turn_lock.proofs.Turns.{look_start, look_turn, look_parts, look_bare, look_on, took_on, full_on}
-use Rattle.turn_lock.proofs.lock.TurnLock.take.Goals as goal
+use Rattle.turn_lock.proofs.lock.TurnLock.wait.Goals as goal
 
 pub loop-init : goal.loop-init
 loop-init g c = (refl, refl, look_start _)
