@@ -148,10 +148,10 @@ fn time_count<R: Wait + Clock, S: Stepping<Counter, Answer = u64>>(
 fn time_beside<R: Threads + Wait + Clock + Sync, S: Stepping<Counter, Answer = u64> + Send + Drop>(
     rt: &R,
     alloc: Global,
-    parked: u32,
+    sleepers: u32,
     mut step: S,
 ) -> io::Result<Duration> {
-    let mut all = workers(alloc, parked.saturating_add(1))?;
+    let mut all = workers(alloc, sleepers.saturating_add(1))?;
     let Some(driver) = all.pop() else {
         return Ok(Duration::ZERO);
     };
@@ -178,11 +178,14 @@ pub fn print<R: Threads + Wait + Clock + Print + Sync>(rt: &R, alloc: Global) ->
         let mutex = tenths(time_mutex(rt, alloc, threads)?, TURNS);
         print_figure(rt, "mutex_of", threads, mutex)?;
     }
-    for parked in [0, 1, 3, 16, 64] {
-        let turn = tenths(time_beside(rt, alloc, parked, CountUp)?, PARKED_TURNS);
-        print_figure(rt, "turn_beside_parked", parked, turn)?;
-        let quiet = tenths(time_beside(rt, alloc, parked, CountQuietly)?, PARKED_TURNS);
-        print_figure(rt, "quiet_turn_beside_parked", parked, quiet)?;
+    for sleepers in [0, 1, 3, 16, 64] {
+        let turn = tenths(time_beside(rt, alloc, sleepers, CountUp)?, PARKED_TURNS);
+        print_figure(rt, "turn_beside_parked", sleepers, turn)?;
+        let quiet = tenths(
+            time_beside(rt, alloc, sleepers, CountQuietly)?,
+            PARKED_TURNS,
+        );
+        print_figure(rt, "quiet_turn_beside_parked", sleepers, quiet)?;
     }
     Ok(())
 }
