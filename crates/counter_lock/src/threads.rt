@@ -1,9 +1,9 @@
 //! Threads that count up one counter.
-ghost use Rattle.std.specs.Prelude.{◌≡◌, ◌+◌, [], length, IfOk};
+ghost use Rattle.std.specs.Prelude.{◌≡◌, ℕ, ◌+◌, ◌*◌, [], length, IfOk};
 ghost use Rattle.turn_lock.specs.Passes.{lock_of, id_of, known, IsSamePass};
 ghost use Rattle.turn_lock.specs.Views.{own_steps, HasAllSteps};
 ghost use Rattle.counter_lock.specs.Counting.{CountsFrom};
-ghost use Rattle.counter_lock.specs.Threads.{HasItsAnswers, HasAllAnswers};
+ghost use Rattle.counter_lock.specs.Threads.{HasItsAnswers, HasAllAnswers, MadeTurns, AreAllBelow};
 
 use crate::counter::Counter;
 use crate::kept::CountUp;
@@ -36,11 +36,11 @@ pub fn count<R: Wait>(
 ) -> Result<Turns, AllocError>
     requires own { lock_of pass ≡ id_of lock.now }
     requires fresh { own_steps (known pass) ≡ [] }
-    ensures { IfOk result (λ t. IsSamePass pass t.pass × HasItsAnswers t) }
+    ensures { IfOk result (λ t. IsSamePass pass t.pass × HasItsAnswers t × MadeTurns times t) }
 {
     let mut pass = pass;
     let mut answers = Vec::new(alloc);
-    for _ in 0..times {
+    for _made in 0..times {
         match lock.turn(rt, &mut pass, &mut CountUp) {
             Turn::Did(answer) => answers.push(answer)?,
             Turn::Spent => break,
@@ -60,18 +60,18 @@ fn count_two<R: Threads + Wait + Sync>(
 ) -> (Result<Turns, AllocError>, Result<Turns, AllocError>)
     requires own { (lock_of a ≡ id_of lock.now) × (lock_of b ≡ id_of lock.now) }
     requires fresh { (own_steps (known a) ≡ []) × (own_steps (known b) ≡ []) }
-    ensures first { IfOk result.0 (λ t. IsSamePass a t.pass × HasItsAnswers t) }
-    ensures second { IfOk result.1 (λ t. IsSamePass b t.pass × HasItsAnswers t) }
+    ensures first { IfOk result.0 (λ t. IsSamePass a t.pass × HasItsAnswers t × MadeTurns times t) }
+    ensures second { IfOk result.1 (λ t. IsSamePass b t.pass × HasItsAnswers t × MadeTurns times t) }
 {
     join(
         rt,
         || -> Result<Turns, AllocError>
             requires { (lock_of a ≡ id_of lock.now) × (own_steps (known a) ≡ []) }
-            ensures { IfOk result (λ t. IsSamePass a t.pass × HasItsAnswers t) }
+            ensures { IfOk result (λ t. IsSamePass a t.pass × HasItsAnswers t × MadeTurns times t) }
         { count(rt, lock, a, times, alloc) },
         || -> Result<Turns, AllocError>
             requires { (lock_of b ≡ id_of lock.now) × (own_steps (known b) ≡ []) }
-            ensures { IfOk result (λ t. IsSamePass b t.pass × HasItsAnswers t) }
+            ensures { IfOk result (λ t. IsSamePass b t.pass × HasItsAnswers t × MadeTurns times t) }
         { count(rt, lock, b, times, alloc) },
     )
 }
@@ -84,6 +84,7 @@ fn take_in(lock: &TurnLock<Counter>, all: &mut Turns, other: Turns) -> Result<()
     ensures parts { IfOk result (λ _. (known all.new.pass).parts ≡ (known all.old.pass).parts + (known other.pass).parts) }
     ensures opening { IfOk result (λ _. ((known all.new.pass).opening ≡ (known all.old.pass).opening) × ((known all.new.pass).seats ≡ (known all.old.pass).seats)) }
     ensures answers { IfOk result (λ _. HasAllAnswers all.new) }
+    ensures turns { IfOk result (λ _. (m n : ℕ) → MadeTurns m all.old → MadeTurns n other → MadeTurns (m + n) all.new) }
 {
     let Turns { pass, answers } = other;
     lock.join(&mut all.pass, pass);
@@ -102,7 +103,8 @@ pub struct FinalCount {
     pub answers: Vec<u64>,
 }
 
-/// Four threads count up a new counter, each so many times.
+/// Four threads count up a new counter, each so many times. All steps are own steps of the pass that
+/// is left, and each number below their count is the answer of one turn.
 ///
 /// # Errors
 ///
@@ -114,8 +116,9 @@ pub fn count_in_four_threads<R: Threads + Wait + Sync>(
 ) -> Result<FinalCount, AllocError>
     ensures all { IfOk result (λ r. HasAllSteps (known r.pass)) }
     ensures places { IfOk result (λ r. CountsFrom 0 (known r.pass).seen) }
-    ensures value { IfOk result (λ r. r.value ≡ length (known r.pass).seen) }
-    ensures answers { IfOk result (λ r. r.value ≡ length r.answers.items) }
+    ensures value { IfOk result (λ r. r.value ≡ 4 * times) }
+    ensures steps { IfOk result (λ r. length (own_steps (known r.pass)) ≡ 4 * times) }
+    ensures answers { IfOk result (λ r. AreAllBelow (4 * times) r.answers.items) }
 {
     let (lock, mut first) = TurnLock::new(alloc, Counter { value: 0 }, 4)?;
     let second = lock.split(&mut first);
@@ -126,11 +129,11 @@ pub fn count_in_four_threads<R: Threads + Wait + Sync>(
         rt,
         || -> (Result<Turns, AllocError>, Result<Turns, AllocError>)
             requires { (lock_of first ≡ id_of shared.now) × (lock_of second ≡ id_of shared.now) × (own_steps (known first) ≡ []) × (own_steps (known second) ≡ []) }
-            ensures { IfOk result.0 (λ t. IsSamePass first t.pass × HasItsAnswers t) × IfOk result.1 (λ t. IsSamePass second t.pass × HasItsAnswers t) }
+            ensures { IfOk result.0 (λ t. IsSamePass first t.pass × HasItsAnswers t × MadeTurns times t) × IfOk result.1 (λ t. IsSamePass second t.pass × HasItsAnswers t × MadeTurns times t) }
         { count_two(rt, shared, first, second, times, alloc) },
         || -> (Result<Turns, AllocError>, Result<Turns, AllocError>)
             requires { (lock_of third ≡ id_of shared.now) × (lock_of fourth ≡ id_of shared.now) × (own_steps (known third) ≡ []) × (own_steps (known fourth) ≡ []) }
-            ensures { IfOk result.0 (λ t. IsSamePass third t.pass × HasItsAnswers t) × IfOk result.1 (λ t. IsSamePass fourth t.pass × HasItsAnswers t) }
+            ensures { IfOk result.0 (λ t. IsSamePass third t.pass × HasItsAnswers t × MadeTurns times t) × IfOk result.1 (λ t. IsSamePass fourth t.pass × HasItsAnswers t × MadeTurns times t) }
         { count_two(rt, shared, third, fourth, times, alloc) },
     );
     let mut all = first?;

@@ -1,4 +1,4 @@
-use Rattle.std.proofs.Common.{◌∷◌, [], ◌+◌, arith, length-append}
+use Rattle.std.proofs.Common.{◌∷◌, [], arith, length-append}
 use Rattle.counter_lock.proofs.Counts.{CountsFrom-snoc}
 use Rattle.counter_lock.proofs.kept.CountUpSteppingCounter.apply.Goals as goal
 
