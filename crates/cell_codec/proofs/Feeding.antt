@@ -47,15 +47,15 @@ pub refused_again : (u : Unread) (s : Stage) (rest piece : List ℕ) (circ comma
     → IsSettled s rest → refusal (with_piece u piece) ≡ Some (circ, command)
 unfolding refusal
 refused_again u s rest piece circ command e r settled =
-    let kept : IsSettled (Refused circ command) rest = subst (λ t. IsSettled t rest) r settled in
-    rw (e, r) (wrong_start-append (start_bytes circ command) piece (lit≤ tt) ∙ kept.1)
+    let still : IsSettled (Refused circ command) rest = subst (λ t. IsSettled t rest) r settled in
+    rw (e, r) (wrong_start-append (start_bytes circ command) piece (lit≤ tt) ∙ still.1)
 
 pub refused_left : (u : Unread) (s : Stage) (rest piece : List ℕ) (circ command : ℕ) → u ≡ unread_of s rest → s ≡ Refused circ command
     → IsSettled s rest → u ≡ (reading (with_piece u piece)).left
 unfolding reading
 refused_left u s rest piece circ command e r settled =
-    let kept : IsSettled (Refused circ command) rest = subst (λ t. IsSettled t rest) r settled in
-    let wrong = wrong_start-append (start_bytes circ command) piece (lit≤ tt) ∙ kept.1 in
+    let still : IsSettled (Refused circ command) rest = subst (λ t. IsSettled t rest) r settled in
+    let wrong = wrong_start-append (start_bytes circ command) piece (lit≤ tt) ∙ still.1 in
     rw (e, r) (sym (ap (λ l. l.left) (first_reading-wrong (start_bytes circ command ++ piece) _ wrong)))
 
 pub opening_left : (a left : List ℕ) → wrong_start a ≡ None → first_at a ≡ None → left ≡ a

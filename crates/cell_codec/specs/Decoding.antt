@@ -1,5 +1,5 @@
 -- What a decoder keeps, and what it answers, in the words of a link's reading.
-use Rattle.std.specs.Prelude.{ℕ, ◌≡◌, ◌≢◌, [], ◌∷◌, ◌++◌, List, map, All, true, false, Some, None}
+use Rattle.std.specs.Prelude.{ℕ, ◌≡◌, ◌≢◌, ◌-◌, ◌≤◌, [], ◌∷◌, ◌++◌, List, length, take, drop, map, All, true, false, Some, None}
 use Rattle.std.specs.Int.{w16, to_be_bytes}
 use Rattle.tor_spec.specs.CellReading.{Unread, Reading, cell_at, first_at, wrong_start, refusal}
 use Rattle.cell_codec.specs.declared.cell.Cell.{Cell}
@@ -12,9 +12,16 @@ use Rattle.cell_codec.specs.Cells.{wire_cell, IsWellFormed}
 -- These are the cells of the reading, and these bytes, in which no cell has ended, are left.
 pub record Reads (r : Reading) (cells : List Cell) (left : List ℕ) : Type 0 where
   pub read : map wire_cell cells ≡ r.cells
-  pub behind : r.left ≡ record { opening = false; bytes = left }
+  pub tail : r.left ≡ record { opening = false; bytes = left }
   pub settled : cell_at left ≡ None
   pub well_formed : All IsWellFormed cells
+
+-- How a cell of n bytes, that began in rest and ends in piece, is cut off: its last bytes, and the tail.
+pub record Cut (rest piece last tail : List ℕ) (n : ℕ) : Type 0 where
+  pub begun : length rest ≤ n
+  pub ended : n ≤ length (rest ++ piece)
+  pub front : last ≡ take (n - length rest) piece
+  pub back : tail ≡ drop (n - length rest) piece
 
 -- A refused link keeps the three bytes that show why.
 abbrev pub unread_of : Stage → List ℕ → Unread

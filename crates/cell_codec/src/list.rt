@@ -7,7 +7,7 @@ use std::marker::Model;
 /// A list. Contracts see the items and how many places are spare.
 #[derive(Drop)]
 pub struct List<T> {
-    items: Vec<T>,
+    pub(crate) items: Vec<T>,
 }
 
 impl<T> Model for List<T> {

@@ -1,5 +1,8 @@
 ghost use Rattle.std.specs.Prelude.{◌≡◌, ℕ, ◌+◌, ◌-◌, ◌<◌, ◌≤◌, [], ◌∷◌, ◌++◌, length, OnOk, OnErr, IfOk, IsOk, IfSome, IfNone, IsTrue, ◌↔◌, vec_len, vec_capacity};
+ghost use Rattle.std.specs.Fn.{CalledAt};
+ghost use Rattle.std.specs.List.Retain.{IsFiltered};
 ghost use Rattle.std.specs.Slice.{IsItemAt};
+ghost use Rattle.cell_codec.specs.Roomy.{capacity};
 
 use std::alloc::{AllocError, Global};
 use std::collections::VecDeque;
@@ -88,6 +91,18 @@ impl<T> Queue<T> {
         ensures none { IfNone result ((self.old.items ≡ []) × (self.new ≡ self.old)) }
     {
         self.items.pop_front()
+    }
+
+    /// Keeps only the items for which `is_wanted` answers true, in their order. The places of the others
+    /// are spare then.
+    pub fn retain<F: FnMut(&T) -> bool>(&mut self, is_wanted: F)
+    where
+        T: Drop,
+        requires { F.IsAlwaysCallable is_wanted }
+        ensures filtered { IsFiltered (CalledAt F.FnMut) is_wanted self.old.items self.new.items }
+        ensures capacity { capacity self.new ≡ capacity self.old }
+    {
+        self.items.retain(is_wanted);
     }
 
     /// The first item.

@@ -1,7 +1,7 @@
-ghost use Rattle.std.specs.Prelude.{◌≡◌, ◌++◌, [], length, map, IfOk, IfSome, IfNone, OnOk, OnErr, MatchOption, ◌<◌, Some, None, All, true, false, if◌then◌else◌};
+ghost use Rattle.std.specs.Prelude.{◌≡◌, ◌++◌, ◌≤◌, [], length, map, IfOk, IfSome, IfNone, OnOk, OnErr, MatchOption, ◌<◌, Some, None, All, true, false, if◌then◌else◌};
 ghost use Rattle.tor_spec.specs.CellReading.{cell_size, cell_of, cell_at, first_at, wrong_start, with_cell, later_reading, first_reading};
 ghost use Rattle.cell_codec.specs.Cells.{wire_cell, IsWellFormed};
-ghost use Rattle.cell_codec.specs.Decoding.{Reads};
+ghost use Rattle.cell_codec.specs.Decoding.{Reads, Cut};
 
 use crate::cell::Cell;
 use crate::list::List;
@@ -35,15 +35,15 @@ fn read_cells<'a>(
     ensures well_formed { All IsWellFormed cells.old.items → All IsWellFormed cells.new.items }
 {
     let mut left = bytes;
-    while let Some((cell, behind)) = split_cell(left) {
+    while let Some((cell, tail)) = split_cell(left) {
         cells.push(read_cell(alloc, cell)?)?;
-        left = behind;
+        left = tail;
     }
     Ok(left)
 }
 
 /// `rest` and then `piece`.
-fn joined(alloc: Global, rest: &[u8], piece: &[u8]) -> Result<Vec<u8>, AllocError>
+fn concat(alloc: Global, rest: &[u8], piece: &[u8]) -> Result<Vec<u8>, AllocError>
     ensures { IfOk result (λ v. v.items ≡ rest.now ++ piece.now) }
 {
     let mut bytes = Vec::with_capacity(alloc, rest.len() + piece.len())?;
@@ -61,19 +61,29 @@ fn finish_cell(alloc: Global, rest: &[u8], last: &[u8]) -> Result<Cell, AllocErr
     if rest.is_empty() {
         return read_cell(alloc, last);
     }
-    let bytes = joined(alloc, rest, last)?;
+    let bytes = concat(alloc, rest, last)?;
     read_cell(alloc, bytes.as_slice())
 }
 
-/// This cell and those that end in `behind`, and the bytes behind them all.
-fn read_behind(alloc: Global, first: Cell, behind: &[u8]) -> Result<(List<Cell>, &[u8]), AllocError>
+/// This cell and those that end in `tail`, and the bytes behind them all.
+fn read_behind(alloc: Global, first: Cell, tail: &[u8]) -> Result<(List<Cell>, &[u8]), AllocError>
     requires { IsWellFormed first }
-    ensures { IfOk result (λ x. Reads (with_cell (wire_cell first) (later_reading behind.now)) x.0.items x.1.now) }
+    ensures { IfOk result (λ x. Reads (with_cell (wire_cell first) (later_reading tail.now)) x.0.items x.1.now) }
 {
     let mut cells = List::new(alloc);
     cells.push(first)?;
-    let left = read_cells(alloc, behind, &mut cells)?;
+    let left = read_cells(alloc, tail, &mut cells)?;
     Ok((cells, left))
+}
+
+/// The last bytes, which stand in `piece`, of a cell of `size` bytes that began in `rest`, and those
+/// behind it.
+fn cut_off<'a>(rest: &[u8], piece: &'a [u8], size: usize) -> (&'a [u8], &'a [u8])
+    requires begun { length rest.now ≤ size }
+    requires ended { size ≤ length (rest.now ++ piece.now) }
+    ensures { Cut rest.now piece.now result.0.now result.1.now size }
+{
+    piece.split_at(size - rest.len())
 }
 
 /// What `piece` adds to an open link that has `rest` unread: the cells that end in it and the
@@ -92,9 +102,9 @@ pub fn read_open<'a>(
     if rest.len() + piece.len() < size {
         return Ok(None);
     }
-    let (last, behind) = piece.split_at(size - rest.len());
+    let (last, tail) = cut_off(rest, piece, size);
     let first = finish_cell(alloc, rest, last)?;
-    Ok(Some(read_behind(alloc, first, behind)?))
+    Ok(Some(read_behind(alloc, first, tail)?))
 }
 
 /// The same for a link whose first cell hasn't ended.
@@ -113,22 +123,22 @@ pub fn read_opening<'a>(
     if rest.len() + piece.len() < size {
         return Ok(None);
     }
-    let (last, behind) = piece.split_at(size - rest.len());
-    let bytes = joined(alloc, rest, last)?;
+    let (last, tail) = cut_off(rest, piece, size);
+    let bytes = concat(alloc, rest, last)?;
     let first = read_first(alloc, bytes.as_slice())?;
-    Ok(Some(read_behind(alloc, first, behind)?))
+    Ok(Some(read_behind(alloc, first, tail)?))
 }
 
 /// Puts `left` in the place of what is kept.
-fn replace(kept: &mut Vec<u8>, left: &[u8]) -> Result<(), AllocError>
-    ensures ok { OnOk result (kept.new.items ≡ left.now) }
-    ensures err { OnErr result (kept.new.items ≡ kept.old.items) }
+fn replace(store: &mut Vec<u8>, left: &[u8]) -> Result<(), AllocError>
+    ensures ok { OnOk result (store.new.items ≡ left.now) }
+    ensures err { OnErr result (store.new.items ≡ store.old.items) }
 {
-    if left.len() > kept.len() {
-        kept.reserve(left.len() - kept.len())?;
+    if left.len() > store.len() {
+        store.reserve(left.len() - store.len())?;
     }
-    kept.clear();
-    kept.extend_from_slice(left)
+    store.clear();
+    store.extend_from_slice(left)
 }
 
 /// Reads a further piece of an open link, of which `rest` is unread.

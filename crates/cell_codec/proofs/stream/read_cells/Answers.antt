@@ -9,7 +9,7 @@ use Rattle.cell_codec.proofs.stream.read_cells.Goals as goal
 
 pub loop-cell-preserved : goal.loop-cell-preserved
 loop-cell-preserved c =
-    let e : cell_at c.loop-cell.left.now ≡ Some (cell_of c.in-Some.cell.now, c.in-Some.behind.now) = c.in-Some.ensures.at in
+    let e : cell_at c.loop-cell.left.now ≡ Some (cell_of c.in-Some.cell.now, c.in-Some.tail.now) = c.in-Some.ensures.at in
     let step = later_reading-some _ _ e in
     record {
       cells = collects wire_cell _ _ _ _ _ _ c.in_ok-push.ensures.ok c.in_ok-read_cell.ensures.cell (rw step at c.loop-cell.invariant.cells);

@@ -2,7 +2,7 @@ use Rattle.std.proofs.Common.{sym, arith, subst, length-append}
 use Rattle.tor_spec.specs.CellReading.{Reading}
 use Rattle.tor_spec.proofs.CellCuts.{cell_untold, cell_unfinished, size_beyond}
 use Rattle.cell_codec.specs.Decoding.{Reads}
-use Rattle.cell_codec.proofs.Readings.{Cut, cut_size, cut_reading}
+use Rattle.cell_codec.proofs.Readings.{cut_size, cut_reading}
 use Rattle.cell_codec.proofs.stream.read_open.Goals as goal
 
 pub returns-in_default : goal.returns-in_default
@@ -11,26 +11,17 @@ returns-in_default c = cell_untold _ (sym c.in_default.ensures)
 pub returns-then-rest-piece : goal.returns-then-rest-piece
 returns-then-rest-piece c = cell_unfinished _ _ (sym c.in-Some.ensures) (simp length-append (omega arith))
 
-pub overflow_sub-size : goal.overflow_sub-size
-overflow_sub-size c = size_beyond _ _ _ c.requires (sym c.in-Some.ensures)
+pub cut_off-requires-clause-begun : goal.cut_off-requires-clause-begun
+cut_off-requires-clause-begun c = size_beyond _ _ _ c.requires (sym c.in-Some.ensures)
+
+pub cut_off-requires-clause-ended : goal.cut_off-requires-clause-ended
+cut_off-requires-clause-ended c = simp length-append (omega arith)
 
 pub finish_cell-requires : goal.finish_cell-requires
 finish_cell-requires c =
-    let cut : Cut c.args.rest.now c.args.piece.now c.split_at.result.0.now c.split_at.result.1.now c.in-Some.size = record {
-      begun = size_beyond _ _ _ c.requires (sym c.in-Some.ensures);
-      ended = simp length-append (omega arith);
-      front = c.split_at.ensures.front;
-      back = c.split_at.ensures.back;
-    } in
-    cut_size _ _ _ _ _ cut (sym c.in-Some.ensures)
+    cut_size _ _ _ _ _ c.cut_off.ensures (sym c.in-Some.ensures)
 
 pub returns : goal.returns
 returns c =
-    let cut : Cut c.args.rest.now c.args.piece.now c.split_at.result.0.now c.split_at.result.1.now c.in-Some.size = record {
-      begun = size_beyond _ _ _ c.requires (sym c.in-Some.ensures);
-      ended = simp length-append (omega arith);
-      front = c.split_at.ensures.front;
-      back = c.split_at.ensures.back;
-    } in
     subst (λ (r : Reading). Reads r c.in_ok-read_behind.field-0.0.items c.in_ok-read_behind.field-0.1.now)
-    (cut_reading _ _ _ _ _ _ cut (sym c.in-Some.ensures) c.in_ok-first.ensures.cell) c.in_ok-read_behind.ensures
+    (cut_reading _ _ _ _ _ _ c.cut_off.ensures (sym c.in-Some.ensures) c.in_ok-first.ensures.cell) c.in_ok-read_behind.ensures

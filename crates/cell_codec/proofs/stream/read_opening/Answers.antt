@@ -2,7 +2,7 @@ use Rattle.std.proofs.Common.{sym, ◌∙◌, ap, arith, subst, length-append}
 use Rattle.tor_spec.specs.CellReading.{first_of, Reading}
 use Rattle.tor_spec.proofs.CellCuts.{first_untold, first_unfinished, first_size_beyond}
 use Rattle.cell_codec.specs.Decoding.{Reads}
-use Rattle.cell_codec.proofs.Readings.{Cut, first_cut_size, first_cut_reading, cut_start}
+use Rattle.cell_codec.proofs.Readings.{first_cut_size, first_cut_reading, cut_start}
 use Rattle.cell_codec.proofs.stream.read_opening.Goals as goal
 
 pub returns-in_default : goal.returns-in_default
@@ -11,38 +11,23 @@ returns-in_default c = first_untold _ (sym c.in_default.ensures)
 pub returns-then-rest-piece : goal.returns-then-rest-piece
 returns-then-rest-piece c = first_unfinished _ _ (sym c.in-Some.ensures) (simp length-append (omega arith))
 
-pub overflow_sub-size : goal.overflow_sub-size
-overflow_sub-size c = first_size_beyond _ _ _ c.requires.first (sym c.in-Some.ensures)
+pub cut_off-requires-clause-begun : goal.cut_off-requires-clause-begun
+cut_off-requires-clause-begun c = first_size_beyond _ _ _ c.requires.first (sym c.in-Some.ensures)
+
+pub cut_off-requires-clause-ended : goal.cut_off-requires-clause-ended
+cut_off-requires-clause-ended c = simp length-append (omega arith)
 
 pub read_first-requires-clause-size : goal.read_first-requires-clause-size
 read_first-requires-clause-size c =
-    let cut : Cut c.args.rest.now c.args.piece.now c.split_at.result.0.now c.split_at.result.1.now c.in-Some.size = record {
-      begun = first_size_beyond _ _ _ c.requires.first (sym c.in-Some.ensures);
-      ended = simp length-append (omega arith);
-      front = c.split_at.ensures.front;
-      back = c.split_at.ensures.back;
-    } in
-    rw (c.as_slice.ensures.value, c.in_ok-bytes.ensures) (first_cut_size _ _ _ _ _ cut (sym c.in-Some.ensures))
+    rw (c.as_slice.ensures.value, c.in_ok-bytes.ensures) (first_cut_size _ _ _ _ _ c.cut_off.ensures (sym c.in-Some.ensures))
 
 pub read_first-requires-clause-start : goal.read_first-requires-clause-start
 read_first-requires-clause-start c =
-    let cut : Cut c.args.rest.now c.args.piece.now c.split_at.result.0.now c.split_at.result.1.now c.in-Some.size = record {
-      begun = first_size_beyond _ _ _ c.requires.first (sym c.in-Some.ensures);
-      ended = simp length-append (omega arith);
-      front = c.split_at.ensures.front;
-      back = c.split_at.ensures.back;
-    } in
-    rw (c.as_slice.ensures.value, c.in_ok-bytes.ensures) (cut_start _ _ _ _ _ cut (sym c.in-Some.ensures) c.requires.start)
+    rw (c.as_slice.ensures.value, c.in_ok-bytes.ensures) (cut_start _ _ _ _ _ c.cut_off.ensures (sym c.in-Some.ensures) c.requires.start)
 
 pub returns : goal.returns
 returns c =
-    let cut : Cut c.args.rest.now c.args.piece.now c.split_at.result.0.now c.split_at.result.1.now c.in-Some.size = record {
-      begun = first_size_beyond _ _ _ c.requires.first (sym c.in-Some.ensures);
-      ended = simp length-append (omega arith);
-      front = c.split_at.ensures.front;
-      back = c.split_at.ensures.back;
-    } in
     let bytes = c.as_slice.ensures.value ∙ c.in_ok-bytes.ensures in
     subst (λ (r : Reading). Reads r c.in_ok-read_behind.field-0.0.items c.in_ok-read_behind.field-0.1.now)
-    (first_cut_reading _ _ _ _ _ _ cut (sym c.in-Some.ensures) c.requires.start (c.in_ok-first.ensures.cell ∙ ap first_of bytes))
+    (first_cut_reading _ _ _ _ _ _ c.cut_off.ensures (sym c.in-Some.ensures) c.requires.start (c.in_ok-first.ensures.cell ∙ ap first_of bytes))
     c.in_ok-read_behind.ensures

@@ -37,7 +37,7 @@ returns-in_ok-feed_open-in-Open-clause-accepted c = open_accepted _ _ _ _ (sym c
 
 pub returns-in_ok-feed_open-in-Open-clause-unread : goal.returns-in_ok-feed_open-in-Open-clause-unread
 returns-in_ok-feed_open-in-Open-clause-unread c = λ _.
-    ap (λ s. unread_of s c.feed_open.new.rest.items) c.in-Open.is ∙ sym c.in_ok-feed_open-in-Open.ensures.ok.behind
+    ap (λ s. unread_of s c.feed_open.new.rest.items) c.in-Open.is ∙ sym c.in_ok-feed_open-in-Open.ensures.ok.tail
     ∙ sym (ap (λ r. r.left) (open_reading _ _ _ _ (sym c.self.view_is) c.in-Open.is))
 
 pub returns-in-Some-2-clause-cells : goal.returns-in-Some-2-clause-cells
@@ -54,7 +54,7 @@ pub returns-in-Some-2-clause-unread : goal.returns-in-Some-2-clause-unread
 returns-in-Some-2-clause-unread c = λ _.
     let reads : Reads (first_reading (c.self.inside.rest.items ++ c.args.piece.now)) c.in-Some-2.cells.items c.feed_opening.new.rest.items =
     rw c.in-Some-2.is at c.in_ok-cells-in-Opening.ensures.opened in
-    sym reads.behind ∙ sym (ap (λ r. r.left) (opening_reading _ _ _ _ (sym c.self.view_is) c.in-Opening.is))
+    sym reads.tail ∙ sym (ap (λ r. r.left) (opening_reading _ _ _ _ (sym c.self.view_is) c.in-Opening.is))
 
 pub returns-in-None-clause-cells : goal.returns-in-None-clause-cells
 returns-in-None-clause-cells c =
