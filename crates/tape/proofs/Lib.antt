@@ -1,6 +1,5 @@
 pub mod Openings
 pub mod InputLaws
-pub mod OutputLaws
 pub mod Words
 pub mod Replies
 pub mod Tapes

@@ -15,7 +15,7 @@ use Rattle.tape.specs.Records.{front_of}
 use Rattle.tape.specs.TapeRules.{rules_and, rules_ahead}
 use Rattle.tape.specs.Steps.{tape_start, steps_of, IsRecords, output}
 use Rattle.tape.specs.Input.{EndCause, IsRead, NothingLeft, IsTape}
-use Rattle.tape.specs.Output.{IsWritten}
+use Rattle.tr_io.specs.Output.{IsWritten}
 use Rattle.tape.proofs.Tapes.{front_of_output}
 use Rattle.tape.specs.Runs.{status_by, status_at, Reads, Writes, BeginsNone, SameReading, IsOnlyReading, IsFrontOfOutput, FirstRecords, Played, NotBegun, EndsPlay, IsRun, IsDone, IsGood, rules_status}
 

@@ -17,7 +17,7 @@ use Rattle.tape.specs.Kinds.OpenCircuit.{open_circuit_front, padded_circuit_fron
 use Rattle.tape.specs.Kinds.NextCell.{next_cell_front}
 use Rattle.tor_spec.specs.CellStream.{IsBytes}
 use Rattle.tape.specs.declared.record.Front.{Front}
-use Rattle.tape.proofs.OutputLaws.{take_all}
+use Rattle.tr_io.proofs.OutputLaws.{take_all}
 use Rattle.tape.specs.Kinds.OpenCircuit.{command_byte, opening_kind, pad_bytes}
 use Rattle.tape.specs.Spelling.{spelling}
 

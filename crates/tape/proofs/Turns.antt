@@ -17,10 +17,10 @@ use Rattle.tape.specs.Fronts.{record_and, less, no_record, unbuilt}
 use Rattle.tape.specs.Records.{front_of}
 use Rattle.tape.specs.TapeRules.{rules_and, less_than_rules, no_rules, rules_ahead}
 use Rattle.tape.specs.Steps.{tape_start, answer_of, steps_behind, answers_behind, steps_of, output, IsRecords}
-use Rattle.tape.specs.Output.{IsWritten, IsPartWritten}
+use Rattle.tr_io.specs.Output.{IsWritten, IsPartWritten}
 use Rattle.tape.specs.Runs.{cut_status, status_by, status_at, rules_status, Writes, IsFlushed, FirstRecords, EndsPlay}
 use Rattle.tape.specs.Playing.{PlaysOn, HandedOn, Gathered, Stopped, Broken}
-use Rattle.tape.proofs.OutputLaws.{starts_empty, whole_behind, part_behind}
+use Rattle.tr_io.proofs.OutputLaws.{starts_empty, whole_behind, part_behind}
 use Rattle.tape.proofs.Readings.{status_stops, only_reading, first_records}
 use Rattle.tape.proofs.Tapes.{records_more, steps_more, answers_more}
 

@@ -3,7 +3,6 @@ pub mod Kinds
 pub mod Records
 pub mod TapeRules
 pub mod Input
-pub mod Output
 pub mod Causes
 pub mod Steps
 pub mod Runs

@@ -10,7 +10,7 @@ use Rattle.switch_machine.specs.Stands.{Stands}
 use Rattle.tape.specs.declared.input.Ending.{Ending}
 use Rattle.tape.specs.declared.record.Record.{Record}
 use Rattle.tape.specs.Steps.{tape_start, step_of, steps_of, answer_of, output, IsRecords}
-use Rattle.tape.specs.Output.{IsWritten, IsPartWritten}
+use Rattle.tr_io.specs.Output.{IsWritten, IsPartWritten}
 use Rattle.tape.specs.Runs.{status_at}
 
 -- Whatever history the switch stood for, it stands for it with the record's step, whose answer is

@@ -21,7 +21,7 @@ use Rattle.switch_machine.specs.State.{State}
 use Rattle.tape.specs.TapeRules.{RulesFrontOf, rules_and, less_than_rules, no_rules, rules_ahead}
 use Rattle.tape.specs.Steps.{tape_start, steps_of, IsRecords, output}
 use Rattle.tape.specs.Input.{tape_limit, EndCause, IsRead, IsTape}
-use Rattle.tape.specs.Output.{IsWritten, IsPartWritten}
+use Rattle.tr_io.specs.Output.{IsWritten, IsPartWritten}
 
 -- What a source tells of its bytes and faults, before and after a run.
 pub record Reads : Type 0 where

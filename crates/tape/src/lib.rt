@@ -2,14 +2,13 @@
 //! (docs/FORMATS.md).
 //!
 //! `input` reads the tape's bytes, `rules_reader` reads the rules in front of them, `reader` the records;
-//! `player` makes their calls, `output` writes the answers, and `run` goes from the first to the last. What
+//! `player` makes their calls, and `run` writes the answers and goes from the first to the last. What
 //! one kind of record has for itself, its fields and its answer, stands in a file of `kinds`.
 #![tactic(auto)]
 
 mod field;
 pub mod input;
 pub mod kinds;
-pub mod output;
 mod player;
 mod reader;
 pub mod record;
@@ -19,5 +18,4 @@ mod run;
 #[cfg(test)]
 mod tests;
 
-pub use output::write_all;
 pub use run::tape_main;

@@ -4,7 +4,7 @@ use Rattle.tr_io.specs.declared.status.Status.{Status}
 use Rattle.tr_io.specs.declared.status.Status.TheVariants.{Done, Usage, Settings, ReadFault, WriteFault, BadTape, NotBuilt, TooLong, DoorFault, CrewFault, Memory, LinkRefused, CircuitClosed, StreamEnded}
 use Rattle.tor_relay.specs.Program.{message, end_message, IsSaid}
 use Rattle.tape.specs.Runs.{Writes, writes}
-use Rattle.tape.proofs.OutputLaws.{starts_empty}
+use Rattle.tr_io.proofs.OutputLaws.{starts_empty}
 
 -- What is said where not all was done.
 said_of : (status : Status) → (status ≡ Done → ⊥) → message status ≡ end_message status

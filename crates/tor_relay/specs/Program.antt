@@ -7,7 +7,7 @@ use Rattle.tr_io.specs.Faults.{Rose}
 use Rattle.tr_io.specs.Statuses.{status_number, status_text}
 use Rattle.tape.specs.declared.record.Record.{Record}
 use Rattle.tape.specs.Causes.{is_tape_line, IsRunStatus}
-use Rattle.tape.specs.Output.{IsWritten, IsPartWritten}
+use Rattle.tr_io.specs.Output.{IsWritten, IsPartWritten}
 use Rattle.tape.specs.Runs.{Reads, Writes, IsRun, IsGood, IsDone}
 
 -- The command lines, which are said behind `usage`.

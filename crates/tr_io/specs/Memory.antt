@@ -19,7 +19,7 @@ pub record SourceState : Type 0 where
 -- calls that fail, how many were made, and how many failed.
 pub record SinkState : Type 0 where
   pub written : List ℕ
-  pub flushed : ℕ
+  pub flushed_count : ℕ
   pub most : ℕ
   pub failing : List ℕ
   pub calls : ℕ

@@ -10,6 +10,7 @@ pub mod edges;
 mod failing_calls;
 pub mod memory;
 pub mod names;
+pub mod output;
 pub mod phrase;
 pub mod sink;
 pub mod source;

@@ -82,7 +82,7 @@ impl Source for MemorySource {
 #[derive(Drop)]
 pub struct MemorySink {
     bytes: Vec<u8>,
-    flushed: usize,
+    flushed_count: usize,
     most: usize,
     calls: FailingCalls,
 }
@@ -93,9 +93,9 @@ impl Model for MemorySink {
 
     ghost Value = { SinkState };
 
-    ghost view = { λ s. record { written = s.bytes.items; flushed = s.flushed; most = s.most; failing = s.calls.failing.items; calls = s.calls.next; faults = s.calls.faults } };
+    ghost view = { λ s. record { written = s.bytes.items; flushed_count = s.flushed_count; most = s.most; failing = s.calls.failing.items; calls = s.calls.next; faults = s.calls.faults } };
 
-    ghost invariant = { λ s. (s.flushed ≤ length s.bytes.items) × (1 ≤ s.most) };
+    ghost invariant = { λ s. (s.flushed_count ≤ length s.bytes.items) × (1 ≤ s.most) };
 }
 
 impl MemorySink {
@@ -104,11 +104,11 @@ impl MemorySink {
     /// counted. It fails, too, where memory for the bytes is wanting.
     pub fn new(alloc: Global, most: usize, failing: Vec<u64>) -> MemorySink
         requires { 1 ≤ most }
-        ensures { result ≡ record { written = []; flushed = 0; most = most; failing = failing.items; calls = 0; faults = 0 } }
+        ensures { result ≡ record { written = []; flushed_count = 0; most = most; failing = failing.items; calls = 0; faults = 0 } }
     {
         MemorySink {
             bytes: Vec::new(alloc),
-            flushed: 0,
+            flushed_count: 0,
             most,
             calls: FailingCalls::new(failing),
         }
@@ -123,16 +123,16 @@ impl MemorySink {
 
     /// The bytes flushed so far.
     pub fn flushed(&self) -> &[u8]
-        ensures { result.now ≡ take self.now.flushed self.now.written }
+        ensures { result.now ≡ take self.now.flushed_count self.now.written }
     {
-        &self.bytes[..self.flushed]
+        &self.bytes[..self.flushed_count]
     }
 }
 
 impl Sink for MemorySink {
     ghost written = { λ s. Some s.written };
 
-    ghost flushed = { λ s. Some (take s.flushed s.written) };
+    ghost flushed = { λ s. Some (take s.flushed_count s.written) };
 
     ghost faults = { λ s. s.faults };
 
@@ -140,13 +140,13 @@ impl Sink for MemorySink {
         ensures within { TookWithin result piece.now }
         ensures empty { piece.now ≡ [] → result ≡ WriteAnswer.Took 0 }
         ensures bytes { WritesTo (Some self.old.written) result piece.now (Some self.new.written) }
-        ensures flushed { KeepsFlushed (Some (take self.old.flushed self.old.written)) (Some (take self.new.flushed self.new.written)) }
+        ensures flushed { KeepsFlushed (Some (take self.old.flushed_count self.old.written)) (Some (take self.new.flushed_count self.new.written)) }
         ensures counted { self.old.faults ≤ self.new.faults }
         ensures cause { result ≡ WriteAnswer.Failed → Rose self.old.faults self.new.faults }
         ensures steady { result ≢ WriteAnswer.Failed → self.new.faults ≡ self.old.faults }
         ensures listed { piece.now ≢ [] → IsTrue (is_listed self.old.failing self.old.calls) → result ≡ WriteAnswer.Failed }
         ensures took { result ≢ WriteAnswer.Failed → result ≡ WriteAnswer.Took (min (length piece.now) self.old.most) }
-        ensures kept { self.new.flushed ≡ self.old.flushed }
+        ensures kept { self.new.flushed_count ≡ self.old.flushed_count }
         ensures calls { self.new.calls ≡ calls_after_write self.old.calls piece.now }
         ensures failing { self.new.failing ≡ self.old.failing }
         ensures most { self.new.most ≡ self.old.most }
@@ -168,8 +168,8 @@ impl Sink for MemorySink {
     fn flush(&mut self) -> WriteAnswer
         ensures within { TookWithin result [] }
         ensures bytes { WritesTo (Some self.old.written) result [] (Some self.new.written) }
-        ensures flushed { KeepsFlushed (Some (take self.old.flushed self.old.written)) (Some (take self.new.flushed self.new.written)) }
-        ensures all { FlushesAll result (Some self.new.written) (Some (take self.new.flushed self.new.written)) }
+        ensures flushed { KeepsFlushed (Some (take self.old.flushed_count self.old.written)) (Some (take self.new.flushed_count self.new.written)) }
+        ensures all { FlushesAll result (Some self.new.written) (Some (take self.new.flushed_count self.new.written)) }
         ensures counted { self.old.faults ≤ self.new.faults }
         ensures cause { result ≡ WriteAnswer.Failed → Rose self.old.faults self.new.faults }
         ensures steady { result ≢ WriteAnswer.Failed → self.new.faults ≡ self.old.faults }
@@ -182,7 +182,7 @@ impl Sink for MemorySink {
         if self.calls.fails() {
             return WriteAnswer::Failed;
         }
-        self.flushed = self.bytes.as_slice().len();
+        self.flushed_count = self.bytes.as_slice().len();
         WriteAnswer::Took(0)
     }
 }

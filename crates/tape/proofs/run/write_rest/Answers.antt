@@ -1,6 +1,6 @@
 use Rattle.std.proofs.Common.{subst, sym}
-use Rattle.tape.specs.Output.{IsPartWritten}
-use Rattle.tape.proofs.OutputLaws.{all_written}
+use Rattle.tr_io.specs.Output.{IsPartWritten}
+use Rattle.tr_io.proofs.OutputLaws.{all_written}
 use Rattle.tape.proofs.Plays.{on_err}
 use Rattle.tape.proofs.run.write_rest.Goals as goal
 

@@ -1,11 +1,11 @@
-//! Writes whole pieces to a sink.
+//! Writes whole pieces to a sink, and has it flush them.
 ghost use Rattle.std.specs.Prelude.{◌≡◌, ◌≤◌, OnOk, OnErr};
 ghost use Rattle.tr_io.specs.Faults.{Rose};
-ghost use Rattle.tape.specs.Output.{IsWritten, IsPartWritten};
+ghost use Rattle.tr_io.specs.Output.{IsWritten, IsPartWritten};
 
-use tr_io::sink::{Sink, WriteAnswer};
+use crate::sink::{Sink, WriteAnswer};
 
-/// A sink failed.
+/// A sink failed, and its count of faults rose.
 #[derive(Clone, Copy)]
 pub struct WriteFault;
 
@@ -27,7 +27,7 @@ pub fn write_all<K: Sink>(piece: &[u8], sink: &mut K) -> Result<(), WriteFault>
     Ok(())
 }
 
-/// Has the sink flush what it took.
+/// Has the sink flush all that it took. Where it fails, what was flushed isn't told.
 pub fn flush<K: Sink>(sink: &mut K) -> Result<(), WriteFault>
     ensures written { K.written sink.new ≡ K.written sink.old }
     ensures flushed { OnOk result (K.flushed sink.new ≡ K.written sink.new) }

@@ -4,7 +4,7 @@ use Rattle.std.proofs.lemmas.List.{append-nil, nil_from_length, take-append-drop
 use Rattle.std.proofs.Math.Seq.{take-add, take-append-add, take-length}
 use Rattle.tr_io.specs.Sinks.{WritesTo}
 use Rattle.tr_io.specs.declared.sink.WriteAnswer.TheVariants.{Took}
-use Rattle.tape.specs.Output.{IsWritten, IsPartWritten}
+use Rattle.tr_io.specs.Output.{IsWritten, IsPartWritten}
 
 -- What holds at each turn: the first `count` bytes of the piece are written, and the rest are left.
 pub record Writing (before now : Option (List ℕ)) (faults_before faults_now : ℕ) (piece left : List ℕ) : Type 0 where
@@ -17,11 +17,11 @@ pub record Writing (before now : Option (List ℕ)) (faults_before faults_now : 
 -- nothing is written at first
 pub starts : (before : Option (List ℕ)) (piece : List ℕ) → IsWritten before (take 0 piece) before
 starts None piece = refl
-starts (Some held) piece = ap Some (sym (append-nil held))
+starts (Some bytes) piece = ap Some (sym (append-nil bytes))
 
 pub starts_empty : (before : Option (List ℕ)) → IsWritten before [] before
 starts_empty None = refl
-starts_empty (Some held) = ap Some (sym (append-nil held))
+starts_empty (Some bytes) = ap Some (sym (append-nil bytes))
 
 -- all is written at last
 pub ends : (before now : Option (List ℕ)) (piece left : List ℕ) (count : ℕ) → left ≡ drop count piece → length left ≡ 0 → IsWritten before (take count piece) now → IsWritten before piece now
@@ -32,12 +32,12 @@ ends before now piece left count rest none written =
 -- n bytes more were written
 pub write_more : (before now after : Option (List ℕ)) (piece left : List ℕ) (count n : ℕ) → left ≡ drop count piece → IsWritten before (take count piece) now → WritesTo now (Took n) left after → IsWritten before (take (count + n) piece) after
 write_more None now after piece left count n rest written writes = subst (λ o. WritesTo o (Took n) left after) written writes
-write_more (Some held) now after piece left count n rest written writes =
-    let at_now : after ≡ Some ((held ++ take count piece) ++ take n left) = subst (λ o. WritesTo o (Took n) left after) written writes in
+write_more (Some bytes) now after piece left count n rest written writes =
+    let at_now : after ≡ Some ((bytes ++ take count piece) ++ take n left) = subst (λ o. WritesTo o (Took n) left after) written writes in
     at_now
-    ∙ ap Some (append_assoc held (take count piece) (take n left)
-    ∙ ap (λ xs. held ++ (take count piece ++ take n xs)) rest
-    ∙ ap (λ xs. held ++ xs) (sym (take-add count n piece)))
+    ∙ ap Some (append_assoc bytes (take count piece) (take n left)
+    ∙ ap (λ xs. bytes ++ (take count piece ++ take n xs)) rest
+    ∙ ap (λ xs. bytes ++ xs) (sym (take-add count n piece)))
 
 pub take_all : (xs : List ℕ) (k : ℕ) → length xs ≡ k → take k xs ≡ xs
 take_all xs k is = ap (λ m. take m xs) (sym is) ∙ take-length xs
@@ -50,22 +50,22 @@ left_more piece left count n rest =
     ∙ drop-drop n count piece
 
 -- A part of nothing, and all of a piece, are parts of it.
-pub none_written : (held : Option (List ℕ)) (piece : List ℕ) → IsPartWritten held piece held
-none_written held piece = (0, starts held piece)
+pub none_written : (before : Option (List ℕ)) (piece : List ℕ) → IsPartWritten before piece before
+none_written before piece = (0, starts before piece)
 
-pub all_written : (held after : Option (List ℕ)) (piece : List ℕ) → IsWritten held piece after → IsPartWritten held piece after
-all_written held after piece written = (length piece, subst (λ xs. IsWritten held xs after) (sym (take-length piece)) written)
+pub all_written : (before after : Option (List ℕ)) (piece : List ℕ) → IsWritten before piece after → IsPartWritten before piece after
+all_written before after piece written = (length piece, subst (λ xs. IsWritten before xs after) (sym (take-length piece)) written)
 
 -- What is written behind a piece that was written.
-pub whole_behind : (held now after : Option (List ℕ)) (piece more out : List ℕ) → IsWritten held piece now → IsWritten now more after → piece ++ more ≡ out → IsWritten held out after
+pub whole_behind : (before now after : Option (List ℕ)) (piece more out : List ℕ) → IsWritten before piece now → IsWritten now more after → piece ++ more ≡ out → IsWritten before out after
 whole_behind None now after piece more out written next is = subst (λ o. IsWritten o more after) written next
 whole_behind (Some told) now after piece more out written next is =
     subst (λ o. IsWritten o more after) written next
     ∙ ap Some (append_assoc told piece more)
     ∙ ap (λ xs. Some (told ++ xs)) is
 
-pub part_behind : (held now after : Option (List ℕ)) (piece more out : List ℕ) → IsWritten held piece now → IsPartWritten now more after → piece ++ more ≡ out → IsPartWritten held out after
-part_behind held now after piece more out written next is =
+pub part_behind : (before now after : Option (List ℕ)) (piece more out : List ℕ) → IsWritten before piece now → IsPartWritten now more after → piece ++ more ≡ out → IsPartWritten before out after
+part_behind before now after piece more out written next is =
     let front : piece ++ take next.0 more ≡ take (length piece + next.0) out =
     sym (take-append-add piece more next.0) ∙ ap (λ xs. take (length piece + next.0) xs) is in
-    (length piece + next.0, whole_behind held now after piece (take next.0 more) _ written next.1 front)
+    (length piece + next.0, whole_behind before now after piece (take next.0 more) _ written next.1 front)

@@ -1,6 +1,6 @@
 use Rattle.std.proofs.Common.{◌≡◌, ◌-◌, ◌+◌, ◌∙◌, ap, length, length-drop, arith}
-use Rattle.tape.proofs.OutputLaws.{write_more, left_more}
-use Rattle.tape.proofs.output.write_all.Goals as goal
+use Rattle.tr_io.proofs.OutputLaws.{write_more, left_more}
+use Rattle.tr_io.proofs.output.write_all.Goals as goal
 
 pub loop-left-preserved : goal.loop-left-preserved
 loop-left-preserved g c =
