@@ -1,19 +1,16 @@
 -- How a map of lists changes, by the look-ups of its entries.
 use Rattle.std.specs.Prelude.{◌≡◌, ◌≢◌, Bool, true, false, cond, List, [], ◌∷◌, Option, Some, None, IsSome, IfSome, IfNone, unwrap_or, slice_get, drop, ◌+◌, refl, Result, Ok, Err}
 use Rattle.std.proofs.Common.{◌∙◌, sym, ap, subst, arith}
-use Rattle.std.proofs.lemmas.Bool.{true≢false}
-use Rattle.std.specs.Cmp.{tied_itself}
 use Rattle.std.specs.HashMap.{HashMap, WritesThrough, Updates}
 use Rattle.std.proofs.lemmas.Map.Steps.{set_value_same}
-use Rattle.std.specs.FinMap.{FinMap, find, from_entries, get-from_entries}
+use Rattle.std.specs.FinMap.{FinMap, from_entries}
 use Rattle.std.specs.Map.{lookup, set_value}
-use Rattle.std.specs.Ordering.{eq_by_cmp, is_eq}
 use Rattle.std.specs.Result.{OnErr, OnOk}
 use Rattle.std.specs.declared.cmp.Ordering.{Ordering}
-use Rattle.cell_codec.specs.Roomy.{Roomy}
+use Rattle.cell_codec.specs.Roomy.{Roomy, capacity}
 use Rattle.hashed_maps.proofs.Keys.{OrdersKeys, same_key, eq-itself}
 use Rattle.hashed_maps.proofs.Entries.{get-entries}
-use Rattle.out_lanes.specs.Lines.{line_at, nothing, places, OthersStay}
+use Rattle.out_lanes.specs.Lines.{line_at, nothing, OthersStay}
 
 -- A map in which the list at one key changes.
 pub record Rewrites {K X : Type 0} {R : K → K → Ordering} (old new : FinMap R (Roomy X)) (key : K) (was is : Roomy X) : Type 0 where
@@ -85,6 +82,6 @@ pub first_taken : {X : Type 0} (first : Option X) (old new : Roomy X) → IfSome
 first_taken (Some x) old new some none = (rw some refl, rw some refl)
 first_taken None old new some none = (rw none.0 refl, ap (λ line. line.items) none.1 ∙ rw none.0 refl)
 
-pub same_places : {X : Type 0} (first : Option X) (old new : Roomy X) → IfSome first (λ x. old.items ≡ x ∷ new.items) → IfSome first (λ x. new.spare ≡ old.spare + 1) → IfNone first ((old.items ≡ []) × (new ≡ old)) → places new ≡ places old
-same_places (Some x) old new some more none = rw (some, more) (omega arith)
-same_places None old new some more none = ap places none.1
+pub same_capacity : {X : Type 0} (first : Option X) (old new : Roomy X) → IfSome first (λ x. old.items ≡ x ∷ new.items) → IfSome first (λ x. new.spare ≡ old.spare + 1) → IfNone first ((old.items ≡ []) × (new ≡ old)) → capacity new ≡ capacity old
+same_capacity (Some x) old new some more none = rw (some, more) (omega arith)
+same_capacity None old new some more none = ap capacity none.1

@@ -1,6 +1,6 @@
 -- The cells that wait stay well formed.
 use Rattle.std.specs.Prelude.{◌≡◌, Bool, true, false, cond, List, [], ◌∷◌, ◌++◌, drop, Option, Some, None, IsSome, IfSome, Result, Ok, Err, refl}
-use Rattle.std.proofs.Common.{◌∙◌, sym, ap, subst}
+use Rattle.std.proofs.Common.{◌∙◌, sym, subst}
 use Rattle.std.specs.HashMap.{HashMap, WritesThrough, Updates}
 use Rattle.std.specs.Map.{lookup}
 use Rattle.std.specs.Result.{OnErr, OnOk}

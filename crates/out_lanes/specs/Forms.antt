@@ -1,5 +1,5 @@
 -- Every cell that waits is well formed.
-use Rattle.std.specs.Prelude.{◌≡◌, ℕ, List, [], ◌∷◌, Option, Some}
+use Rattle.std.specs.Prelude.{◌≡◌, List, [], ◌∷◌, Some}
 use Rattle.std.specs.Map.{lookup}
 use Rattle.cell_codec.specs.Cells.{IsWellFormed}
 use Rattle.cell_codec.specs.Roomy.{Roomy}

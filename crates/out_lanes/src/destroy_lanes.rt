@@ -1,11 +1,12 @@
 //! The DESTROY lanes of all channels.
-ghost use Rattle.std.specs.Prelude.{◌≡◌, ◌+◌, ◌<◌, ◌≤◌, ◌==◌, [], ◌∷◌, ◌++◌, drop, slice_get, not, IsOk, OnOk, OnErr};
+ghost use Rattle.std.specs.Prelude.{◌≡◌, ◌<◌, ◌==◌, not};
 ghost use Rattle.std.specs.FinMap.{empty};
 ghost use Rattle.std.specs.List.{filter};
-ghost use Rattle.out_lanes.specs.Lines.{line_at, nothing, places, OthersStay};
+ghost use Rattle.cell_codec.specs.Roomy.{capacity};
+ghost use Rattle.out_lanes.specs.Lines.{line_at, OthersStay, Reserves, AddsLast, TakesFirst, Empties};
 
 use crate::destroy::Destroy;
-use crate::lane::Lane;
+use cell_codec::Queue;
 use std::alloc::{AllocError, Global};
 use std::collections::HashMap;
 use std::marker::Model;
@@ -13,7 +14,7 @@ use std::marker::Model;
 /// A lane of DESTROYs for each channel, named by its number.
 #[derive(Drop)]
 pub struct DestroyLanes {
-    lanes: HashMap<u64, Lane>,
+    lanes: HashMap<u64, Queue<Destroy>>,
     alloc: Global,
 }
 
@@ -41,12 +42,7 @@ impl DestroyLanes {
 
     /// Takes room for `more` further DESTROYs.
     pub fn reserve(&mut self, chan: u64, more: usize) -> Result<(), AllocError>
-        ensures items { (line_at self.new chan).items ≡ (line_at self.old chan).items }
-        ensures ok { OnOk result (more ≤ (line_at self.new chan).spare) }
-        ensures kept { (line_at self.old chan).spare ≤ (line_at self.new chan).spare }
-        ensures others { OthersStay self.old self.new chan }
-        ensures err { OnErr result (self.new ≡ self.old) }
-        ensures room { more ≤ (line_at self.old chan).spare → IsOk result }
+        ensures { Reserves self.old self.new chan more result }
     {
         if let Some(lane) = self.lanes.get_mut(&chan) {
             return lane.reserve(more);
@@ -54,7 +50,7 @@ impl DestroyLanes {
         if more == 0 {
             return Ok(());
         }
-        let mut lane = Lane::new(self.alloc);
+        let mut lane = Queue::new(self.alloc);
         lane.reserve(more)?;
         self.lanes.insert(chan, lane)?;
         Ok(())
@@ -63,9 +59,7 @@ impl DestroyLanes {
     /// Adds a DESTROY at the end, in a spare place.
     pub fn push_reserved(&mut self, chan: u64, destroy: Destroy)
         requires { 0 < (line_at self.old chan).spare }
-        ensures items { (line_at self.new chan).items ≡ (line_at self.old chan).items ++ destroy ∷ [] }
-        ensures spare { (line_at self.new chan).spare + 1 ≡ (line_at self.old chan).spare }
-        ensures others { OthersStay self.old self.new chan }
+        ensures { AddsLast self.old self.new chan destroy }
     {
         let Some(lane) = self.lanes.get_mut(&chan) else {
             unreachable!()
@@ -75,10 +69,7 @@ impl DestroyLanes {
 
     /// Takes the oldest DESTROY off.
     pub fn pop(&mut self, chan: u64) -> Option<Destroy>
-        ensures destroy { result ≡ slice_get (line_at self.old chan).items 0 }
-        ensures items { (line_at self.new chan).items ≡ drop 1 (line_at self.old chan).items }
-        ensures places { places (line_at self.new chan) ≡ places (line_at self.old chan) }
-        ensures others { OthersStay self.old self.new chan }
+        ensures { TakesFirst self.old self.new chan result }
     {
         let Some(lane) = self.lanes.get_mut(&chan) else {
             return None;
@@ -89,19 +80,18 @@ impl DestroyLanes {
     /// Takes the DESTROY of a CircID out, if one waits.
     pub fn take_out(&mut self, chan: u64, id: u32)
         ensures items { (line_at self.new chan).items ≡ filter (λ d. not (d.id == id)) (line_at self.old chan).items }
-        ensures places { places (line_at self.new chan) ≡ places (line_at self.old chan) }
+        ensures capacity { capacity (line_at self.new chan) ≡ capacity (line_at self.old chan) }
         ensures others { OthersStay self.old self.new chan }
     {
         let Some(lane) = self.lanes.get_mut(&chan) else {
             return;
         };
-        lane.take_out(id);
+        lane.retain(|destroy| destroy.id != id);
     }
 
     /// Drops a lane with its DESTROYs and its room.
     pub fn remove(&mut self, chan: u64)
-        ensures nothing { line_at self.new chan ≡ nothing }
-        ensures others { OthersStay self.old self.new chan }
+        ensures { Empties self.old self.new chan }
     {
         self.lanes.remove(&chan);
     }

@@ -3,8 +3,9 @@ ghost use Rattle.std.specs.Prelude.{◌≡◌, ◌+◌, ◌<◌, ◌≤◌, ◌=
 ghost use Rattle.std.specs.FinMap.{empty};
 ghost use Rattle.std.specs.List.{filter};
 ghost use Rattle.cell_codec.specs.Cells.{IsWellFormed};
+ghost use Rattle.cell_codec.specs.Roomy.{capacity};
 ghost use Rattle.out_lanes.specs.Destroys.{destroy_cell};
-ghost use Rattle.out_lanes.specs.Lines.{nothing, places};
+ghost use Rattle.out_lanes.specs.Lines.{nothing};
 ghost use Rattle.out_lanes.specs.Waiting.{queue_on, lane_on, QueueChanges, LaneChanges};
 
 use crate::destroy::Destroy;
@@ -96,7 +97,7 @@ impl Lanes {
     pub fn pop(&mut self, circ: CircNo, leg: u32) -> Option<Cell>
         ensures cell { result ≡ slice_get (queue_on self.old circ.0 leg).items 0 }
         ensures items { (queue_on self.new circ.0 leg).items ≡ drop 1 (queue_on self.old circ.0 leg).items }
-        ensures places { places (queue_on self.new circ.0 leg) ≡ places (queue_on self.old circ.0 leg) }
+        ensures capacity { capacity (queue_on self.new circ.0 leg) ≡ capacity (queue_on self.old circ.0 leg) }
         ensures others { QueueChanges self.old self.new circ.0 leg }
         ensures well_formed { IfSome result IsWellFormed }
     {
@@ -141,7 +142,7 @@ impl Lanes {
     /// The DESTROY of a CircID that waits on a channel goes, if one does. Its place is spare then.
     pub fn undestroy(&mut self, chan: ChanNo, id: u32)
         ensures items { (lane_on self.new chan.0).items ≡ filter (λ d. not (d.id == id)) (lane_on self.old chan.0).items }
-        ensures places { places (lane_on self.new chan.0) ≡ places (lane_on self.old chan.0) }
+        ensures capacity { capacity (lane_on self.new chan.0) ≡ capacity (lane_on self.old chan.0) }
         ensures others { LaneChanges self.old self.new chan.0 }
     {
         self.lanes.take_out(chan.0, id);
@@ -151,7 +152,7 @@ impl Lanes {
     pub fn pop_destroy(&mut self, chan: ChanNo) -> Option<Cell>
         ensures cell { result ≡ option_map destroy_cell (slice_get (lane_on self.old chan.0).items 0) }
         ensures items { (lane_on self.new chan.0).items ≡ drop 1 (lane_on self.old chan.0).items }
-        ensures places { places (lane_on self.new chan.0) ≡ places (lane_on self.old chan.0) }
+        ensures capacity { capacity (lane_on self.new chan.0) ≡ capacity (lane_on self.old chan.0) }
         ensures others { LaneChanges self.old self.new chan.0 }
         ensures well_formed { IfSome result IsWellFormed }
     {

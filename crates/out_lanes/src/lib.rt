@@ -8,7 +8,6 @@
 
 mod destroy;
 mod destroy_lanes;
-mod lane;
 mod lanes;
 mod queues;
 

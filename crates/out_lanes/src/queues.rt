@@ -1,8 +1,8 @@
 //! The queues of all legs.
-ghost use Rattle.std.specs.Prelude.{◌≡◌, ◌+◌, ◌<◌, ◌≤◌, [], ◌∷◌, ◌++◌, drop, slice_get, IfSome, IsOk, OnOk, OnErr};
+ghost use Rattle.std.specs.Prelude.{◌≡◌, ◌+◌, ◌<◌, ◌≤◌, [], ◌∷◌, ◌++◌, IfSome, IsOk, OnOk, OnErr};
 ghost use Rattle.std.specs.FinMap.{empty};
 ghost use Rattle.cell_codec.specs.Cells.{IsWellFormed};
-ghost use Rattle.out_lanes.specs.Lines.{line_at, nothing, places, OthersStay};
+ghost use Rattle.out_lanes.specs.Lines.{line_at, OthersStay, Reserves, AddsLast, TakesFirst, Empties};
 
 use cell_codec::{Cell, Queue};
 use std::alloc::{AllocError, Global};
@@ -44,12 +44,7 @@ impl Queues {
 
     /// Takes room for `more` further cells.
     pub fn reserve(&mut self, leg: (u64, u32), more: usize) -> Result<(), AllocError>
-        ensures items { (line_at self.new leg).items ≡ (line_at self.old leg).items }
-        ensures ok { OnOk result (more ≤ (line_at self.new leg).spare) }
-        ensures kept { (line_at self.old leg).spare ≤ (line_at self.new leg).spare }
-        ensures others { OthersStay self.old self.new leg }
-        ensures err { OnErr result (self.new ≡ self.old) }
-        ensures room { more ≤ (line_at self.old leg).spare → IsOk result }
+        ensures { Reserves self.old self.new leg more result }
     {
         if let Some(queue) = self.queues.get_mut(&leg) {
             return queue.reserve(more);
@@ -85,9 +80,7 @@ impl Queues {
     pub fn push_reserved(&mut self, leg: (u64, u32), cell: Cell)
         requires well_formed { IsWellFormed cell }
         requires room { 0 < (line_at self.old leg).spare }
-        ensures items { (line_at self.new leg).items ≡ (line_at self.old leg).items ++ cell ∷ [] }
-        ensures spare { (line_at self.new leg).spare + 1 ≡ (line_at self.old leg).spare }
-        ensures others { OthersStay self.old self.new leg }
+        ensures { AddsLast self.old self.new leg cell }
     {
         let Some(queue) = self.queues.get_mut(&leg) else {
             unreachable!()
@@ -97,10 +90,7 @@ impl Queues {
 
     /// Takes the oldest cell off.
     pub fn pop(&mut self, leg: (u64, u32)) -> Option<Cell>
-        ensures cell { result ≡ slice_get (line_at self.old leg).items 0 }
-        ensures items { (line_at self.new leg).items ≡ drop 1 (line_at self.old leg).items }
-        ensures places { places (line_at self.new leg) ≡ places (line_at self.old leg) }
-        ensures others { OthersStay self.old self.new leg }
+        ensures first { TakesFirst self.old self.new leg result }
         ensures well_formed { IfSome result IsWellFormed }
     {
         let Some(queue) = self.queues.get_mut(&leg) else {
@@ -111,8 +101,7 @@ impl Queues {
 
     /// Drops a queue with its cells and its room.
     pub fn remove(&mut self, leg: (u64, u32))
-        ensures nothing { line_at self.new leg ≡ nothing }
-        ensures others { OthersStay self.old self.new leg }
+        ensures { Empties self.old self.new leg }
     {
         self.queues.remove(&leg);
     }

@@ -1,35 +1,13 @@
-use Rattle.std.proofs.Common.{◌≡◌, ◌<◌, ◌∷◌, Some, None, IsSome, sym, ap, ◌∙◌, subst, refl, arith}
-use Rattle.out_lanes.specs.Lines.{line_at}
+use Rattle.std.proofs.Common.{ap, ◌∙◌}
+use Rattle.std.specs.FinMap.{from_entries}
 use Rattle.hashed_maps.proofs.Keys.{number_keys}
-use Rattle.out_lanes.proofs.Changes.{written, rewritten, added, removed, line_found, line_absent, OnErr-by, first_taken}
+use Rattle.out_lanes.proofs.Calls.{takes_first, takes_first-none, none_at}
 use Rattle.out_lanes.proofs.destroy_lanes.DestroyLanes.pop.Goals as goal
 
-pub returns-in_default-clause-destroy : goal.returns-in_default-clause-destroy
-returns-in_default-clause-destroy c =
-    let none = line_absent number_keys c.self.inside.lanes.entries c.args.chan (sym c.in_default.ensures.value) in
-    rw (← c.self.view_is) (rw none refl)
+pub returns-in_default : goal.returns-in_default
+returns-in_default c = takes_first-none (ap (λ m. from_entries m.entries) c.get_mut.follows.holds-at-none ∙ c.self.view_is) (none_at number_keys c.self.inside.lanes c.args.chan c.self.view_is c.in_default.ensures.value)
 
-pub returns-in_default-clause-items : goal.returns-in_default-clause-items
-returns-in_default-clause-items c =
-    let none = line_absent number_keys c.self.inside.lanes.entries c.args.chan (sym c.in_default.ensures.value) in
-    rw (← c.self.view_is, c.get_mut.follows.holds-at-none) (rw none refl)
-
-pub returns-clause-destroy : goal.returns-clause-destroy
-returns-clause-destroy c =
-    let w = written number_keys c.self.inside.lanes (c.get_mut.follows.lender c.take_first.new.self) c.args.chan _ _ (c.get_mut.follows.holds c.take_first.new.self) c.in-Some.ensures.value in
-    rw (← c.self.view_is) (rw w.was_line (first_taken _ _ _ c.take_first.ensures.items c.take_first.ensures.none).0)
-
-pub returns-clause-items : goal.returns-clause-items
-returns-clause-items c =
-    let w = written number_keys c.self.inside.lanes (c.get_mut.follows.lender c.take_first.new.self) c.args.chan _ _ (c.get_mut.follows.holds c.take_first.new.self) c.in-Some.ensures.value in
-    rw (← c.self.view_is) (rw (w.is_line, w.was_line) (first_taken _ _ _ c.take_first.ensures.items c.take_first.ensures.none).1)
-
-pub returns-clause-places : goal.returns-clause-places
-returns-clause-places c =
-    let w = written number_keys c.self.inside.lanes (c.get_mut.follows.lender c.take_first.new.self) c.args.chan _ _ (c.get_mut.follows.holds c.take_first.new.self) c.in-Some.ensures.value in
-    rw (← c.self.view_is) (rw (w.is_line, w.was_line) c.take_first.ensures.places)
-
-pub returns-clause-others : goal.returns-clause-others
-returns-clause-others c =
-    let w = written number_keys c.self.inside.lanes (c.get_mut.follows.lender c.take_first.new.self) c.args.chan _ _ (c.get_mut.follows.holds c.take_first.new.self) c.in-Some.ensures.value in
-    rw (← c.self.view_is) w.others
+pub returns : goal.returns
+returns c =
+    takes_first number_keys c.self.inside.lanes (c.get_mut.follows.lender c.take_first.new.self) c.args.chan c.self.view_is _ _ (c.get_mut.follows.holds c.take_first.new.self) c.in-Some.ensures.value _
+    c.take_first.ensures.items c.take_first.ensures.spare c.take_first.ensures.none

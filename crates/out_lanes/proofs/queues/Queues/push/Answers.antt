@@ -1,9 +1,9 @@
-use Rattle.std.proofs.Common.{◌≡◌, ◌<◌, ◌≤◌, ◌∷◌, ◌++◌, [], Some, None, IsSome, sym, ap, ◌∙◌, subst, refl, arith}
+use Rattle.std.proofs.Common.{◌<◌, ◌∷◌, ◌++◌, [], sym, ap, ◌∙◌, subst, arith}
 use Rattle.out_lanes.specs.Forms.{EachWellFormed}
 use Rattle.out_lanes.specs.Lines.{line_at}
 use Rattle.hashed_maps.proofs.Keys.{pair_keys}
-use Rattle.out_lanes.proofs.Changes.{written, rewritten, added, removed, line_found, line_absent, OnErr-by, first_taken, same_places}
-use Rattle.out_lanes.proofs.WellFormed.{are-written, are-added, are-removed, each-pushed, each-pushed_reserved, each-taken, each-same, first_formed}
+use Rattle.out_lanes.proofs.Changes.{written, rewritten, added, line_absent, OnErr-by}
+use Rattle.out_lanes.proofs.WellFormed.{are-written, are-added, each-pushed}
 use Rattle.out_lanes.proofs.queues.Queues.push.Goals as goal
 
 pub invariant_of-self : goal.invariant_of-self

@@ -1,80 +1,45 @@
-use Rattle.std.proofs.Common.{◌≡◌, ◌<◌, ◌≤◌, ◌∷◌, ◌++◌, [], Some, None, IsSome, sym, ap, ◌∙◌, subst, refl, arith}
+use Rattle.std.proofs.Common.{sym, ap, ◌∙◌, subst, arith}
+use Rattle.std.proofs.lemmas.Result.{err_from_is_err_and}
+use Rattle.std.specs.FinMap.{from_entries}
 use Rattle.out_lanes.specs.Forms.{EachWellFormed}
-use Rattle.out_lanes.specs.Lines.{line_at}
 use Rattle.hashed_maps.proofs.Keys.{pair_keys}
-use Rattle.out_lanes.proofs.Changes.{written, rewritten, added, removed, line_found, line_absent, OnErr-by, first_taken, same_places}
-use Rattle.out_lanes.proofs.WellFormed.{are-written, are-added, are-removed, each-pushed, each-pushed_reserved, each-taken, each-same, first_formed}
+use Rattle.out_lanes.proofs.Calls.{reserves, reserves-nothing, reserves-refused, reserves-added, none_at}
+use Rattle.out_lanes.proofs.WellFormed.{are-written, are-added, each-same}
 use Rattle.out_lanes.proofs.queues.Queues.reserve.Goals as goal
+
+pub returns-in-Some : goal.returns-in-Some
+returns-in-Some c =
+    reserves pair_keys c.self.inside.queues (c.get_mut.follows.lender c.reserve.new.self) c.args.leg c.self.view_is _ _ (c.get_mut.follows.holds c.reserve.new.self) c.in-Some.ensures.value _ c.reserve.result
+    c.reserve.ensures.items c.reserve.ensures.ok c.reserve.ensures.kept c.reserve.ensures.err c.reserve.ensures.room
+
+pub returns-then-more-eq0 : goal.returns-then-more-eq0
+returns-then-more-eq0 c = reserves-nothing tt (ap (λ m. from_entries m.entries) c.get_mut.follows.holds-at-none ∙ c.self.view_is) c.if-more-eq0.true
+
+pub returns-in_err-reserve : goal.returns-in_err-reserve
+returns-in_err-reserve c =
+    let failed = err_from_is_err_and c.from_residual.result c.from_residual.ensures.1 in
+    reserves-refused _ failed.1
+    (ap (λ m. from_entries m.entries) c.get_mut.follows.holds-at-none ∙ c.self.view_is)
+    (none_at pair_keys c.self.inside.queues c.args.leg c.self.view_is c.in_default.ensures.value) (omega (arith, c.if-more-eq0.false))
+
+pub returns-in_err-insert : goal.returns-in_err-insert
+returns-in_err-insert c =
+    let failed = err_from_is_err_and c.from_residual-in_err-insert.result c.from_residual-in_err-insert.ensures.1 in
+    reserves-refused _ failed.1
+    (ap from_entries c.in_err-insert.ensures.err ∙ ap (λ m. from_entries m.entries) c.get_mut.follows.holds-at-none ∙ c.self.view_is)
+    (none_at pair_keys c.self.inside.queues c.args.leg c.self.view_is c.in_default.ensures.value) (omega (arith, c.if-more-eq0.false))
+
+pub returns : goal.returns
+returns c =
+    reserves-added pair_keys c.self.inside.queues (c.get_mut.follows.lender-at-none) c.insert.new.self c.args.leg c.self.view_is _ c.get_mut.follows.holds-at-none c.in_ok-insert.ensures.updates c.in_default.ensures.value
+    _ tt (c.reserve-2.ensures.items ∙ c.new-queue.ensures) c.in_ok-reserve.ensures.ok
 
 pub invariant_of-self : goal.invariant_of-self
 invariant_of-self c =
     are-written c.self.inside.queues (c.get_mut.follows.lender c.reserve.new.self) c.args.leg c.self.invariant _ _ (c.get_mut.follows.holds c.reserve.new.self) c.in-Some.ensures.value
     (each-same _ _ c.reserve.ensures.items)
 
-pub returns-in-Some-clause-items : goal.returns-in-Some-clause-items
-returns-in-Some-clause-items c =
-    let w = written pair_keys c.self.inside.queues (c.get_mut.follows.lender c.reserve.new.self) c.args.leg _ _ (c.get_mut.follows.holds c.reserve.new.self) c.in-Some.ensures.value in
-    rw (← c.self.view_is) (rw (w.is_line, w.was_line) c.reserve.ensures.items)
-
-pub returns-in-Some-clause-ok : goal.returns-in-Some-clause-ok
-returns-in-Some-clause-ok c =
-    let w = written pair_keys c.self.inside.queues (c.get_mut.follows.lender c.reserve.new.self) c.args.leg _ _ (c.get_mut.follows.holds c.reserve.new.self) c.in-Some.ensures.value in
-    rw w.is_line c.reserve.ensures.ok
-
-pub returns-in-Some-clause-kept : goal.returns-in-Some-clause-kept
-returns-in-Some-clause-kept c =
-    let w = written pair_keys c.self.inside.queues (c.get_mut.follows.lender c.reserve.new.self) c.args.leg _ _ (c.get_mut.follows.holds c.reserve.new.self) c.in-Some.ensures.value in
-    rw (← c.self.view_is) (rw (w.is_line, w.was_line) c.reserve.ensures.kept)
-
-pub returns-in-Some-clause-others : goal.returns-in-Some-clause-others
-returns-in-Some-clause-others c =
-    let w = written pair_keys c.self.inside.queues (c.get_mut.follows.lender c.reserve.new.self) c.args.leg _ _ (c.get_mut.follows.holds c.reserve.new.self) c.in-Some.ensures.value in
-    rw (← c.self.view_is) w.others
-
-pub returns-in-Some-clause-err : goal.returns-in-Some-clause-err
-returns-in-Some-clause-err c =
-    OnErr-by c.reserve.result
-    (λ same. rewritten pair_keys c.self.inside.queues (c.get_mut.follows.lender c.reserve.new.self) c.args.leg _ _ (c.get_mut.follows.holds c.reserve.new.self) c.in-Some.ensures.value same ∙ c.self.view_is)
-    c.reserve.ensures.err
-
-pub returns-in-Some-clause-room : goal.returns-in-Some-clause-room
-returns-in-Some-clause-room c =
-    let w = written pair_keys c.self.inside.queues (c.get_mut.follows.lender c.reserve.new.self) c.args.leg _ _ (c.get_mut.follows.holds c.reserve.new.self) c.in-Some.ensures.value in
-    rw (← c.self.view_is) (rw w.was_line c.reserve.ensures.room)
-
-pub returns-in_err-reserve-clause-room : goal.returns-in_err-reserve-clause-room
-returns-in_err-reserve-clause-room c =
-    λ fits. let none = ap (λ m. line_at m c.args.leg) (sym c.self.view_is) ∙ line_absent pair_keys c.self.inside.queues.entries c.args.leg (sym c.in_default.ensures.value) in
-    let too_much : c.args.more ≤ 0 = subst (λ line. c.args.more ≤ line.spare) none fits in
-    absurd (omega (arith, c.if-more-eq0.false))
-
-pub returns-in_err-insert-clause-room : goal.returns-in_err-insert-clause-room
-returns-in_err-insert-clause-room c =
-    λ fits. let none = ap (λ m. line_at m c.args.leg) (sym c.self.view_is) ∙ line_absent pair_keys c.self.inside.queues.entries c.args.leg (sym c.in_default.ensures.value) in
-    let too_much : c.args.more ≤ 0 = subst (λ line. c.args.more ≤ line.spare) none fits in
-    absurd (omega (arith, c.if-more-eq0.false))
-
 pub invariant_of-self-2 : goal.invariant_of-self-2
 invariant_of-self-2 c =
     are-added (c.get_mut.follows.lender-at-none) c.insert.new.self c.args.leg (rw c.get_mut.follows.holds-at-none c.self.invariant) _ c.in_ok-insert.ensures.updates
     (subst EachWellFormed (sym (c.reserve-2.ensures.items ∙ c.new-queue.ensures)) tt)
-
-pub returns-clause-items : goal.returns-clause-items
-returns-clause-items c =
-    let w = added pair_keys (c.get_mut.follows.lender-at-none) c.insert.new.self c.args.leg c.self.inside.queues _ c.get_mut.follows.holds-at-none c.in_ok-insert.ensures.updates c.in_default.ensures.value in
-    rw (← c.self.view_is) (rw (w.is_line, w.was_line) (c.reserve-2.ensures.items ∙ c.new-queue.ensures))
-
-pub returns-clause-ok : goal.returns-clause-ok
-returns-clause-ok c =
-    let w = added pair_keys (c.get_mut.follows.lender-at-none) c.insert.new.self c.args.leg c.self.inside.queues _ c.get_mut.follows.holds-at-none c.in_ok-insert.ensures.updates c.in_default.ensures.value in
-    rw w.is_line c.in_ok-reserve.ensures.ok
-
-pub returns-clause-kept : goal.returns-clause-kept
-returns-clause-kept c =
-    let w = added pair_keys (c.get_mut.follows.lender-at-none) c.insert.new.self c.args.leg c.self.inside.queues _ c.get_mut.follows.holds-at-none c.in_ok-insert.ensures.updates c.in_default.ensures.value in
-    rw (← c.self.view_is) (rw (w.is_line, w.was_line) (omega arith))
-
-pub returns-clause-others : goal.returns-clause-others
-returns-clause-others c =
-    let w = added pair_keys (c.get_mut.follows.lender-at-none) c.insert.new.self c.args.leg c.self.inside.queues _ c.get_mut.follows.holds-at-none c.in_ok-insert.ensures.updates c.in_default.ensures.value in
-    rw (← c.self.view_is) w.others
