@@ -1,11 +1,13 @@
 # demo: proves and builds the relay and shows what it answers to one CREATE_FAST cell.
 # try: shows the same with nothing proved.
-# test: the merge gate. It looks whether all that the documents name stands in the tree, then proves every crate and runs
-# every test and program, and then plays the built relay to each of its ends.
+# test: the merge gate. It looks whether all that the documents name stands in the tree and whether the tests read the
+# example of the settings, then proves every crate and runs every test and program, and then plays the built relay to each
+# of its ends.
 .PHONY: demo try test
 
 test:
 	.ci/check_names
+	.ci/check_example
 	rt ci
 	examples/ends
 

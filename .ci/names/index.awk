@@ -30,5 +30,9 @@ kind == "rt" && match($0, /^ +(requires|ensures) [a-z_0-9]+ \{/) {
 }
 kind == "antt" && match($0, /^ *((abbrev|unfoldable|pub|record|data) )*[A-Za-z_][A-Za-z0-9_']* ([{(][^=]*)?(:|where)/) {
   name = $0; gsub(/^ *((abbrev|unfoldable|pub|record|data) )*/, "", name); sub(/[^A-Za-z0-9_'].*/, "", name)
-  put(part[3] == "specs" ? "word" : "lemma", "", name)
+  put(part[3] == "specs" ? "word" : "lemma", "", name); next
+}
+# A record whose parameters begin on the next line.
+kind == "antt" && /^(  )?(pub )?(record|data) [A-Za-z_][A-Za-z0-9_']*$/ {
+  put(part[3] == "specs" ? "word" : "lemma", "", $NF)
 }

@@ -4,7 +4,7 @@ use tr_io::names::Dest;
 
 mod rules;
 
-// The text of examples/relay.toml, which has each key with its default. The two are kept the same.
+// The text of examples/relay.toml, which has each key with its default: .ci/check_example compares the two.
 const EXAMPLE: &[u8] =
     b"# The settings of a relay, in TOML. Each key but listen may be left out: then it has the value that it has here.
 
