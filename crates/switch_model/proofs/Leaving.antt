@@ -20,15 +20,11 @@ use Rattle.switch_model.specs.Waiting.Counts.{some_in, count_at, waiting_of, wai
 use Rattle.switch_model.specs.Answers.NextCell.{first_queued, first_of, destroy_or, next_cell_answer, IsOldestDestroy}
 use Rattle.switch_model.specs.Waiting.Rest.{queues_of, owed}
 use Rattle.switch_model.proofs.Least.{least-has}
-use Rattle.switch_model.proofs.Common.{and-first, and-second, same-number}
+use Rattle.switch_model.proofs.Common.{and-first, and-second, same-number, all-append}
 
 -- a leg that waits on a channel
 abbrev pub WaitsThere : Rules → List Step → ℕ → Leg → Type 0
 WaitsThere rules h chan leg = (on_channel chan (port h leg.circ leg.number) && some_in (queue rules h leg.circ leg.number)) ≡ true
-
-all-both : (P : Leg → Type 0) (xs ys : List Leg) → AllByRecursion P xs → AllByRecursion P ys → AllByRecursion P (xs ++ ys)
-all-both P [] ys f g = g
-all-both P (x ∷ xs) ys f g = (f.0, all-both P xs ys f.1 g)
 
 one-waits : (P : Leg → Type 0) (b : Bool) (leg : Leg) → (b ≡ true → P leg) → AllByRecursion P (if b then leg ∷ [] else [])
 one-waits P true leg own = (own refl, tt)
@@ -37,13 +33,13 @@ one-waits P false leg own = tt
 waits-of : (rules : Rules) (h : List Step) (chan c k : ℕ) → AllByRecursion (WaitsThere rules h chan) (waiting_of rules h chan c k)
 waits-of rules h chan c zero = tt
 waits-of rules h chan c (suc k) =
-    all-both (WaitsThere rules h chan) (waiting_of rules h chan c k) _ (waits-of rules h chan c k)
+    all-append (WaitsThere rules h chan) (waiting_of rules h chan c k) _ (waits-of rules h chan c k)
     (one-waits (WaitsThere rules h chan) (on_channel chan (port h c k) && some_in (queue rules h c k)) (record { circ = c; number = k }) (λ it. it))
 
-waits-below : (rules : Rules) (h : List Step) (chan c : ℕ) → AllByRecursion (WaitsThere rules h chan) (waiting_below rules h chan c)
+pub waits-below : (rules : Rules) (h : List Step) (chan c : ℕ) → AllByRecursion (WaitsThere rules h chan) (waiting_below rules h chan c)
 waits-below rules h chan zero = tt
 waits-below rules h chan (suc c) =
-    all-both (WaitsThere rules h chan) (waiting_below rules h chan c) _ (waits-below rules h chan c) (waits-of rules h chan c (hops h c + 1))
+    all-append (WaitsThere rules h chan) (waiting_below rules h chan c) _ (waits-below rules h chan c) (waits-of rules h chan c (hops h c + 1))
 
 and-none : (b : Bool) → (b && false) ≡ false
 and-none true = refl
@@ -89,14 +85,14 @@ pub no_channel_sends : (rules : Rules) (h : List Step) (chan tick : ℕ) → is_
 no_channel_sends rules h chan tick gone = rw gone refl
 
 -- a cell that isn't of the lane is of a live circuit
-if-some : (b : Bool) (cells : List CircuitCell) → some_in (if b then cells else []) ≡ true → b ≡ true
+pub if-some : (b : Bool) (cells : List CircuitCell) → some_in (if b then cells else []) ≡ true → b ≡ true
 if-some true cells some = refl
 if-some false cells some = some
 
-abbrev circ-of : Cell → ℕ
+abbrev pub circ-of : Cell → ℕ
 circ-of cell = cell.circ
 
-some-same : {A : Type 0} {x y : A} → ◌≡◌ {A = Option A} (Some x) (Some y) → x ≡ y
+pub some-same : {A : Type 0} {x y : A} → ◌≡◌ {A = Option A} (Some x) (Some y) → x ≡ y
 some-same e = cc
 
 same-leg : (lc lk c k : ℕ) (x : Option Leg) → is_leg lc lk x ≡ true → is_leg c k x ≡ true → lc ≡ c

@@ -24,3 +24,10 @@ pub mod OneDestroy
 pub mod OneAnswer
 pub mod StaysTorn
 pub mod BodiesStay
+pub mod LogGrows
+pub mod GivenIds
+pub mod LaneStays
+pub mod LaneIds
+pub mod SentBegins
+pub mod SameEvents
+pub mod LegsAtRest

@@ -69,7 +69,7 @@ leg-new start h (DialDone order outcome (DialAnswer.Up n)) c k legal makes =
 leg-new start h s c k legal makes = absurd cc
 
 -- the others keep theirs
-none-leg : (c k : ℕ) (b : Bool) (x : Option Leg) → is_leg c k (if b then None else x) ≡ true → is_leg c k x ≡ true
+pub none-leg : (c k : ℕ) (b : Bool) (x : Option Leg) → is_leg c k (if b then None else x) ≡ true → is_leg c k x ≡ true
 none-leg c k true x is = absurd cc
 none-leg c k false x is = is
 

@@ -14,7 +14,7 @@ no-number : (b : Bool) (n c : ℕ) → (n == c) ≡ b → c < n → (n == c) ≡
 no-number true n c is above = let same = same-number n c is in absurd (omega (arith, same, above))
 no-number false n c is above = is
 
-not-opened : (start : Start) (h : List Step) (s : Step) (c : ℕ) → IsLegal start (s ∷ h) → c < circuits h → opens c s ≡ false
+pub not-opened : (start : Start) (h : List Step) (s : Step) (c : ℕ) → IsLegal start (s ∷ h) → c < circuits h → opens c s ≡ false
 not-opened start h (OpenCircuit chan id reply keys pad (Opened n)) c legal was =
     let number = opened-number start.rules h chan.0 id keys n legal.0.1 in
     no-number (n.0 == c) n.0 c refl (omega (arith, number, was))

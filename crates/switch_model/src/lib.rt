@@ -11,5 +11,6 @@ pub mod answers;
 pub mod circuits;
 pub mod counts;
 pub mod histories;
+pub mod legs;
 pub mod limits;
 pub mod returns;

@@ -1,7 +1,6 @@
 -- The answer to `drained`. The first line that fits holds.
 use Rattle.std.specs.Prelude.{nat_le, not, List, if◌then◌else◌}
 use Rattle.circuit_model.specs.declared.event.Event.TheVariants.{Drained}
-use Rattle.circuit_model.specs.declared.effects.Order.TheVariants.{Carry}
 use Rattle.circuit_model.specs.Places.{is_live_phase}
 use Rattle.circuit_model.specs.Rules.{Rules}
 use Rattle.circuit_model.specs.Windows.{drained}
