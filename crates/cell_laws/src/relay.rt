@@ -7,13 +7,13 @@ ghost use Rattle.tor_spec.specs.Connected.{ConnectedTo, connected_address};
 ghost use Rattle.tor_spec.specs.Ends.{end_reason, truncated_reason};
 ghost use Rattle.tor_spec.specs.Extend.{Extend, extend_request, handshake_reply, handshake_request};
 ghost use Rattle.tor_spec.specs.RelayCell.{RelayHead, relay_head, fits_length, payload_of};
-ghost use Rattle.tor_spec.specs.Resolve.{resolved_payload};
+ghost use Rattle.tor_spec.specs.Resolve.{Answer, resolved_answers, resolved_payload};
 ghost use Rattle.tor_spec.specs.Sendme.{sendme_proof};
 ghost use Rattle.cell_laws.specs.Body.{SpellsBody};
 ghost use Rattle.cell_laws.specs.Extends.{SpellsExtend};
 ghost use Rattle.cell_laws.specs.Payloads.{SpellsConnected, SpellsProof, SpellsEnd, SpellsTruncated, SpellsReply, SpellsRequest};
 ghost use Rattle.cell_laws.specs.Ports.{SpellsPort};
-ghost use Rattle.cell_laws.specs.Resolved.{Answer, IsAnswer, SpellsAnswers};
+ghost use Rattle.cell_laws.specs.Resolved.{IsAnswer, SpellsAnswers};
 
 /// A body of 509 bytes whose Length fits spells the head and the payload that are read from it.
 pub fn bodies_are_read_as_spelled()
@@ -82,4 +82,10 @@ pub fn answers_have_one_spelling()
     ensures bytes { (payload : List ℕ) (answers : List Answer) → SpellsAnswers payload answers → IsBytes payload }
     ensures one { (payload : List ℕ) (answers others : List Answer) →
         SpellsAnswers payload answers → SpellsAnswers payload others → answers ≡ others }
+{}
+
+/// The answers that are read from a RESOLVED are those that it spells; where none are read, it spells none.
+pub fn answers_are_read_as_spelled()
+    ensures { (payload : List ℕ) (answers : List Answer) → IsBytes payload →
+        SpellsAnswers payload answers ↔ (resolved_answers payload ≡ Some answers) }
 {}

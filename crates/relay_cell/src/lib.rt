@@ -34,7 +34,7 @@ pub use extend::{
     read_handshake_reply, read_handshake_request,
 };
 pub use head::{Opened, RelayHead, payload_of, read_head};
-pub use resolve::{read_resolve, resolve_body, resolved_body};
+pub use resolve::{read_resolve, read_resolved, resolve_body, resolved_body};
 pub use sendme::{circuit_sendme_body, is_version_0, read_proof, stream_sendme_body};
 pub use stream_data::data_body;
 

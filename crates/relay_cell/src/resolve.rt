@@ -1,14 +1,14 @@
 //! RESOLVE and RESOLVED: a name is looked up (tor-spec, "Remote hostname lookup").
 
-ghost use Rattle.std.specs.Prelude.{◌≡◌, ◌≤◌, IfSome, IfNone, Some, None, length};
+ghost use Rattle.std.specs.Prelude.{◌≡◌, ◌<◌, ◌≤◌, IfSome, IfNone, Some, None, length};
 ghost use Rattle.tor_spec.specs.Begin.{IsHost};
 ghost use Rattle.tor_spec.specs.RelayCell.{relay_body, resolve_command, resolved_command};
-ghost use Rattle.tor_spec.specs.Resolve.{resolve_host, resolve_payload, resolved_payload};
+ghost use Rattle.tor_spec.specs.Resolve.{answer_at, ip_at, resolve_host, resolve_payload, resolved_ip, resolved_payload};
 
 use crate::body::write_body;
-use crate::command;
 use crate::payload::Payload;
 use crate::text::{is_host_length, read_text};
+use crate::{command, resolved_type};
 
 /// The name to be looked up, or `None` exactly where no zero byte ends it or it has not 1 to 255
 /// bytes.
@@ -50,4 +50,42 @@ pub fn resolved_body(stream: u16, kind: u8, value: &[u8], ttl: u32) -> [u8; 509]
     payload.put(value);
     payload.put(&ttl.to_be_bytes());
     write_body(command::RESOLVED, stream, payload.as_slice())
+}
+
+/// What a RESOLVED tells of IPv4: the value of the first answer of that type, if there is one. `None`
+/// exactly where the payload is not one answer or more up to its end, or an answer of that type has not 4
+/// bytes. That answers of other types may have any length is a rule of this relay.
+pub fn read_resolved(payload: &[u8]) -> Option<Option<[u8; 4]>>
+    ensures { result ≡ resolved_ip payload.now }
+{
+    if payload.is_empty() {
+        return None;
+    }
+    let mut ip = None;
+    let mut rest = payload;
+    while !rest.is_empty() {
+        let (found, behind) = read_answer(rest)?;
+        ip = ip.or(found);
+        rest = behind;
+    }
+    Some(ip)
+}
+
+/// The IPv4 address in the answer at the front of the bytes, if it has one, and the bytes behind it.
+#[tactic(auto, unfolding(tor_spec::specs::Resolve::answer_at, tor_spec::specs::Resolve::first_ip, tor_spec::specs::Resolve::ip_at, tor_spec::specs::Resolve::is_value_length))]
+fn read_answer(bytes: &[u8]) -> Option<(Option<[u8; 4]>, &[u8])>
+    ensures some { IfSome result (λ read. ip_at bytes.now ≡ Some (read.0, read.1.now)) }
+    ensures shorter { IfSome result (λ read. length read.1.now < length bytes.now) }
+    ensures none { IfNone result (answer_at bytes.now ≡ None) }
+{
+    let ([kind, size], rest) = bytes.split_first_chunk::<2>()?;
+    let (value, rest) = rest.split_at_checked(usize::from(*size))?;
+    let (_ttl, behind) = rest.split_first_chunk::<4>()?;
+    if *kind != resolved_type::IPV4 {
+        return Some((None, behind));
+    }
+    match value {
+        [a, b, c, d] => Some((Some([*a, *b, *c, *d]), behind)),
+        _ => None,
+    }
 }

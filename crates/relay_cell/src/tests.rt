@@ -90,6 +90,36 @@ fn reads_short_payloads(rt: HostRuntime) -> Result<(), Fail> {
 }
 
 #[test]
+fn reads_resolveds(rt: HostRuntime) -> Result<(), Fail> {
+    let resolveds: [(&[u8], Option<[u8; 4]>); 5] = [
+        (b"\x04\x04\x7f\0\0\x01\0\0\0\x3c", Some([127, 0, 0, 1])),
+        (b"\xf1\0\0\0\0\x3c", None),
+        // A name, and two addresses behind it.
+        (
+            b"\x00\x03a.b\0\0\0\x01\x04\x04\x01\x02\x03\x04\0\0\0\x01\x04\x04\x05\x06\x07\x08\0\0\0\x01",
+            Some([1, 2, 3, 4]),
+        ),
+        (b"\x06\x10aaaaaaaaaaaaaaaa\0\0\0\x01", None),
+        (b"\x06\x01a\0\0\0\x01", None),
+    ];
+    for (payload, ip) in resolveds {
+        assert_eq!(rt; read_resolved(payload).ok_or("a RESOLVED")?, ip);
+    }
+    let no_resolveds: [&[u8]; 6] = [
+        b"",
+        b"\x04",
+        b"\x04\x04\x7f\0\0\x01\0\0\0",
+        b"\x04\x04\x7f\0\0\x01\0\0\0\x3c\x04",
+        b"\x04\x05\x7f\0\0\x01\x01\0\0\0\x3c",
+        b"\x04\x04\x7f\0\0\x01\0\0\0\x3c\x04\x03\x7f\0\0\0\0\0\x3c",
+    ];
+    for payload in no_resolveds {
+        assert!(rt; read_resolved(payload).is_none());
+    }
+    Ok(())
+}
+
+#[test]
 fn writes_bodies(rt: HostRuntime) -> Result<(), Fail> {
     let mut begin = begin_body(1, b"echo.test", 65535);
     put_digest(&mut begin, *b"HASH");

@@ -1,5 +1,5 @@
 -- Bodies that are packaged have a Length that fits.
-use Rattle.std.proofs.Common.{◌≡◌, ℕ, ◌+◌, ◌^◌, ◌<◌, ◌≤◌, [], ◌∷◌, ◌++◌, List, length, true, Option, Some, None, refl, ap, ◌∙◌, arith, length-append}
+use Rattle.std.proofs.Common.{◌≡◌, ℕ, ◌^◌, ◌<◌, ◌≤◌, List, length, true, refl, ap, ◌∙◌, arith, length-append}
 use Rattle.std.specs.Int.{w16, w32, to_be_bytes}
 use Rattle.tor_spec.specs.Connected.{connected_payload}
 use Rattle.tor_spec.specs.Extend.{handshake_reply_payload}

@@ -12,6 +12,7 @@ pub mod Fields
 pub mod NetinfoSteps
 pub mod Payloads
 pub mod RelayCells
+pub mod Resolves
 pub mod Texts
 pub mod VersionsLength
 pub mod WrongStarts
