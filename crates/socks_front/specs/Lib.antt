@@ -1,0 +1,5 @@
+pub mod Answering
+pub mod Messages
+pub mod Reading
+pub mod Refusing
+pub mod Spelling
