@@ -6,7 +6,7 @@ use Rattle.hashed_maps.proofs.Keys.{pair_keys, same_key, eq-itself}
 use Rattle.ewma_sched.specs.declared.roster.Roster.{Roster}
 use Rattle.ewma_sched.specs.declared.legs.Leg.{Leg}
 use Rattle.ewma_sched.specs.Legs.{LegName}
-use Rattle.ewma_sched.specs.Kept.{Legs, Rosters, has_name, leg_in, roster_in, waits_on, idle_of, idle_on, HasCount, KeepsRoster, IsKept, Changes, SameLegs}
+use Rattle.ewma_sched.specs.Tables.{Legs, Rosters, has_name, leg_in, roster_in, waits_on, idle_of, idle_on, HasCount, KeepsRoster, IsTable, Changes, SameLegs}
 use Rattle.ewma_sched.proofs.Names.{none_passes}
 
 -- a leg that is there lies on this channel
@@ -48,56 +48,56 @@ module _ {old new : Legs} {leg : LegName} {was becomes : Option Leg} (change : C
   -- a roster of another channel stays
   pub roster_elsewhere : (chan other : ℕ) (now later : ℕ) → LiesOn chan was → LiesOn chan becomes → other ≢ chan
       → now ≤ later → (roster : Option Roster) → KeepsRoster old now other roster → KeepsRoster new later other roster
-  roster_elsewhere chan other now later lay lies apart le None kept =
+  roster_elsewhere chan other now later lay lies apart le None table =
       let idle_was = idle_elsewhere chan other was lay apart in
       let idle_becomes = idle_elsewhere chan other becomes lies apart in
       let idle_same : idle_on other new + idle_of other was ≡ idle_on other old + idle_of other becomes = change.idle other in
-      let idle = kept.idle in
+      let idle = table.idle in
       record {
         none = λ name x is. by_name (λ n. leg_in new n ≡ Some x → x.chan ≢ other) name
             (λ there e.
             let on : LiesOn chan (Some x) = subst (LiesOn chan) (sym at_leg ∙ there) lies in apart (sym e ∙ on))
-            (λ off there. kept.none name x (sym (at_other name off) ∙ there)) is;
+            (λ off there. table.none name x (sym (at_other name off) ∙ there)) is;
         idle = omega arith;
       }
-  roster_elsewhere chan other now later lay lies apart le (Some roster) kept =
+  roster_elsewhere chan other now later lay lies apart le (Some roster) table =
       let gone : count_by (has_name leg) roster.ready_queue.items ≡ 0
-      = kept.names leg ∙ ap (waits_on other) change.before ∙ waits_elsewhere chan other was lay apart in
+      = table.names leg ∙ ap (waits_on other) change.before ∙ waits_elsewhere chan other was lay apart in
       let idle_was = idle_elsewhere chan other was lay apart in
       let idle_becomes = idle_elsewhere chan other becomes lies apart in
       let idle_same : idle_on other new + idle_of other was ≡ idle_on other old + idle_of other becomes = change.idle other in
       record {
-        tick = omega (arith, kept.tick);
-        order = kept.order;
+        tick = omega (arith, table.tick);
+        order = table.order;
         names = λ name.
             by_name (λ n. count_by (has_name n) roster.ready_queue.items ≡ waits_on other (leg_in new n)) name
             (gone ∙ sym (ap (waits_on other) at_leg ∙ waits_elsewhere chan other becomes lies apart))
-            (λ off. kept.names name ∙ ap (waits_on other) (sym (at_other name off)));
+            (λ off. table.names name ∙ ap (waits_on other) (sym (at_other name off)));
         counts = λ k d within.
             let w = get_or roster.ready_queue.items k d in
             subst (λ o. HasCount o roster.tick w.count)
             (sym (at_other (w.circ, w.number) (none_passes (has_name leg) roster.ready_queue.items gone k d within)))
-            (kept.counts k d within);
-        idle = let i = kept.idle in omega arith;
-        room = kept.room;
+            (table.counts k d within);
+        idle = let i = table.idle in omega arith;
+        room = table.room;
       }
 
 -- no leg changes
 module _ {old new : Legs} (same : SameLegs old new) where
   pub roster_same : (chan now later : ℕ) → now ≤ later → (roster : Option Roster) → KeepsRoster old now chan roster
       → KeepsRoster new later chan roster
-  roster_same chan now later le None kept =
-      record { none = λ name x is. kept.none name x (sym (same.legs name) ∙ is); idle = same.idle chan ∙ kept.idle }
-  roster_same chan now later le (Some roster) kept =
+  roster_same chan now later le None table =
+      record { none = λ name x is. table.none name x (sym (same.legs name) ∙ is); idle = same.idle chan ∙ table.idle }
+  roster_same chan now later le (Some roster) table =
       record {
-        tick = omega (arith, kept.tick);
-        order = kept.order;
-        names = λ name. kept.names name ∙ ap (waits_on chan) (sym (same.legs name));
+        tick = omega (arith, table.tick);
+        order = table.order;
+        names = λ name. table.names name ∙ ap (waits_on chan) (sym (same.legs name));
         counts = λ k d within.
             let w = get_or roster.ready_queue.items k d in
-            subst (λ o. HasCount o roster.tick w.count) (sym (same.legs (w.circ, w.number))) (kept.counts k d within);
-        idle = kept.idle ∙ sym (same.idle chan);
-        room = kept.room;
+            subst (λ o. HasCount o roster.tick w.count) (sym (same.legs (w.circ, w.number))) (table.counts k d within);
+        idle = table.idle ∙ sym (same.idle chan);
+        room = table.room;
       }
 
 -- one roster is another thing, or there or gone
@@ -105,12 +105,12 @@ abbrev pub RosterChanges : Rosters → Rosters → ℕ → Option Roster → Typ
 RosterChanges old new chan becomes = (other : ℕ) → roster_in new other ≡ cond (eqb chan other) becomes (roster_in old other)
 
 pub keeps_by : {legs legs' : Legs} {rosters rosters' : Rosters} (chan now later : ℕ) (becomes : Option Roster)
-    → IsKept legs rosters now → RosterChanges rosters rosters' chan becomes
+    → IsTable legs rosters now → RosterChanges rosters rosters' chan becomes
     → ((leg : LegName) (x : Leg) → leg_in legs' leg ≡ Some x → x.count.tick ≤ later)
     → ((other : ℕ) → other ≢ chan → (roster : Option Roster) → KeepsRoster legs now other roster → KeepsRoster legs' later other roster)
     → KeepsRoster legs' later chan becomes
-    → IsKept legs' rosters' later
-keeps_by {legs' = legs'} {rosters = rosters} chan now later becomes kept roster ticks elsewhere here =
+    → IsTable legs' rosters' later
+keeps_by {legs' = legs'} {rosters = rosters} chan now later becomes table roster ticks elsewhere here =
     record {
       ticks = ticks;
       keeps = λ other.
@@ -122,7 +122,7 @@ keeps_by {legs' = legs'} {rosters = rosters} chan now later becomes kept roster 
             | inr apart ↦
                 subst (KeepsRoster legs' later other)
                 (sym (roster other ∙ ap (λ b. cond b becomes (roster_in rosters other)) (ne_eqb chan other apart)))
-                (elsewhere other (λ e. apart (sym e)) (roster_in rosters other) (kept.keeps other))
+                (elsewhere other (λ e. apart (sym e)) (roster_in rosters other) (table.keeps other))
           ];
     }
 

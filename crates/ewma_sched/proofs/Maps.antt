@@ -12,7 +12,7 @@ use Rattle.std.specs.Option.{unwrap_or, option_map}
 use Rattle.hashed_maps.specs.Pairs.{pair_eq}
 use Rattle.ewma_sched.specs.declared.legs.Leg.{Leg}
 use Rattle.ewma_sched.specs.Legs.{LegName}
-use Rattle.ewma_sched.specs.Kept.{Legs, leg_in, is_idle, idle_on, Changes, SameLegs}
+use Rattle.ewma_sched.specs.Tables.{Legs, leg_in, idle_count, idle_on, Changes, SameLegs}
 
 pub names_equiv : IsEquivalence pair_eq
 names_equiv = and_equiv (on_equiv (λ (p : LegName). p.0) nat_eq_equiv) (on_equiv (λ (p : LegName). p.1) nat_eq_equiv)
@@ -30,7 +30,7 @@ written old new leg x y there is =
           ap (λ l. leg_in l other) is
           ∙ lookup-set_value names_equiv (pair_eq leg) (names_equiv.congr leg) other y old (is_there (leg_in old leg) x there);
       idle = λ chan.
-          ap (λ l. idle_on chan l + is_idle chan x) is ∙ sum_by-set_value (is_idle chan) (pair_eq leg) old x y there;
+          ap (λ l. idle_on chan l + idle_count chan x) is ∙ sum_by-set_value (idle_count chan) (pair_eq leg) old x y there;
     }
 
 pub written_same : (old new : Legs) (leg : LegName) (x : Leg) → leg_in old leg ≡ Some x
@@ -48,10 +48,10 @@ removed old new leg x there after moved =
       after = after;
       idle = λ chan.
           let same : idle_on chan new ≡ idle_on chan (remove_entry (pair_eq leg) old)
-          = sum_by_values_permutation (is_idle chan) (remove_entry (pair_eq leg) old) new moved in
-          let less = sum_by-remove_entry (is_idle chan) (pair_eq leg) old in
-          let found : unwrap_or (option_map (is_idle chan) (leg_in old leg)) 0 ≡ is_idle chan x
-          = ap (λ o. unwrap_or (option_map (is_idle chan) o) 0) there in
+          = sum_by_values_permutation (idle_count chan) (remove_entry (pair_eq leg) old) new moved in
+          let less = sum_by-remove_entry (idle_count chan) (pair_eq leg) old in
+          let found : unwrap_or (option_map (idle_count chan) (leg_in old leg)) 0 ≡ idle_count chan x
+          = ap (λ o. unwrap_or (option_map (idle_count chan) o) 0) there in
           omega arith;
     }
 
@@ -64,16 +64,16 @@ inserted old new leg y absent after moved =
       after = after;
       idle = λ chan.
           let same : idle_on chan new ≡ idle_on chan ((leg, y) ∷ old)
-          = sum_by_values_permutation (is_idle chan) ((leg, y) ∷ old) new moved in
-          let more : idle_on chan ((leg, y) ∷ old) ≡ is_idle chan y + idle_on chan old
-          = sum_by-cons (is_idle chan) y (values_of old) in
+          = sum_by_values_permutation (idle_count chan) ((leg, y) ∷ old) new moved in
+          let more : idle_on chan ((leg, y) ∷ old) ≡ idle_count chan y + idle_on chan old
+          = sum_by-cons (idle_count chan) y (values_of old) in
           omega arith;
     }
 
 pub reordered : (old new : Legs) → ((other : LegName) → leg_in new other ≡ leg_in old other)
     → IsPermutation old new → SameLegs old new
 reordered old new same moved =
-    record { legs = same; idle = λ chan. sum_by_values_permutation (is_idle chan) old new moved }
+    record { legs = same; idle = λ chan. sum_by_values_permutation (idle_count chan) old new moved }
 
 pub unchanged : (old new : Legs) → new ≡ old → SameLegs old new
 unchanged old new same =

@@ -12,9 +12,10 @@ use Rattle.ewma_sched.specs.declared.roster.ReadyLeg.{ReadyLeg}
 use Rattle.ewma_sched.specs.declared.legs.Leg.{Leg}
 use Rattle.ewma_sched.specs.Counts.{halved}
 use Rattle.ewma_sched.specs.Legs.{LegName, IsServedFirst}
-use Rattle.ewma_sched.specs.Kept.{Legs, has_name, leg_in, waits_on, state_of, HasCount, IsRoster, IsWithoutLegs, Waits, IsFirst, NoneWaitsOn}
+use Rattle.ewma_sched.specs.Tables.{Legs, has_name, leg_in, waits_on, state_of, HasCount, IsRoster, IsWithoutLegs, Waits, IsFirst, NoneWaitsOn}
 use Rattle.ewma_sched.specs.Order.{is_before, IsInOrder}
-use Rattle.ewma_sched.proofs.RosterSteps.{waits_one, ready_at, stands}
+use Rattle.ewma_sched.proofs.Weights.{waits_one}
+use Rattle.ewma_sched.proofs.Standing.{ready_at, stands}
 use Rattle.ewma_sched.proofs.Names.{count_cons}
 
 first_part : (b a : ℕ) (rest r : Ordering) → MatchOrdering r (b < a) (b ≡ a) (a < b)
@@ -53,10 +54,10 @@ not_before_gives a b leg other now x y first second h =
 weighs_some : (chan : ℕ) (o : Option Leg) → 1 ≤ waits_on chan o → (x : Leg) × (o ≡ Some x) × Waits chan x
 weighs_some chan None some = absurd (omega arith)
 weighs_some chan (Some x) some =
-    elim (cases_Bool (eqb x.chan chan && x.queued)) [
+    elim (cases_Bool (eqb x.chan chan && x.has_cells)) [
       | inl both ↦
-          let parts = and_parts (eqb x.chan chan) x.queued both in
-          (x, refl, record { chan = eqb-true x.chan chan parts.0; queued = parts.1 })
+          let parts = and_parts (eqb x.chan chan) x.has_cells both in
+          (x, refl, record { chan = eqb-true x.chan chan parts.0; has_cells = parts.1 })
       | inr apart ↦
           let none : waits_on chan (Some x) ≡ 0 = ap (λ b. cond {A = ℕ} b 1 0) apart in absurd (omega arith)
     ]
@@ -104,7 +105,7 @@ first_of_roster legs chan now roster first rest is ticked was front =
       there = front.there;
       waits = front.waits;
       first = λ other y there waits.
-          let s = stands legs chan now roster other y is there waits.chan waits.queued in
+          let s = stands legs chan now roster other y is there waits.chan waits.has_cells in
           not_before_gives first (get_or items s.place first) leg other now front.state y front.is
           (s.entry first ∙ ap (ready_at other y) ticked)
           (ap (λ w. is_before (get_or items s.place first) w) (ap (λ l. get_or l 0 first) (sym was))
@@ -114,7 +115,7 @@ first_of_roster legs chan now roster first rest is ticked was front =
 pub none_in_roster : (legs : Legs) (chan now : ℕ) (roster : Roster) → IsRoster legs now chan roster
     → roster.ready_queue.items ≡ [] → NoneWaitsOn legs chan
 none_in_roster legs chan now roster is items leg x there waits =
-    let one = waits_one chan x waits.chan waits.queued in
+    let one = waits_one chan x waits.chan waits.has_cells in
     let weight : waits_on chan (Some x) ≡ 0
     = ap (waits_on chan) (sym there) ∙ sym (is.names leg) ∙ ap (count_by (has_name leg)) items in
     omega arith

@@ -9,7 +9,7 @@ use Rattle.hashed_maps.proofs.Keys.{pair_keys, agrees_back}
 use Rattle.hashed_maps.proofs.Entries.{get-entries}
 use Rattle.ewma_sched.specs.declared.legs.Leg.{Leg}
 use Rattle.ewma_sched.specs.Legs.{LegName, LegState, SchedState, leg_at, with_leg, without_leg, halved_leg, at_tick}
-use Rattle.ewma_sched.specs.Kept.{Becomes, Legs, leg_in, state_of, states}
+use Rattle.ewma_sched.specs.Tables.{Becomes, Legs, leg_in, state_of, states}
 use Rattle.ewma_sched.proofs.Halving.{halved_from}
 
 -- a leg's name is found where the map of the same entries has it
@@ -48,7 +48,7 @@ halved_later : (now tick : ℕ) (o : Option Leg) → now ≤ tick → ((x : Leg)
 halved_later now tick None le ticks = refl
 halved_later now tick (Some x) le ticks =
     let count = sym (halved_from x.count.value x.count.tick now tick (ticks x refl) le) in
-    λ i. Some (record { chan = x.chan; count = count i; queued = x.queued })
+    λ i. Some (record { chan = x.chan; count = count i; has_cells = x.has_cells })
 
 -- what the kept legs mean at a later tick
 pub later_at : (legs : Legs) (now tick : ℕ) (leg : LegName) → now ≤ tick

@@ -8,7 +8,7 @@ use Rattle.hashed_maps.proofs.Keys.{pair_keys, same_key, eq-itself}
 use Rattle.ewma_sched.specs.declared.legs.Leg.{Leg}
 use Rattle.ewma_sched.specs.Counts.{halved}
 use Rattle.ewma_sched.specs.Legs.{LegName, LegState, SchedState, leg_at, with_leg, without_leg, at_tick, new_leg, with_leg_by, with_leg_as, charged_leg, queued_leg, IsNext, NoneWaits, IsServedFirst}
-use Rattle.ewma_sched.specs.Kept.{Legs, leg_in, state_of, states, queued_as, charged_at, Becomes, Changes, SameLegs, Charges, IsFirst, NoneWaitsOn}
+use Rattle.ewma_sched.specs.Tables.{Legs, leg_in, state_of, states, queued_as, charged_at, Becomes, Changes, SameLegs, Charges, IsFirst, NoneWaitsOn}
 use Rattle.ewma_sched.proofs.Halving.{halved_none}
 use Rattle.ewma_sched.proofs.States.{states_at, later_at, same_states, leg_gone, leg_changed, same_later, changed_later, kept_leg}
 
@@ -33,10 +33,10 @@ states_same legs legs' tick tick' same ticks = ap (λ l. states l tick') same �
 -- a leg that joins, through the room that was taken and the leg of its name that is gone
 pub joined_view : (old roomy gone new : Legs) (now tick chan : ℕ) (leg : LegName) → now ≤ tick → CountedBy old now
     → SameLegs old roomy → Becomes roomy gone leg None
-    → Changes gone new leg None (Some (record { chan = chan; count = record { value = 0; tick = tick }; queued = false }))
+    → Changes gone new leg None (Some (record { chan = chan; count = record { value = 0; tick = tick }; has_cells = false }))
     → states new tick ≡ with_leg (at_tick (states old now) tick) leg (new_leg chan)
 joined_view old roomy gone new now tick chan leg le ticks same left put =
-    let x : Leg = record { chan = chan; count = record { value = 0; tick = tick }; queued = false } in
+    let x : Leg = record { chan = chan; count = record { value = 0; tick = tick }; has_cells = false } in
     let becomes : Becomes old new leg (Some x)
     = λ other.
     elim (cases_Bool (pair_eq leg other)) [
@@ -52,7 +52,7 @@ joined_view old roomy gone new now tick chan leg le ticks same left put =
     let none : tick - tick ≡ 0 = omega arith in
     let zero : halved 0 (tick - tick) ≡ 0 = halved_none 0 (tick - tick) none in
     changed_later old new now tick le ticks leg x becomes
-    ∙ ap (λ n. with_leg (at_tick (states old now) tick) leg (record { chan = chan; count = n; queued = false })) zero
+    ∙ ap (λ n. with_leg (at_tick (states old now) tick) leg (record { chan = chan; count = n; has_cells = false })) zero
 
 -- a leg that is gone, through a change of what it has queued
 pub left_view : (old new : Legs) (now : ℕ) (leg : LegName) → Becomes old new leg None
@@ -93,7 +93,7 @@ module _ (old : Legs) (now tick : ℕ) (le : now ≤ tick) (ticks : CountedBy ol
       let count = (charged_at tick x).count.value in
       let same : halved count (tick - tick) ≡ count = halved_none count (tick - tick) none in
       changed_later old new now tick le ticks leg (charged_at tick x) charges.change.after
-      ∙ ap (λ n. with_leg s leg (record { chan = x.chan; count = n; queued = x.queued })) same
+      ∙ ap (λ n. with_leg s leg (record { chan = x.chan; count = n; has_cells = x.has_cells })) same
       ∙ ap (with_leg_as charged_leg s leg) (sym (there_later leg x charges.change.before))
 
   pub next_view : (chan : ℕ) (leg : LegName) → IsFirst old tick chan leg → IsNext (at_tick (states old now) tick) chan leg
@@ -101,13 +101,13 @@ module _ (old : Legs) (now tick : ℕ) (le : now ≤ tick) (ticks : CountedBy ol
       record {
         state = state_of tick first.state;
         there = there_later leg first.state first.there;
-        waits = record { chan = first.waits.chan; queued = first.waits.queued };
+        waits = record { chan = first.waits.chan; has_cells = first.waits.has_cells };
         first = λ other y there waits.
-            let kept = kept_leg tick (leg_in old other) y (sym (later_at old now tick other le ticks) ∙ there) in
-            let x = kept.0 in
-            subst (λ z. IsServedFirst leg (state_of tick first.state) other z) kept.2
-            (first.first other x kept.1
-            (record { chan = ap (λ z. z.chan) kept.2 ∙ waits.chan; queued = ap (λ z. z.queued) kept.2 ∙ waits.queued }));
+            let table = kept_leg tick (leg_in old other) y (sym (later_at old now tick other le ticks) ∙ there) in
+            let x = table.0 in
+            subst (λ z. IsServedFirst leg (state_of tick first.state) other z) table.2
+            (first.first other x table.1
+            (record { chan = ap (λ z. z.chan) table.2 ∙ waits.chan; has_cells = ap (λ z. z.has_cells) table.2 ∙ waits.has_cells }));
       }
 
   pub count_view : (leg : LegName) (x : Leg) → leg_in old leg ≡ Some x
@@ -120,9 +120,9 @@ module _ (old : Legs) (now tick : ℕ) (le : now ≤ tick) (ticks : CountedBy ol
 
 pub none_view : (old : Legs) (now chan : ℕ) → NoneWaitsOn old chan → NoneWaits (states old now) chan
 none_view old now chan none leg y there waits =
-    let kept = kept_leg now (leg_in old leg) y (sym (states_at old now leg) ∙ there) in
-    none leg kept.0 kept.1
-    (record { chan = ap (λ z. z.chan) kept.2 ∙ waits.chan; queued = ap (λ z. z.queued) kept.2 ∙ waits.queued })
+    let table = kept_leg now (leg_in old leg) y (sym (states_at old now leg) ∙ there) in
+    none leg table.0 table.1
+    (record { chan = ap (λ z. z.chan) table.2 ∙ waits.chan; has_cells = ap (λ z. z.has_cells) table.2 ∙ waits.has_cells })
 
 -- a leg that is there is kept
 pub kept_there : (old : Legs) (now : ℕ) (leg : LegName)

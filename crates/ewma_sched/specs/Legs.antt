@@ -12,7 +12,7 @@ LegName = Pair
 pub record LegState : Type 0 where
   pub chan : ℕ
   pub count : ℕ
-  pub queued : Bool
+  pub has_cells : Bool
 
 pub record SchedState : Type 0 where
   pub legs : finite.FinMap pair_cmp LegState
@@ -21,7 +21,7 @@ pub record SchedState : Type 0 where
 abbrev pub leg_code : Coded LegState
 leg_code =
     code_by (ℕ × (ℕ × Bool)) (coded× coded_ℕ (coded× coded_ℕ coded_bool))
-    (λ x. (x.chan, (x.count, x.queued))) (λ p. record { chan = p.0; count = p.1.0; queued = p.1.1 }) (λ _. refl)
+    (λ x. (x.chan, (x.count, x.has_cells))) (λ p. record { chan = p.0; count = p.1.0; has_cells = p.1.1 }) (λ _. refl)
 
 abbrev pub sched_code : Coded SchedState
 sched_code =
@@ -52,7 +52,7 @@ at_tick s tick = record { legs = halved_legs (tick - s.tick) s.legs; tick = tick
 
 -- A leg that joins a channel: its count is 0, and it has nothing queued.
 abbrev pub new_leg : ℕ → LegState
-new_leg chan = record { chan = chan; count = 0; queued = false }
+new_leg chan = record { chan = chan; count = 0; has_cells = false }
 
 -- What becomes of a leg, where it is there.
 abbrev pub with_leg_as : (LegState → LegState) → SchedState → LegName → Option LegState → SchedState
@@ -66,12 +66,12 @@ abbrev pub charged_leg : LegState → LegState
 charged_leg x = record x { count = charged x.count }
 
 abbrev pub queued_leg : Bool → LegState → LegState
-queued_leg some x = record x { queued = some }
+queued_leg some x = record x { has_cells = some }
 
 -- The leg has something queued, on this channel.
 pub record WaitsOn (channel : ℕ) (x : LegState) : Type 0 where
   pub chan : x.chan ≡ channel
-  pub queued : x.queued ≡ true
+  pub has_cells : x.has_cells ≡ true
 
 -- A leg with this name and state is served no later than another: it has the least count, of those with
 -- that the least circuit number, and of those with that the least leg number.

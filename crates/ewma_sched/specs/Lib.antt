@@ -1,4 +1,4 @@
 pub mod Counts
-pub mod Kept
+pub mod Tables
 pub mod Legs
 pub mod Order

@@ -1,8 +1,8 @@
 //! What is known of each leg.
 
 ghost use Rattle.std.specs.HashMap.{spare};
-ghost use Rattle.std.specs.Prelude.{◌≡◌, ◌≤◌, true, Some, None, IfSome, IfNone, MatchOption};
-ghost use Rattle.ewma_sched.specs.Kept.{Changes, SameLegs, leg_in, negated};
+ghost use Rattle.std.specs.Prelude.{not, ◌≡◌, ◌≤◌, true, Some, None, IfSome, IfNone, MatchOption};
+ghost use Rattle.ewma_sched.specs.Tables.{Changes, SameLegs, leg_in};
 
 use crate::count::Count;
 use std::alloc::AllocError;
@@ -13,7 +13,7 @@ use std::collections::HashMap;
 pub(crate) struct Leg {
     pub chan: u64,
     pub count: Count,
-    pub queued: bool,
+    pub has_cells: bool,
 }
 
 /// A leg's circuit number and its own.
@@ -32,18 +32,18 @@ pub(crate) fn set_count(legs: &mut Legs, name: LegName, count: Count)
 
 /// Notes whether a leg has something queued. The answer is the leg as it was, where that is news.
 pub(crate) fn set_queued(legs: &mut Legs, name: LegName, some: bool) -> Option<Leg>
-    ensures some { IfSome result (λ x. Changes legs.old.entries legs.new.entries name (Some x) (Some (record x { queued = some }))) }
-    ensures news { IfSome result (λ x. x.queued ≡ negated some) }
+    ensures some { IfSome result (λ x. Changes legs.old.entries legs.new.entries name (Some x) (Some (record x { has_cells = some }))) }
+    ensures news { IfSome result (λ x. x.has_cells ≡ not some) }
     ensures none { IfNone result (SameLegs legs.old.entries legs.new.entries) }
     ensures spare { spare legs.new ≡ spare legs.old }
-    ensures known { IfNone result (MatchOption (leg_in legs.old.entries name) (true ≡ true) (λ x. x.queued ≡ some)) }
+    ensures known { IfNone result (MatchOption (leg_in legs.old.entries name) (true ≡ true) (λ x. x.has_cells ≡ some)) }
 {
     let leg = legs.get_mut(&name)?;
-    if leg.queued == some {
+    if leg.has_cells == some {
         return None;
     }
     let was = *leg;
-    leg.queued = some;
+    leg.has_cells = some;
     Some(was)
 }
 

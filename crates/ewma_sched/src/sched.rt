@@ -26,11 +26,11 @@ impl Model for Sched {
 
     ghost coded = { sched_code };
 
-    ghost use Rattle.ewma_sched.specs.Kept.{states, IsKept};
+    ghost use Rattle.ewma_sched.specs.Tables.{states, IsTable};
 
     ghost view = { λ s. states s.table.legs.entries s.table.tick };
 
-    ghost invariant = { λ s. IsKept s.table.legs.entries s.table.rosters.entries s.table.tick };
+    ghost invariant = { λ s. IsTable s.table.legs.entries s.table.rosters.entries s.table.tick };
 }
 
 impl Sched {

@@ -4,7 +4,7 @@ ghost use Rattle.std.specs.Prelude.{[], ◌≡◌, ◌+◌, ◌-◌, ◌≤◌, 
 ghost use Rattle.std.specs.VecDeque.{deque_len, deque_capacity};
 ghost use Rattle.std.specs.HashMap.{spare};
 ghost use Rattle.ewma_sched.specs.Counts.{charged, halved};
-ghost use Rattle.ewma_sched.specs.Kept.{Becomes, Changes, KeepsRoom, SameLegs, Charges, HasRoom, IsKept, IsFirst, NoneWaitsOn, roster_in, leg_in, queued_as};
+ghost use Rattle.ewma_sched.specs.Tables.{Becomes, Changes, KeepsRoom, SameLegs, Charges, HasRoom, IsTable, IsFirst, NoneWaitsOn, roster_in, leg_in, queued_as};
 
 use crate::count::Count;
 use crate::legs::{Leg, LegName, Legs, remove, set_count, set_queued};
@@ -25,7 +25,7 @@ impl LegTable {
     pub(crate) fn new(alloc: Global) -> LegTable
         ensures legs { result.legs.entries ≡ [] }
         ensures tick { result.tick ≡ 0 }
-        ensures kept { IsKept result.legs.entries result.rosters.entries result.tick }
+        ensures table { IsTable result.legs.entries result.rosters.entries result.tick }
     {
         LegTable {
             legs: HashMap::new(alloc),
@@ -37,8 +37,8 @@ impl LegTable {
 
     /// Takes room for one more leg of a channel.
     pub(crate) fn reserve(&mut self, chan: u64) -> Result<(), AllocError>
-        requires { IsKept self.old.legs.entries self.old.rosters.entries self.old.tick }
-        ensures kept { IsKept self.new.legs.entries self.new.rosters.entries self.new.tick }
+        requires { IsTable self.old.legs.entries self.old.rosters.entries self.old.tick }
+        ensures table { IsTable self.new.legs.entries self.new.rosters.entries self.new.tick }
         ensures legs { SameLegs self.old.legs.entries self.new.legs.entries }
         ensures tick { self.new.tick ≡ self.old.tick }
         ensures room { OnOk result (HasRoom (roster_in self.new.rosters.entries chan)) }
@@ -56,20 +56,20 @@ impl LegTable {
 
     /// Adds a leg that is not there, with count 0.
     pub(crate) fn put_in(&mut self, name: LegName, chan: u64, tick: u64)
-        requires kept { IsKept self.old.legs.entries self.old.rosters.entries self.old.tick }
+        requires table { IsTable self.old.legs.entries self.old.rosters.entries self.old.tick }
         requires tick { self.old.tick ≤ tick }
         requires new { leg_in self.old.legs.entries name ≡ None }
         requires room { HasRoom (roster_in self.old.rosters.entries chan) }
         requires spare { 1 ≤ spare self.old.legs }
-        ensures kept { IsKept self.new.legs.entries self.new.rosters.entries self.new.tick }
-        ensures leg { Changes self.old.legs.entries self.new.legs.entries name None (Some (record { chan = chan; count = record { value = 0; tick = tick }; queued = false })) }
+        ensures table { IsTable self.new.legs.entries self.new.rosters.entries self.new.tick }
+        ensures leg { Changes self.old.legs.entries self.new.legs.entries name None (Some (record { chan = chan; count = record { value = 0; tick = tick }; has_cells = false })) }
         ensures tick { self.new.tick ≡ tick }
     {
         self.tick = tick;
         let leg = Leg {
             chan,
             count: Count { value: 0, tick },
-            queued: false,
+            has_cells: false,
         };
         let _ = self.legs.insert(name, leg);
         let Some(roster) = self.rosters.get_mut(&chan) else {
@@ -80,8 +80,8 @@ impl LegTable {
 
     /// Takes a leg away. The answer is its channel.
     pub(crate) fn take_out(&mut self, name: LegName) -> Option<u64>
-        requires { IsKept self.old.legs.entries self.old.rosters.entries self.old.tick }
-        ensures kept { IsKept self.new.legs.entries self.new.rosters.entries self.new.tick }
+        requires { IsTable self.old.legs.entries self.old.rosters.entries self.old.tick }
+        ensures table { IsTable self.new.legs.entries self.new.rosters.entries self.new.tick }
         ensures tick { self.new.tick ≡ self.old.tick }
         ensures leg { Becomes self.old.legs.entries self.new.legs.entries name None }
         ensures room { KeepsRoom self.old.rosters.entries self.new.rosters.entries }
@@ -98,8 +98,8 @@ impl LegTable {
 
     /// Drops the roster of a channel that has no legs.
     pub(crate) fn drop_if_empty(&mut self, chan: u64)
-        requires { IsKept self.old.legs.entries self.old.rosters.entries self.old.tick }
-        ensures kept { IsKept self.new.legs.entries self.new.rosters.entries self.new.tick }
+        requires { IsTable self.old.legs.entries self.old.rosters.entries self.old.tick }
+        ensures table { IsTable self.new.legs.entries self.new.rosters.entries self.new.tick }
         ensures legs { self.new.legs ≡ self.old.legs }
         ensures tick { self.new.tick ≡ self.old.tick }
         ensures used { IfSome (roster_in self.new.rosters.entries chan) (λ roster. 1 ≤ deque_len roster.ready_queue + roster.idle) }
@@ -114,8 +114,8 @@ impl LegTable {
 
     /// Says whether a leg has something queued.
     pub(crate) fn queued(&mut self, name: LegName, some: bool)
-        requires { IsKept self.old.legs.entries self.old.rosters.entries self.old.tick }
-        ensures kept { IsKept self.new.legs.entries self.new.rosters.entries self.new.tick }
+        requires { IsTable self.old.legs.entries self.old.rosters.entries self.old.tick }
+        ensures table { IsTable self.new.legs.entries self.new.rosters.entries self.new.tick }
         ensures tick { self.new.tick ≡ self.old.tick }
         ensures room { KeepsRoom self.old.rosters.entries self.new.rosters.entries }
         ensures spare { spare self.old.legs ≤ spare self.new.legs }
@@ -137,9 +137,9 @@ impl LegTable {
 
     /// The leg of a channel that is served next, with its count after one more cell.
     pub(crate) fn pick(&mut self, chan: u64, tick: u64) -> Option<ReadyLeg>
-        requires kept { IsKept self.old.legs.entries self.old.rosters.entries self.old.tick }
+        requires table { IsTable self.old.legs.entries self.old.rosters.entries self.old.tick }
         requires tick { self.old.tick ≤ tick }
-        ensures kept { IsKept self.new.legs.entries self.new.rosters.entries self.new.tick }
+        ensures table { IsTable self.new.legs.entries self.new.rosters.entries self.new.tick }
         ensures tick { self.new.tick ≡ tick }
         ensures first { IfSome result (λ w. IsFirst self.old.legs.entries tick chan (w.circ, w.number)) }
         ensures charged { IfSome result (λ w. Charges self.old.legs.entries self.new.legs.entries tick (w.circ, w.number)) }

@@ -1,6 +1,6 @@
 use Rattle.std.proofs.Common.{Some, sym}
 use Rattle.ewma_sched.specs.declared.legs.Leg.{Leg}
-use Rattle.ewma_sched.specs.Kept.{Changes}
+use Rattle.ewma_sched.specs.Tables.{Changes}
 use Rattle.ewma_sched.proofs.Cases.{match_some}
 use Rattle.ewma_sched.proofs.Maps.{written}
 use Rattle.ewma_sched.proofs.legs.set_count.Goals as goal

@@ -2,7 +2,7 @@ use Rattle.std.proofs.Common.{◌≡◌, ◌≤◌, ◌∙◌, Some, true, false
 use Rattle.std.proofs.lemmas.Bool.{both_ways}
 use Rattle.std.specs.Option.{option_map, is_some}
 use Rattle.ewma_sched.specs.Legs.{LegName, LegState, leg_at, at_tick}
-use Rattle.ewma_sched.specs.Kept.{leg_in}
+use Rattle.ewma_sched.specs.Tables.{leg_in}
 use Rattle.ewma_sched.proofs.Views.{tick_of, count_view, kept_there}
 use Rattle.ewma_sched.proofs.sched.Sched.count.Goals as goal
 

@@ -1,6 +1,6 @@
 use Rattle.std.proofs.Common.{◌≡◌, ◌≤◌, ◌∙◌, ap, subst, arith}
 use Rattle.ewma_sched.specs.Legs.{LegName, at_tick, with_leg, new_leg}
-use Rattle.ewma_sched.specs.Kept.{states}
+use Rattle.ewma_sched.specs.Tables.{states}
 use Rattle.ewma_sched.proofs.Cases.{if_err}
 use Rattle.ewma_sched.proofs.States.{same_states}
 use Rattle.ewma_sched.proofs.Views.{states_tick, tick_of, joined_view, states_same, gone_itself}

@@ -1,6 +1,6 @@
 use Rattle.std.proofs.Common.{◌≡◌, ◌∙◌, ap, subst}
 use Rattle.ewma_sched.specs.Legs.{LegName, without_leg}
-use Rattle.ewma_sched.specs.Kept.{states}
+use Rattle.ewma_sched.specs.Tables.{states}
 use Rattle.ewma_sched.proofs.Views.{tick_of, states_tick, left_view, states_same}
 use Rattle.ewma_sched.proofs.sched.Sched.leave.Goals as goal
 

@@ -1,6 +1,6 @@
 use Rattle.std.proofs.Common.{◌≡◌, ◌≤◌, ◌∙◌, ap, subst, arith}
 use Rattle.ewma_sched.specs.Legs.{at_tick, with_leg_by, charged_leg, IsNext, NoneWaits}
-use Rattle.ewma_sched.specs.Kept.{states}
+use Rattle.ewma_sched.specs.Tables.{states}
 use Rattle.ewma_sched.proofs.Cases.{if_none}
 use Rattle.ewma_sched.proofs.Views.{states_tick, tick_of, charged_view, next_view, none_view, same_view}
 use Rattle.ewma_sched.proofs.sched.Sched.pick.Goals as goal

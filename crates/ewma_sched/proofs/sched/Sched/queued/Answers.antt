@@ -1,6 +1,6 @@
 use Rattle.std.proofs.Common.{◌≡◌, ◌∙◌, ap, subst}
 use Rattle.ewma_sched.specs.Legs.{LegName, with_leg_by, queued_leg}
-use Rattle.ewma_sched.specs.Kept.{states}
+use Rattle.ewma_sched.specs.Tables.{states}
 use Rattle.ewma_sched.proofs.Views.{tick_of, states_tick, queued_view}
 use Rattle.ewma_sched.proofs.sched.Sched.queued.Goals as goal
 

@@ -2,12 +2,12 @@ use Rattle.std.proofs.Common.{◌+◌, ◌≤◌, sym, ◌∙◌, ap, arith, sub
 use Rattle.std.specs.VecDeque.{deque_len, deque_capacity}
 use Rattle.ewma_sched.proofs.Keeping.{RosterChanges, roster_same}
 use Rattle.ewma_sched.proofs.Maps.{reordered}
-use Rattle.ewma_sched.proofs.RosterSteps.{roomier_roster, empty_roster}
-use Rattle.ewma_sched.proofs.TableSteps.{roster_kept, roster_missing, roster_written, kept_roster, kept_same}
+use Rattle.ewma_sched.proofs.RosterRoom.{roomier_roster, empty_roster}
+use Rattle.ewma_sched.proofs.TableRosters.{roster_table, roster_missing, roster_written, table_roster, table_same}
 use Rattle.ewma_sched.proofs.table.LegTable.reserve.Goals as goal
 
-pub returns-in-Some-clause-kept : goal.returns-in-Some-clause-kept
-returns-in-Some-clause-kept c =
+pub returns-in-Some-clause-table : goal.returns-in-Some-clause-table
+returns-in-Some-clause-table c =
     let s = c.args.self.now in
     let legs = c.reserve.new.self.entries in
     let same = reordered s.legs.entries legs c.reserve.ensures.entries.2 c.reserve.ensures.entries.0 in
@@ -15,9 +15,9 @@ returns-in-Some-clause-kept c =
     let next = c.reserve-in-Some.new.self in
     let there = sym c.in-Some.ensures.value in
     let e = c.reserve-in-Some.ensures in
-    let is = roster_kept c.args.chan roster c.requires there in
+    let is = roster_table c.args.chan roster c.requires there in
     let room : deque_len next.ready_queue + next.idle ≤ deque_capacity next.ready_queue = omega (arith, is.room, e.idle, e.len, e.capacity) in
-    kept_roster s.legs.entries legs s.rosters.entries _ c.args.chan s.tick s.tick (Some next) c.requires same (omega arith)
+    table_roster s.legs.entries legs s.rosters.entries _ c.args.chan s.tick s.tick (Some next) c.requires same (omega arith)
     (roster_written s.rosters.entries _ c.args.chan roster next there (c.get_mut.follows.holds next).0)
     (roster_same same c.args.chan s.tick s.tick (omega arith) (Some next)
     (roomier_roster s.legs.entries c.args.chan s.tick roster next is e.queue e.idle e.tick room))
@@ -25,28 +25,28 @@ returns-in-Some-clause-kept c =
 pub returns-in-Some-clause-legs : goal.returns-in-Some-clause-legs
 returns-in-Some-clause-legs c = reordered _ _ c.reserve.ensures.entries.2 c.reserve.ensures.entries.0
 
-pub returns-in_err-reserve-2-clause-kept : goal.returns-in_err-reserve-2-clause-kept
-returns-in_err-reserve-2-clause-kept c =
+pub returns-in_err-reserve-2-clause-table : goal.returns-in_err-reserve-2-clause-table
+returns-in_err-reserve-2-clause-table c =
     let s = c.args.self.now in
-    kept_same s.legs.entries c.reserve.new.self.entries s.rosters.entries _ s.tick c.requires
+    table_same s.legs.entries c.reserve.new.self.entries s.rosters.entries _ s.tick c.requires
     (reordered s.legs.entries c.reserve.new.self.entries c.reserve.ensures.entries.2 c.reserve.ensures.entries.0)
     (ap (λ m. m.entries) c.get_mut.follows.holds-at-none)
 
 pub returns-in_err-reserve-2-clause-legs : goal.returns-in_err-reserve-2-clause-legs
 returns-in_err-reserve-2-clause-legs c = reordered _ _ c.reserve.ensures.entries.2 c.reserve.ensures.entries.0
 
-pub returns-in_err-insert-clause-kept : goal.returns-in_err-insert-clause-kept
-returns-in_err-insert-clause-kept c =
+pub returns-in_err-insert-clause-table : goal.returns-in_err-insert-clause-table
+returns-in_err-insert-clause-table c =
     let s = c.args.self.now in
-    kept_same s.legs.entries c.reserve.new.self.entries s.rosters.entries _ s.tick c.requires
+    table_same s.legs.entries c.reserve.new.self.entries s.rosters.entries _ s.tick c.requires
     (reordered s.legs.entries c.reserve.new.self.entries c.reserve.ensures.entries.2 c.reserve.ensures.entries.0)
     (c.in_err-insert.ensures.err ∙ ap (λ m. m.entries) c.get_mut.follows.holds-at-none)
 
 pub returns-in_err-insert-clause-legs : goal.returns-in_err-insert-clause-legs
 returns-in_err-insert-clause-legs c = reordered _ _ c.reserve.ensures.entries.2 c.reserve.ensures.entries.0
 
-pub returns-clause-kept : goal.returns-clause-kept
-returns-clause-kept c =
+pub returns-clause-table : goal.returns-clause-table
+returns-clause-table c =
     let s = c.args.self.now in
     let legs = c.reserve.new.self.entries in
     let same = reordered s.legs.entries legs c.reserve.ensures.entries.2 c.reserve.ensures.entries.0 in
@@ -56,7 +56,7 @@ returns-clause-kept c =
     let none = c.in_default.ensures.value in
     let without = roster_missing c.args.chan c.requires (sym none) in
     let room : deque_len next.ready_queue + next.idle ≤ deque_capacity next.ready_queue = omega (arith, e.idle, n.idle, next.ready_queue.small.1) in
-    kept_roster s.legs.entries legs s.rosters.entries _ c.args.chan s.tick s.tick (Some next) c.requires same (omega arith)
+    table_roster s.legs.entries legs s.rosters.entries _ c.args.chan s.tick s.tick (Some next) c.requires same (omega arith)
     (subst (λ m. RosterChanges m.entries c.insert.new.self.entries c.args.chan (Some next)) c.get_mut.follows.holds-at-none
     c.in_ok-insert.ensures.updates.0)
     (roster_same same c.args.chan s.tick s.tick (omega arith) (Some next)

@@ -1,5 +1,5 @@
 -- What the code keeps of the legs, and what that means.
-use Rattle.std.specs.Prelude.{◌≡◌, ◌≢◌, ℕ, ◌+◌, ◌-◌, ◌≤◌, ◌==◌, ◌&&◌, Bool, true, false, if◌then◌else◌, List, map, Option, Some, None, count_by}
+use Rattle.std.specs.Prelude.{◌≡◌, ◌≢◌, ℕ, ◌+◌, ◌-◌, ◌≤◌, ◌==◌, ◌&&◌, not, Bool, true, if◌then◌else◌, List, map, Option, Some, None, count_by}
 use Rattle.std.specs.List.{All, sum_by}
 use Rattle.std.specs.Map.{lookup, values_of}
 use Rattle.std.specs.FinMap as finite
@@ -27,7 +27,7 @@ roster_in rosters chan = lookup (λ n. chan == n) rosters
 -- A leg's count at a tick: each tick since that of its count halves it.
 abbrev pub state_of : ℕ → Leg → LegState
 state_of tick x =
-    record { chan = x.chan; count = halved x.count.value (tick - x.count.tick); queued = x.queued }
+    record { chan = x.chan; count = halved x.count.value (tick - x.count.tick); has_cells = x.has_cells }
 
 -- What the kept legs mean at a tick.
 unfoldable pub states : Legs → ℕ → SchedState
@@ -39,22 +39,18 @@ has_name leg w = pair_eq leg (w.circ, w.number)
 -- How often a leg stands among those that wait on a channel.
 abbrev pub waits_on : ℕ → Option Leg → ℕ
 waits_on chan None = 0
-waits_on chan (Some x) = if (x.chan == chan) && x.queued then 1 else 0
+waits_on chan (Some x) = if (x.chan == chan) && x.has_cells then 1 else 0
 
-abbrev pub negated : Bool → Bool
-negated true = false
-negated false = true
-
--- Whether a leg of the channel has nothing queued.
-abbrev pub is_idle : ℕ → Leg → ℕ
-is_idle chan x = if (x.chan == chan) && negated x.queued then 1 else 0
+-- 1 for a leg of the channel that has nothing queued.
+abbrev pub idle_count : ℕ → Leg → ℕ
+idle_count chan x = if (x.chan == chan) && not x.has_cells then 1 else 0
 
 abbrev pub idle_of : ℕ → Option Leg → ℕ
 idle_of chan None = 0
-idle_of chan (Some x) = is_idle chan x
+idle_of chan (Some x) = idle_count chan x
 
 abbrev pub idle_on : ℕ → Legs → ℕ
-idle_on chan legs = sum_by (is_idle chan) (values_of legs)
+idle_on chan legs = sum_by (idle_count chan) (values_of legs)
 
 -- The leg has this count at the tick.
 abbrev pub HasCount : Option Leg → ℕ → ℕ → Type 0
@@ -81,7 +77,7 @@ abbrev pub KeepsRoster : Legs → ℕ → ℕ → Option Roster → Type 0
 KeepsRoster legs tick chan None = IsWithoutLegs legs chan
 KeepsRoster legs tick chan (Some roster) = IsRoster legs tick chan roster
 
-pub record IsKept (legs : Legs) (rosters : Rosters) (now : ℕ) : Type 0 where
+pub record IsTable (legs : Legs) (rosters : Rosters) (now : ℕ) : Type 0 where
   pub ticks : (leg : LegName) (x : Leg) → leg_in legs leg ≡ Some x → x.count.tick ≤ now
   pub keeps : (chan : ℕ) → KeepsRoster legs now chan (roster_in rosters chan)
 
@@ -98,7 +94,7 @@ pub record Changes (old new : Legs) (leg : LegName) (was becomes : Option Leg) :
 
 -- A leg that has something queued from now on, or has not.
 abbrev pub queued_as : Bool → Leg → Leg
-queued_as some x = record x { queued = some }
+queued_as some x = record x { has_cells = some }
 
 -- Every leg is as it was.
 pub record SameLegs (old new : Legs) : Type 0 where
@@ -117,7 +113,7 @@ KeepsRoom old new = (chan : ℕ) → HasRoom (roster_in old chan) → HasRoom (r
 -- A leg of the channel that has something queued.
 pub record Waits (channel : ℕ) (x : Leg) : Type 0 where
   pub chan : x.chan ≡ channel
-  pub queued : x.queued ≡ true
+  pub has_cells : x.has_cells ≡ true
 
 -- Of the legs that have something queued on the channel this one is served first.
 pub record IsFirst (legs : Legs) (tick chan : ℕ) (leg : LegName) : Type 0 where
