@@ -7,8 +7,9 @@ ghost use Rattle.relay_cell.specs.Begin.{target_of};
 
 use crate::body::write_body;
 use crate::command;
+use crate::decimal::read_port;
 use crate::payload::Payload;
-use crate::text::{is_host_length, read_port, read_text, split_at_last_colon};
+use crate::text::{is_host_length, read_text, split_at_last_colon};
 
 /// Where a client wants to be connected to.
 #[derive(Clone, Copy, PartialEq, Eq, Debug)]

@@ -1,7 +1,8 @@
 //! EXTEND2 and EXTENDED2: a circuit gets one more hop (tor-spec, "CREATE and CREATED cells",
 //! "EXTEND and EXTENDED cells").
 
-ghost use Rattle.std.specs.Prelude.{◌≡◌, ◌≤◌, IfSome, IfNone, Some, None, length, option_map};
+ghost use Rattle.std.specs.Prelude.{◌≡◌, ◌≤◌, ◌++◌, IfSome, IfNone, Some, None, length, drop, option_map};
+ghost use Rattle.byteorder.specs.Endian.{big_bytes};
 ghost use Rattle.tor_spec.specs.Extend.{create2_payload, destination, extend_payload, extend_request, handshake_reply, handshake_reply_payload, handshake_request};
 ghost use Rattle.tor_spec.specs.RelayCell.{extend2_command, extended2_command, relay_body};
 ghost use Rattle.relay_cell.specs.Extend.{address_of, extend_of};
@@ -10,6 +11,7 @@ use crate::body::write_body;
 use crate::command;
 use crate::payload::Payload;
 use crate::specifier::Specifier;
+use byteorder::{BigEndian, ByteOrder};
 
 /// An IPv4 address and a port.
 pub type Dest4 = ([u8; 4], u16);
@@ -71,9 +73,9 @@ fn read_destination(count: u8, bytes: &[u8]) -> Option<(Option<Dest4>, &[u8])>
     let mut to = None;
     let mut rest = bytes;
     for i in 0..count {
-        let (specifier, behind) = Specifier::read(rest)?;
+        let (specifier, tail) = Specifier::read(rest)?;
         to = to.or(specifier.address());
-        rest = behind;
+        rest = tail;
     }
     Some((to, rest))
 }
@@ -101,10 +103,18 @@ pub fn create2_payload(htype: u16, hdata: &[u8]) -> [u8; 509]
     ensures { result ≡ create2_payload htype hdata.now }
 {
     let mut payload = [0; 509];
-    payload[..2].copy_from_slice(&htype.to_be_bytes());
-    payload[2..4].copy_from_slice(&(hdata.len() as u16).to_be_bytes());
+    write_handshake_head(&mut payload, htype, hdata.len() as u16);
     payload[4..4 + hdata.len()].copy_from_slice(hdata);
     payload
+}
+
+/// Writes the type of a handshake and the length of its data at the front.
+fn write_handshake_head(out: &mut [u8], htype: u16, hlen: u16)
+    requires { 4 ≤ length out.old }
+    ensures { out.new ≡ (big_bytes 2 htype ++ big_bytes 2 hlen) ++ drop 4 out.old }
+{
+    BigEndian::write_u16(out, htype);
+    BigEndian::write_u16(&mut out[2..], hlen);
 }
 
 /// The body of an EXTENDED2 with this answer to a handshake.

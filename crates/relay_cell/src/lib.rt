@@ -12,6 +12,7 @@ mod begin;
 mod body;
 pub mod command;
 mod connected;
+pub mod decimal;
 mod ends;
 mod extend;
 mod head;

@@ -28,8 +28,8 @@ impl<'a> Specifier<'a> {
         if !is_specifier_length(*kind, *size) {
             return None;
         }
-        let (value, behind) = rest.split_at_checked(usize::from(*size))?;
-        Some((Specifier { kind: *kind, value }, behind))
+        let (value, tail) = rest.split_at_checked(usize::from(*size))?;
+        Some((Specifier { kind: *kind, value }, tail))
     }
 
     /// The address and port, where the specifier is of the type for IPv4.

@@ -199,9 +199,9 @@ fn pads_behind_four_zero_bytes(rt: HostRuntime) -> Result<(), Fail> {
         assert!(rt; read_head(&body).is_some());
         put_padding(&mut body, &from);
         assert!(rt; body[11..11 + length].iter().all(|byte| *byte == 1));
-        let behind = &body[11 + length..];
-        assert!(rt; zeros <= behind.len());
-        let (gap, padding) = behind.split_at(zeros);
+        let tail = &body[11 + length..];
+        assert!(rt; zeros <= tail.len());
+        let (gap, padding) = tail.split_at(zeros);
         assert!(rt; gap.iter().all(|byte| *byte == 0));
         assert!(rt; padding.iter().all(|byte| *byte == 0xee));
     }

@@ -52,7 +52,7 @@ pub record HasValues (members : Members) (s : SettingsValue) : Type 0 where
   pub allow : map allow_of_line (lines members) ≡ map Some s.rules.allow
 
 -- The text is the TOML document of these members.
-pub record Reads (text : List ℕ) (members : Members) : Type 0 where
+pub record IsDocument (text : List ℕ) (members : Members) : Type 0 where
   pub utf8 : IsUtf8 text
   pub document : parse_document text ≡ Some members
 
@@ -60,7 +60,7 @@ pub record Reads (text : List ℕ) (members : Members) : Type 0 where
 pub record GivesSettings (text : List ℕ) (s : SettingsValue) : Type 0 where
   pub short : length text ≤ most_bytes
   pub members : Members
-  pub reads : Reads text members
+  pub reads : IsDocument text members
   pub kept : broken_rule members ≡ None
   pub values : HasValues members s
 
@@ -68,9 +68,9 @@ pub record GivesSettings (text : List ℕ) (s : SettingsValue) : Type 0 where
 -- document's.
 pub data BreaksFirst (text : List ℕ) : ℕ → Type 0 where
   too_long : most_bytes < length text → BreaksFirst text 1
-  no_document : length text ≤ most_bytes → ((members : Members) → ¬ Reads text members) → BreaksFirst text 2
+  no_document : length text ≤ most_bytes → ((members : Members) → ¬ IsDocument text members) → BreaksFirst text 2
   in_document : (members : Members) (rule : ℕ)
-      → length text ≤ most_bytes → Reads text members → broken_rule members ≡ Some rule
+      → length text ≤ most_bytes → IsDocument text members → broken_rule members ≡ Some rule
       → BreaksFirst text rule
 
 -- A rule that is named is the first that is broken. Memory may be wanting only for a text that isn't too long.

@@ -1,16 +1,15 @@
 // An IPv4 address and a port as a text, "a.b.c.d:port".
 
-ghost use Rattle.std.specs.Prelude.{◌≡◌, ◌==◌, ◌≤◌, IfNone, IfSome, IsTrue, None, Some, if◌then◌else◌, length, option_map};
-ghost use Rattle.std.specs.Char.{is_ascii_digit};
-ghost use Rattle.std.specs.List.{after_first, before_first, list_all, position};
+ghost use Rattle.std.specs.Prelude.{◌≡◌, ◌==◌, ◌≤◌, IfNone, IfSome, None, Some, if◌then◌else◌, length, option_map};
+ghost use Rattle.std.specs.List.{after_first, before_first, position};
 ghost use Rattle.toml.specs.View.{table_view, view};
 ghost use Rattle.tor_settings.specs.Values.{address_of};
-ghost use Rattle.tor_spec.specs.Begin.{is_port_text, port_of_text};
 ghost use Rattle.tor_spec.specs.Decimal.{decimal_value};
 ghost use Rattle.tor_settings.specs.Addresses.{address_to, listen_address};
 ghost use Rattle.tor_settings.specs.AddressText.{address_of_text, has_digits, ip_of_text, octet_of_text};
 
 use crate::table::{text_at, value_at};
+use relay_cell::decimal::{are_digits, decimal_value, read_port};
 use toml::{Table, Value};
 use tr_io::names::Dest;
 
@@ -37,7 +36,7 @@ fn address_of_text(text: &[u8]) -> Option<Dest>
 {
     let (ip, port) = split_at(text, b':');
     let ip = ip_of_text(ip)?;
-    let port = port_of_text(port)?;
+    let port = read_port(port)?;
     Some(Dest { ip, port })
 }
 
@@ -80,17 +79,6 @@ fn octet_of_text(text: &[u8]) -> Option<u8>
     u8::try_from(number_of_text(text, 3)?).ok()
 }
 
-/// The port that a text writes, as in BEGIN.
-#[tactic(auto, unfolding(tor_spec::specs::Begin::port_of_text, tor_spec::specs::Begin::is_port_text, crate::specs::AddressText::has_digits))]
-fn port_of_text(text: &[u8]) -> Option<u16>
-    ensures { result ≡ port_of_text text.now }
-{
-    match u16::try_from(number_of_text(text, 5)?) {
-        Ok(port) if port != 0 => Some(port),
-        _ => None,
-    }
-}
-
 /// The number that one to so many decimal digits write.
 #[tactic(auto, using(crate::proofs::Texts::port_digits))]
 fn number_of_text(text: &[u8], most_digits: usize) -> Option<u32>
@@ -98,7 +86,7 @@ fn number_of_text(text: &[u8], most_digits: usize) -> Option<u32>
     ensures { result ≡ (if has_digits most_digits text.now then Some (decimal_value text.now) else None) }
 {
     if has_digits(text, most_digits) {
-        Some(value_of(text))
+        Some(decimal_value(text))
     } else {
         None
     }
@@ -109,23 +97,4 @@ fn has_digits(text: &[u8], most_digits: usize) -> bool
     ensures { result ≡ has_digits most_digits text.now }
 {
     1 <= text.len() && text.len() <= most_digits && are_digits(text)
-}
-
-fn are_digits(text: &[u8]) -> bool
-    ensures { result ≡ list_all is_ascii_digit text.now }
-{
-    text.iter().all(|byte| byte.is_ascii_digit())
-}
-
-/// The number that up to five decimal digits write.
-#[tactic(auto, using(tor_spec::proofs::Texts::value_below, tor_spec::proofs::Texts::port_text))]
-fn value_of(digits: &[u8]) -> u32
-    requires { IsTrue (is_port_text digits.now) }
-    ensures { result ≡ decimal_value digits.now }
-{
-    let mut value = 0;
-    for digit in digits {
-        value = 10 * value + u32::from(*digit - b'0');
-    }
-    value
 }

@@ -14,7 +14,7 @@ pub loop-i-preserved : goal.loop-i-preserved
 loop-i-preserved c =
     c.loop-i.invariant
     ∙ destination_step address_of c.loop-i.to c.address.result c.or-to.result c.args.count c.loop-i.i
-    c.loop-i.rest.now _ c.in_ok-specifier.behind.now
+    c.loop-i.rest.now _ c.in_ok-specifier.tail.now
     c.loop-i-test.true c.in_ok-specifier.ensures.some c.address.ensures c.or-to.ensures
 
 pub returns-clause-some : goal.returns-clause-some

@@ -1,5 +1,5 @@
 use Rattle.tor_spec.proofs.Texts.{value_more}
-use Rattle.relay_cell.proofs.text.value_of.Goals as goal
+use Rattle.relay_cell.proofs.decimal.decimal_value.Goals as goal
 
 pub loop-digit-preserved : goal.loop-digit-preserved
 loop-digit-preserved c =

@@ -1,5 +1,0 @@
-use Rattle.tor_spec.proofs.Texts.{IsValueSoFar}
-use Rattle.relay_cell.proofs.text.value_of.Given as goal
-
-abbrev pub invariant-loop-digit : goal.invariant-loop-digit
-invariant-loop-digit l = IsValueSoFar l.digits l.digit-index l.value
