@@ -16,14 +16,14 @@ pub record IsJob (job : JobParts) : Type 0 where
   pub position : position_of job.cipher + 509 * length job.bodies.items < 2 ^ 90
 
 -- There is room for what comes out.
-pub record HasRoom (parts : JobParts) (output : Roomy Opened) : Type 0 where
+pub record HasOutputRoom (parts : JobParts) (output : Roomy Opened) : Type 0 where
   pub job : IsJob parts
   pub empty : output.items ≡ []
   pub ample : length parts.bodies.items ≤ output.spare
 
 -- Output and end state are what the cipher makes of start state and input, which were a job's. A layer
 -- has the start state, so that this says something of every such cipher.
-pub record IsDone (done : DoneParts) : Type 0 where
+pub record IsDoneJob (done : DoneParts) : Type 0 where
   pub job : IsJob (record { note = done.note; cipher = done.start; bodies = done.input })
   pub layer : IsOfLayer done.start
   pub worked : IsWorked done.start done.input.items done.output.items done.end

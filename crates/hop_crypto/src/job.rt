@@ -3,7 +3,7 @@
 ghost use Rattle.std.specs.Prelude.{◌≡◌, ℕ, ◌+◌, ◌*◌, ◌^◌, ◌<◌, ◌≤◌, length, IfOk, IfErr};
 ghost use Rattle.crypto_spec.specs.Keystream.{keystream_part};
 ghost use Rattle.hop_crypto.specs.Ciphers.{direction_of, key_of, position_of, IsOfLayer, IsWorked};
-ghost use Rattle.hop_crypto.specs.Jobs.{IsJob, IsDone};
+ghost use Rattle.hop_crypto.specs.Jobs.{IsJob, IsDoneJob};
 
 use crate::cipher::Cipher;
 use crate::parts::{DoneParts, JobParts};
@@ -25,13 +25,13 @@ pub struct Job {
 
 impl Model for Job {
     ghost use Rattle.hop_crypto.specs.declared.parts.JobParts.{JobParts};
-    ghost use Rattle.hop_crypto.specs.Jobs.{HasRoom};
+    ghost use Rattle.hop_crypto.specs.Jobs.{HasOutputRoom};
 
     ghost Value = { JobParts };
 
     ghost view = { λ job. job.parts };
 
-    ghost invariant = { λ job. HasRoom job.parts job.room };
+    ghost invariant = { λ job. HasOutputRoom job.parts job.room };
 }
 
 /// A job that was worked: its type keeps that output and end state are what the standard gives for
@@ -49,13 +49,13 @@ pub struct Done {
 
 impl Model for Done {
     ghost use Rattle.hop_crypto.specs.declared.parts.DoneParts.{DoneParts};
-    ghost use Rattle.hop_crypto.specs.Jobs.{IsDone};
+    ghost use Rattle.hop_crypto.specs.Jobs.{IsDoneJob};
 
     ghost Value = { DoneParts };
 
     ghost view = { λ done. record { note = done.note; start = done.start; input = done.input; end = done.end; output = done.output } };
 
-    ghost invariant = { λ done. IsDone (record { note = done.note; start = done.start; input = done.input; end = done.end; output = done.output }) };
+    ghost invariant = { λ done. IsDoneJob (record { note = done.note; start = done.start; input = done.input; end = done.end; output = done.output }) };
 }
 
 impl Job {
@@ -121,7 +121,7 @@ impl Done {
     /// The parts. One thing came out of each body, the direction stayed, and the keystream went on.
     pub fn apart(self) -> DoneParts
         ensures parts { result ≡ self }
-        ensures done { IsDone result }
+        ensures done { IsDoneJob result }
         ensures many { length result.output.items ≡ length result.input.items }
         ensures direction { direction_of result.end ≡ direction_of result.start }
         ensures position { position_of result.end ≡ position_of result.start + 509 * length result.input.items }

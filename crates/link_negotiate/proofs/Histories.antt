@@ -17,7 +17,8 @@ stays_open : (opener : Bool) (cells : List WireCell) → side_after_all (side op
 stays_open opener [] = refl
 stays_open opener (c ∷ cells) = stays_open opener cells
 
-stays_refused : (opener : Bool) (fault : LinkFault) (cells : List WireCell) → side_after_all (side opener (Refused fault)) cells ≡ side opener (Refused fault)
+stays_refused : (opener : Bool) (fault : LinkFault) (cells : List WireCell)
+    → side_after_all (side opener (Refused fault)) cells ≡ side opener (Refused fault)
 stays_refused opener fault [] = refl
 stays_refused opener fault (c ∷ cells) = stays_refused opener fault cells
 
@@ -47,12 +48,14 @@ answered_behind_last opener version InBetween c last = cc
 answered_behind_last opener version (Fault fault) c last = refl
 
 ends_by : (version : ℕ) (c : WireCell) (cells : List WireCell) (end : WireCell) (b : Bool) → ends_negotiation version c ≡ b
-    → (last_cell version cells ≡ Some end → ends_negotiation version end ≡ true) → cond b (Some c) (last_cell version cells) ≡ Some end
+    → (last_cell version cells ≡ Some end → ends_negotiation version end ≡ true)
+    → cond b (Some c) (last_cell version cells) ≡ Some end
     → ends_negotiation version end ≡ true
 ends_by version c cells end true is later e = sym (ap (ends_negotiation version) (same_Some c end e)) ∙ is
 ends_by version c cells end false is later e = later e
 
-found_ends : (version : ℕ) (cells : List WireCell) (end : WireCell) → last_cell version cells ≡ Some end → ends_negotiation version end ≡ true
+found_ends : (version : ℕ) (cells : List WireCell) (end : WireCell) → last_cell version cells ≡ Some end
+    → ends_negotiation version end ≡ true
 found_ends version [] end e = absurd (none-some end e)
 found_ends version (c ∷ cells) end e = ends_by version c cells end (ends_negotiation version c) refl (found_ends version cells end) e
 

@@ -14,10 +14,10 @@ WantsMemory PassesOver = ⊥
 WantsMemory (Refuses fault) = ⊥
 
 -- Every cell that is given is well formed, and memory is wanting only where cells are to be sent.
-abbrev pub IsAnswer : LinkAnswer → StepAnswer → Type 0
-IsAnswer (Send cells) a = (a ≡ Sends (map wire_cell cells.items)) × All IsWellFormed cells.items
-IsAnswer (Ready version None) a = a ≡ IsReady version None
-IsAnswer (Ready version (Some c)) a = (a ≡ IsReady version (Some (wire_cell c))) × IsWellFormed c
-IsAnswer PassedOver a = a ≡ PassesOver
-IsAnswer (Refused fault) a = a ≡ Refuses fault
-IsAnswer Memory a = WantsMemory a
+abbrev pub AnswersAs : LinkAnswer → StepAnswer → Type 0
+AnswersAs (Send cells) a = (a ≡ Sends (map wire_cell cells.items)) × All IsWellFormed cells.items
+AnswersAs (Ready version None) a = a ≡ IsReady version None
+AnswersAs (Ready version (Some c)) a = (a ≡ IsReady version (Some (wire_cell c))) × IsWellFormed c
+AnswersAs PassedOver a = a ≡ PassesOver
+AnswersAs (Refused fault) a = a ≡ Refuses fault
+AnswersAs Memory a = WantsMemory a

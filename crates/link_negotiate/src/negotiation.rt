@@ -28,7 +28,7 @@ impl Model for Negotiation {
 
 impl Negotiation {
     ghost use Rattle.link_negotiate.specs.Negotiation.{opening_side, answering_side, step_answer, side_after};
-    ghost use Rattle.link_negotiate.specs.Answering.{IsAnswer};
+    ghost use Rattle.link_negotiate.specs.Answering.{AnswersAs};
     ghost use Rattle.link_negotiate.specs.declared.answer.LinkAnswer.TheVariants.{Memory};
 
     /// The side that opened the connection. It sends VERSIONS, with `OUR_VERSIONS`, first.
@@ -60,7 +60,7 @@ impl Negotiation {
     ///
     /// Only the answer to VERSIONS that sends cells takes memory. After `Memory` the cell was not taken.
     pub fn step(&mut self, cell: &Cell) -> LinkAnswer
-        ensures answer { IsAnswer result (step_answer self.old (wire_cell cell.now)) }
+        ensures answer { AnswersAs result (step_answer self.old (wire_cell cell.now)) }
         ensures next { result ≢ Memory → self.new ≡ side_after self.old (wire_cell cell.now) }
         ensures memory { result ≡ Memory → self.new ≡ self.old }
     {

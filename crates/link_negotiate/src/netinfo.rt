@@ -25,10 +25,10 @@ fn has_addresses(count: u8, bytes: &[u8]) -> bool
     let mut left = bytes;
     let mut missing = count;
     while missing > 0 {
-        let Some(behind) = skip_address(left) else {
+        let Some(tail) = skip_address(left) else {
             return false;
         };
-        left = behind;
+        left = tail;
         missing -= 1;
     }
     true

@@ -10,7 +10,7 @@ returns-in_default c =
 
 pub loop-missing-preserved : goal.loop-missing-preserved
 loop-missing-preserved c =
-    let some : behind_address c.loop-missing.left.now ≡ Some c.in-Some.behind.now = c.in-Some.ensures in
+    let some : behind_address c.loop-missing.left.now ≡ Some c.in-Some.tail.now = c.in-Some.ensures in
     sym (one_address _ _ _ c.loop-missing-test.true some) ∙ c.loop-missing.invariant
 
 pub returns : goal.returns

@@ -30,7 +30,8 @@ roomy c =
 
 same_map : (c : goal.After-insert-2) → ports_of c.reserve.new.self c.reserve-2.new.self.entries ≡ c.args.self.now
 same_map c =
-    ports_of-reordered c.self.inside.legs c.reserve.new.self c.self.inside.places.entries c.reserve-2.new.self.entries (ap (λ s. s.slots) c.reserve.ensures.rest_kept) c.reserve-2.ensures.entries.2
+    ports_of-reordered c.self.inside.legs c.reserve.new.self c.self.inside.places.entries c.reserve-2.new.self.entries
+    (ap (λ s. s.slots) c.reserve.ensures.rest_kept) c.reserve-2.ensures.entries.2
     ∙ c.self.view_is
 
 pub invariant_of-self-2 : goal.invariant_of-self-2
@@ -50,5 +51,6 @@ returns-clause-ok c =
     let port : Port = (c.args.chan.0, c.args.id) in
     let moved = of_ok c.insert-2.result _ (c.insert-2.ensures.succeeds c.in_ok-reserve-2.ensures.ok) c.insert-2.ensures.updates in
     ports_of-inserted c.reserve.new.self c.insert_reserved-place.new.self c.reserve-2.new.self.entries c.insert-2.new.self.entries port c.insert_reserved-place.result
-    (c.args.circ, c.args.leg) c.insert_reserved-place.ensures.was_vacant c.insert_reserved-place.ensures.updates moved.0 (roomy c).has_leg
+    (c.args.circ, c.args.leg) c.insert_reserved-place.ensures.was_vacant c.insert_reserved-place.ensures.updates moved.0
+    (roomy c).has_leg
     ∙ ap (λ m. map.insert m port (c.args.circ, c.args.leg)) (same_map c)
