@@ -13,7 +13,8 @@ use Rattle.out_lanes.proofs.Changes.{Rewrites, written, rewritten, added, remove
 
 module _ {K X : Type 0} {R : K → K → Ordering} where
   -- Where the list has no room, and some is asked for.
-  pub reserves-refused : {T E : Type 0} {old new : FinMap R (Roomy X)} {key : K} {more : ℕ} (r : Result T E) {e : E} → r ≡ Err e → new ≡ old → line_at old key ≡ nothing → 0 < more → Reserves old new key more r
+  pub reserves-refused : {T E : Type 0} {old new : FinMap R (Roomy X)} {key : K} {more : ℕ} (r : Result T E) {e : E}
+      → r ≡ Err e → new ≡ old → line_at old key ≡ nothing → 0 < more → Reserves old new key more r
   reserves-refused {T} {E} {old} {new} {key} {more} r {e} failed same none some =
       subst (Reserves old new key more) (sym failed) (record {
         items = ap (λ m. (line_at m key).items) same;
@@ -35,7 +36,8 @@ module _ {K X : Type 0} {R : K → K → Ordering} where
         room = λ fits. refl;
       }
 
-  pub takes_first-none : {old new : FinMap R (Roomy X)} {key : K} → new ≡ old → line_at old key ≡ nothing → TakesFirst old new key None
+  pub takes_first-none : {old new : FinMap R (Roomy X)} {key : K} → new ≡ old → line_at old key ≡ nothing
+      → TakesFirst old new key None
   takes_first-none {old} {new} {key} same none =
       record {
         item = rw none refl;

@@ -78,10 +78,12 @@ OnOk-by (Ok x) f p = f p
 OnOk-by (Err e) f p = tt
 
 -- What is taken off a list is its first item.
-pub first_taken : {X : Type 0} (first : Option X) (old new : Roomy X) → IfSome first (λ x. old.items ≡ x ∷ new.items) → IfNone first ((old.items ≡ []) × (new ≡ old)) → (first ≡ slice_get old.items 0) × (new.items ≡ drop 1 old.items)
+pub first_taken : {X : Type 0} (first : Option X) (old new : Roomy X) → IfSome first (λ x. old.items ≡ x ∷ new.items)
+    → IfNone first ((old.items ≡ []) × (new ≡ old)) → (first ≡ slice_get old.items 0) × (new.items ≡ drop 1 old.items)
 first_taken (Some x) old new some none = (rw some refl, rw some refl)
 first_taken None old new some none = (rw none.0 refl, ap (λ line. line.items) none.1 ∙ rw none.0 refl)
 
-pub same_capacity : {X : Type 0} (first : Option X) (old new : Roomy X) → IfSome first (λ x. old.items ≡ x ∷ new.items) → IfSome first (λ x. new.spare ≡ old.spare + 1) → IfNone first ((old.items ≡ []) × (new ≡ old)) → capacity new ≡ capacity old
+pub same_capacity : {X : Type 0} (first : Option X) (old new : Roomy X) → IfSome first (λ x. old.items ≡ x ∷ new.items)
+    → IfSome first (λ x. new.spare ≡ old.spare + 1) → IfNone first ((old.items ≡ []) × (new ≡ old)) → capacity new ≡ capacity old
 same_capacity (Some x) old new some more none = rw (some, more) (omega arith)
 same_capacity None old new some more none = ap capacity none.1

@@ -20,11 +20,14 @@ each-drop [] each = tt
 each-drop (first ∷ cells) each = each.1
 
 -- A queue after a cell was added, or not for want of memory.
-pub each-pushed : {T E : Type 0} (r : Result T E) (old new : Roomy Cell) (cell : Cell) → OnOk r (new.items ≡ old.items ++ cell ∷ []) → OnErr r (new ≡ old) → IsWellFormed cell → EachWellFormed old.items → EachWellFormed new.items
+pub each-pushed : {T E : Type 0} (r : Result T E) (old new : Roomy Cell) (cell : Cell)
+    → OnOk r (new.items ≡ old.items ++ cell ∷ []) → OnErr r (new ≡ old) → IsWellFormed cell → EachWellFormed old.items
+    → EachWellFormed new.items
 each-pushed (Ok x) old new cell more same form each = subst EachWellFormed (sym more) (each-append old.items cell each form)
 each-pushed (Err e) old new cell more same form each = subst (λ queue. EachWellFormed queue.items) (sym same) each
 
-pub each-pushed_reserved : (old new : List Cell) (cell : Cell) → new ≡ old ++ cell ∷ [] → IsWellFormed cell → EachWellFormed old → EachWellFormed new
+pub each-pushed_reserved : (old new : List Cell) (cell : Cell) → new ≡ old ++ cell ∷ [] → IsWellFormed cell
+    → EachWellFormed old → EachWellFormed new
 each-pushed_reserved old new cell more form each = subst EachWellFormed (sym more) (each-append old cell each form)
 
 pub each-taken : (old new : List Cell) → new ≡ drop 1 old → EachWellFormed old → EachWellFormed new
@@ -34,12 +37,15 @@ pub each-same : (old new : List Cell) → new ≡ old → EachWellFormed old →
 each-same old new same each = subst EachWellFormed (sym same) each
 
 -- The cell that is taken off.
-pub first_formed : (first : Option Cell) (cells rest : List Cell) → IfSome first (λ cell. cells ≡ cell ∷ rest) → EachWellFormed cells → IfSome first IsWellFormed
+pub first_formed : (first : Option Cell) (cells rest : List Cell) → IfSome first (λ cell. cells ≡ cell ∷ rest)
+    → EachWellFormed cells → IfSome first IsWellFormed
 first_formed None cells rest is each = tt
 first_formed (Some cell) cells rest is each = (subst EachWellFormed is each).0
 
 -- The map as one queue of it changes.
-are-moved : (before after : List (Leg × Roomy Cell)) (key : Leg) (now : Option (Roomy Cell)) → AreWellFormed before → ((q : Leg) → lookup (pair_eq q) after ≡ cond (pair_eq key q) now (lookup (pair_eq q) before)) → ((queue : Roomy Cell) → now ≡ Some queue → EachWellFormed queue.items) → AreWellFormed after
+are-moved : (before after : List (Leg × Roomy Cell)) (key : Leg) (now : Option (Roomy Cell)) → AreWellFormed before
+    → ((q : Leg) → lookup (pair_eq q) after ≡ cond (pair_eq key q) now (lookup (pair_eq q) before))
+    → ((queue : Roomy Cell) → now ≡ Some queue → EachWellFormed queue.items) → AreWellFormed after
 are-moved before after key now were moved formed leg queue found = cases (pair_eq key leg) (sym (moved leg) ∙ found)
   where
     cases : (here : Bool) → cond here now (lookup (pair_eq leg) before) ≡ Some queue → EachWellFormed queue.items
@@ -47,7 +53,8 @@ are-moved before after key now were moved formed leg queue found = cases (pair_e
     cases false is = were leg queue is
 
 module _ {S : Type 0} (m n : HashMap Leg (Roomy Cell) S) (key : Leg) (were : AreWellFormed m.entries) where
-  pub are-written : (was is : Roomy Cell) → WritesThrough pair_eq (pair_eq key) m is n → Some was ≡ lookup (pair_eq key) m.entries → (EachWellFormed was.items → EachWellFormed is.items) → AreWellFormed n.entries
+  pub are-written : (was is : Roomy Cell) → WritesThrough pair_eq (pair_eq key) m is n
+      → Some was ≡ lookup (pair_eq key) m.entries → (EachWellFormed was.items → EachWellFormed is.items) → AreWellFormed n.entries
   are-written was is writes found keeps =
       are-moved m.entries n.entries key (Some is) were ((writes.3 (subst IsSome found refl)).0)
       (λ queue same. let it : is ≡ queue = cc in subst (λ q. EachWellFormed q.items) it (keeps (were key was (sym found))))
