@@ -1,5 +1,6 @@
 -- How a run of the program ends: the number that it exits with, and what it says on standard error.
 use Rattle.std.specs.Prelude.{◌≡◌, ◌⊎◌, ℕ, List, [], ◌++◌, true, false, codes}
+use Rattle.std.specs.declared.io.ErrorKind.{ErrorKind}
 use Rattle.circuit_model.specs.Rules.{Rules}
 use Rattle.tr_io.specs.declared.status.Status.{Status}
 use Rattle.tr_io.specs.declared.status.Status.TheVariants.{Done, Usage, Settings, ReadFault, WriteFault, BadTape, NotBuilt, TooLong, DoorFault, CrewFault, Memory, LinkRefused, CircuitClosed, StreamEnded}
@@ -26,6 +27,11 @@ usage_line Memory = []
 usage_line (LinkRefused cause) = []
 usage_line (CircuitClosed cause) = []
 usage_line (StreamEnded reason) = []
+
+-- How the program ends whose words can't be told, by what went wrong.
+abbrev pub wordless_end : ErrorKind → Status
+wordless_end ErrorKind.OutOfMemory = Memory
+wordless_end kind = Usage
 
 -- The program's name, and how it ended.
 abbrev pub end_message : Status → List ℕ

@@ -1,7 +1,8 @@
 //! The whole program over its outside: arguments, source, sink and standard error.
 ghost use Rattle.std.specs.Prelude.{◌≡◌, ◌⊎◌, ◌≤◌, ◌+◌, ◌++◌, map, length, string_bytes};
 ghost use Rattle.tr_io.specs.Statuses.{number_text};
-ghost use Rattle.tor_relay.specs.Program.{message, end_message, usage_line, IsSaid, Tells, IsProgramRun};
+ghost use Rattle.std.specs.IoError.{error_kind};
+ghost use Rattle.tor_relay.specs.Program.{message, end_message, usage_line, wordless_end, IsSaid, Tells, IsProgramRun};
 ghost use Rattle.tape.specs.Runs.{reads, writes};
 
 use arrayvec::ArrayString;
@@ -49,7 +50,7 @@ pub fn end_program<E: Sink>(status: Status, errors: &mut E) -> u8
 /// How the program ends whose words can't be told: they are no command line, or memory is wanting
 /// for them.
 pub fn end_without_words(error: &io::Error) -> Status
-    ensures { (result ≡ Status.Usage) ⊎ (result ≡ Status.Memory) }
+    ensures { result ≡ wordless_end (error_kind error.now) }
 {
     match error.kind() {
         io::ErrorKind::OutOfMemory => Status::Memory,
