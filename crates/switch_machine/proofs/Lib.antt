@@ -17,7 +17,5 @@ pub mod Laws
 pub mod Again
 pub mod Built
 pub mod Low
-pub mod Prefix
 pub mod PlainLists
 pub mod AtRest
-pub mod Isolation

@@ -1,25 +1,14 @@
-//! Laws on what each circuit relays and sends, live or torn down, whatever history a state stands for.
+//! A law on what each circuit was sent, whatever history a state stands for.
 ghost use Rattle.std.specs.Prelude.{◌≡◌, ℕ, List, false};
 ghost use Rattle.circuit_model.specs.Sent.{one};
 ghost use Rattle.tr_io.specs.declared.step.Step.{Step};
-ghost use Rattle.switch_model.specs.History.Circuit.{sent, events};
+ghost use Rattle.switch_model.specs.History.Circuit.{sent};
 ghost use Rattle.switch_model.specs.History.LegEnds.{is_ended_outside};
-ghost use Rattle.switch_model.specs.History.Legs.{circuits};
 ghost use Rattle.switch_model.specs.Waiting.Queues.{circuit_log};
-ghost use Rattle.switch_model.specs.History.Relayed.{AreComparable};
 ghost use Rattle.switch_model.specs.Waiting.Rest.{IsAtRest};
 ghost use Rattle.switch_machine.specs.Stands.{Stands};
 ghost use Rattle.switch_model.specs.Start.{Start};
 ghost use Rattle.switch_machine.specs.State.{State};
-
-/// Whatever two histories two states stand for: where a circuit of each has the same events, the cells
-/// sent on a leg of the one begin those sent on that leg of the other, or the other way round, whatever
-/// other circuits did.
-#[tactic(auto, using(crate::proofs::Isolation::comparable_cells))]
-pub fn equal_events_give_comparable_cells()
-    ensures { (start : Start) (s t : State) (h g : List Step) (c d k : ℕ) → Stands start s h → Stands start t g →
-        events start.rules h c ≡ events start.rules g d → AreComparable (sent start.rules h c k) (sent start.rules g d k) }
-{}
 
 /// At rest a circuit was sent all that the one-thread relay sends, on each leg that neither the peer nor
 /// its channel ended.

@@ -1,19 +1,12 @@
 //! Laws on the machine: whatever history a state stands for, each call's state stands for it with the
-//! step added, and what leaves is what the one-thread relay sends.
-ghost use Rattle.std.specs.Prelude.{◌≡◌, ℕ, ◌++◌, List, [], ◌∷◌, length, Option, Some, true, slice_get};
+//! step added.
+ghost use Rattle.std.specs.Prelude.{◌≡◌, ℕ, List, [], Option, true};
 ghost use Rattle.cell_codec.specs.declared.cell.Cell.{Cell};
-ghost use Rattle.circuit_model.specs.Events.{CircuitCell};
-ghost use Rattle.circuit_model.specs.Sent.{one};
 ghost use Rattle.kdf_tor.specs.declared.LayerKeys.{LayerKeys};
 ghost use Rattle.tr_io.specs.declared.names.ChanNo.{ChanNo};
 ghost use Rattle.tr_io.specs.declared.names.Side.{Side};
 ghost use Rattle.tr_io.specs.declared.step.Step.{Step};
 ghost use Rattle.tr_io.specs.declared.step.Step.TheVariants.{ChannelUp, OpenCircuit, NextCell};
-ghost use Rattle.switch_model.specs.Names.{is_leg, circuit_cell};
-ghost use Rattle.switch_model.specs.History.Legs.{at};
-ghost use Rattle.switch_model.specs.History.Circuit.{is_live_circuit, sent};
-ghost use Rattle.switch_model.specs.Waiting.Queues.{circuit_log};
-ghost use Rattle.switch_model.specs.Answers.NextCell.{next_cell_answer};
 ghost use Rattle.switch_model.specs.Start.{Start};
 ghost use Rattle.switch_model.specs.Conditions.{IsReply};
 ghost use Rattle.switch_machine.specs.State.{State};
@@ -67,20 +60,4 @@ pub fn want_of_memory_hands_an_order_out_again()
 #[tactic(auto, using(crate::proofs::Built::built_stands))]
 pub fn a_legal_history_is_stood_for()
     ensures { (start : Start) (h : List Step) → HasMachine h → IsLegal start h → StandsForSomeState start h }
-{}
-
-/// Whatever history a state stands for: what left on a leg is the beginning of what the one-thread
-/// relay sends there.
-pub fn sent_is_a_prefix()
-    ensures { (start : Start) (s : State) (h : List Step) → Stands start s h → (c k : ℕ) →
-        (rest : List CircuitCell) × (sent start.rules h c k ++ rest ≡ one (circuit_log start.rules h c) k) }
-{}
-
-/// A cell that leaves on leg k of a live circuit is the next one that the one-thread relay sends there.
-#[tactic(auto, using(crate::proofs::Prefix::next_is_one))]
-pub fn next_cell_is_the_one_thread_relays()
-    ensures { (start : Start) (s : State) (h : List Step) → Stands start s h →
-        (chan tick c k : ℕ) (cell : Cell) → next_cell_answer start.rules h chan tick ≡ Some cell →
-        is_leg c k (at h chan cell.circ) ≡ true → is_live_circuit start.rules h c ≡ true →
-        slice_get (one (circuit_log start.rules h c) k) (length (sent start.rules h c k)) ≡ Some (circuit_cell cell) }
 {}

@@ -6,7 +6,7 @@ use Rattle.tr_io.specs.declared.status.Status.{Status}
 use Rattle.tr_io.specs.declared.status.Status.TheVariants.{Done, Memory}
 use Rattle.switch_machine.specs.Stands.{Stands}
 use Rattle.switch_machine.specs.State.{State}
-use Rattle.switch_machine.proofs.Prefix.{sent_prefix}
+use Rattle.switch_model.proofs.SentBegins.{sent_is_prefix}
 use Rattle.tape.specs.declared.input.Ending.{Ending}
 use Rattle.tape.specs.declared.input.Ending.TheVariants.{End, Fault, Limit}
 use Rattle.tape.specs.declared.record.Record.{Record}
@@ -155,6 +155,6 @@ first_records rules tape first rest records state ahead read stands = record {
   state = state;
   stands = stands;
   legal = stands.legal;
-  sends = sent_prefix (tape_start rules) state (steps_of rules records) stands;
+  sends = sent_is_prefix (tape_start rules) (steps_of rules records) stands.legal;
   front = front_answers rules first records rest read;
 }
