@@ -17,6 +17,15 @@ pub record StepAdded (start : Start) (old new : State) (step : Step) : Type 0 wh
 unfoldable pub Adds : Start → State → State → Step → Type 0
 Adds start old new step = StepAdded start old new step
 
+-- The same of one history alone: the state behind a call that asks the one-thread relay follows from the
+-- circuits' events in it.
+pub record StepAddedTo (start : Start) (h : List Step) (old new : State) (step : Step) : Type 0 where
+  pub steps : new.steps ≡ old.steps + 1
+  pub stands : Stands start old h → Stands start new (step ∷ h)
+
+unfoldable pub AddsTo : Start → List Step → State → State → Step → Type 0
+AddsTo start h old new step = StepAddedTo start h old new step
+
 -- Some history that a state stands for.
 pub record StandsForSome (start : Start) (s : State) : Type 0 where
   pub history : List Step

@@ -4,6 +4,5 @@ pub mod Machine
 -- the result and the next state of each call
 pub mod Calls
 -- when a state stands for a history, and what a call adds to it
-pub mod CircuitStands
 pub mod Stands
 pub mod Adds

@@ -1,6 +1,5 @@
 -- The switch as a machine with a small state: what the code keeps, as plain data.
-use Rattle.std.specs.Prelude.{ℕ, List, Bool, Option, slice_get, slice_set}
-use Rattle.kdf_tor.specs.declared.LayerKeys.{LayerKeys}
+use Rattle.std.specs.Prelude.{ℕ, List, [], ◌∷◌, Bool, Option, Some, slice_get, slice_set}
 use Rattle.circuit_model.specs.Events.{CircuitCell}
 use Rattle.circuit_model.specs.Log.{Order}
 use Rattle.tr_io.specs.declared.names.ClaimNote.{ClaimNote}
@@ -42,24 +41,23 @@ pub record WayState : Type 0 where
   pub kept : Option KeptClaim
   pub waiting : List WaitingCell
 
--- What is kept of a circuit for the one-thread relay: what it was opened with.
-pub record RelayState : Type 0 where
-  pub keys : LayerKeys
-  pub pad : Option (List ℕ)
-
 -- A dial order that is neither done nor given up.
 pub record DialState : Type 0 where
   pub order : ℕ
   pub to : Dest
   pub handed_out : Bool
 
--- A live circuit: its legs by number, and its orders that were not handed out, oldest first.
+-- A live circuit: how many cells were sent on leg 0, its legs by number, its two directions, its orders of
+-- each kind that were not handed out, oldest first, and its open dial order. What the one-thread relay
+-- needs is no part of it: a call that asks the relay is given the circuit's events.
 pub record CircuitState : Type 0 where
-  pub relay : RelayState
+  pub sent_count : ℕ
   pub legs : List (Option LegState)
   pub forth : WayState
   pub back : WayState
-  pub orders : List Order
+  pub reach_orders : List Order
+  pub carry_orders : List Order
+  pub close_orders : List Order
   pub dial : Option DialState
 
 -- A slot that is bound to a place.
@@ -69,9 +67,9 @@ pub record SlotState : Type 0 where
   pub serial : ℕ
 
 -- The switch: its channels and circuits by number, the next numbers of claims, bodies and dial
--- orders, the dial orders that want of memory hands out again, oldest first, the tick in force, the
--- bound slots, the last Close of each bound place whose circuit was torn down, and the `halt` steps with
--- the least number among them.
+-- orders, the circuits whose dial order want of memory hands out again, oldest first, the tick in force,
+-- the bound slots, the last Close of each bound place whose circuit was torn down, and the `halt` steps
+-- with the least number among them.
 pub record State : Type 0 where
   pub steps : ℕ
   pub channels : List (Option ChannelState)
@@ -95,3 +93,8 @@ slot_at slots n = joined (slice_get slots n)
 -- The list with this at a number.
 unfoldable pub with_slot : {A : Type 0} → List (Option A) → ℕ → Option A → List (Option A)
 with_slot slots n x = slice_set slots n x
+
+-- A list by number in which nothing is gone.
+abbrev pub all_there : {A : Type 0} → List A → List (Option A)
+all_there [] = []
+all_there (x ∷ xs) = Some x ∷ all_there xs

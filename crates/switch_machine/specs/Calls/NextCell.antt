@@ -1,5 +1,5 @@
 -- next_cell.
-use Rattle.std.specs.Prelude.{ℕ, ◌-◌, ◌==◌, ◌&&◌, zero, suc, max, List, [], ◌∷◌, ◌++◌, length, Bool, false, if◌then◌else◌, Option, Some, None}
+use Rattle.std.specs.Prelude.{ℕ, ◌+◌, ◌-◌, ◌==◌, ◌&&◌, zero, suc, max, List, [], ◌∷◌, ◌++◌, length, Bool, false, if◌then◌else◌, Option, Some, None}
 use Rattle.cell_codec.specs.declared.cell.Cell.{Cell}
 use Rattle.circuit_model.specs.Events.{CircuitCell}
 use Rattle.tor_spec.specs.CellCommands.{destroy_command}
@@ -82,13 +82,22 @@ sent_first now leg (cell ∷ cells) =
     if cell.command == destroy_command then None
     else Some (record leg { queue = cells; count = charged (count_of now leg); counted_at = now })
 
--- The switch with the leg as it is behind its first cell.
+-- One more cell was sent on leg 0, if this is it.
+abbrev pub sent_after : ℕ → ℕ → ℕ
+sent_after zero count = count + 1
+sent_after (suc k) count = count
+
+-- The circuit with the leg as it is behind its first cell.
+abbrev pub circuit_sent : ℕ → ℕ → CircuitState → LegState → List CircuitCell → CircuitState
+circuit_sent now k circuit leg cells = record circuit {
+  sent_count = sent_after k circuit.sent_count;
+  legs = with_slot circuit.legs k (sent_first now leg cells);
+}
+
+-- The switch with it.
 abbrev pub with_leg : State → ℕ → Leg → Option CircuitState → Option LegState → State
 with_leg s now leg (Some circuit) (Some found) =
-    record s {
-      circuits = with_slot s.circuits leg.circ
-          (Some (record circuit { legs = with_slot circuit.legs leg.number (sent_first now found found.queue) }));
-    }
+    record s { circuits = with_slot s.circuits leg.circ (Some (circuit_sent now leg.number circuit found found.queue)) }
 with_leg s now leg circuit found = s
 
 abbrev pub sent_from : State → ℕ → Option Leg → State

@@ -1,5 +1,5 @@
 -- open_circuit.
-use Rattle.std.specs.Prelude.{ℕ, ◌==◌, ◌||◌, nat_le, not, is_none, [], ◌∷◌, ◌++◌, List, length, Bool, false, if◌then◌else◌, Option, Some, None}
+use Rattle.std.specs.Prelude.{ℕ, ◌==◌, ◌||◌, nat_le, not, is_none, [], ◌∷◌, ◌++◌, length, Bool, false, if◌then◌else◌, Option, Some, None}
 use Rattle.std.specs.List.{list_any}
 use Rattle.cell_codec.specs.declared.cell.Cell.{Cell}
 use Rattle.kdf_tor.specs.declared.LayerKeys.{LayerKeys}
@@ -51,33 +51,35 @@ abbrev pub first_leg : ℕ → ℕ → Cell → LegState
 first_leg chan id reply = record { chan = chan; id = id; queue = circuit_cell reply ∷ []; count = 0; counted_at = 0 }
 
 -- The circuit that is opened.
-abbrev pub new_circuit : ℕ → ℕ → Cell → LayerKeys → Option (List ℕ) → CircuitState
-new_circuit chan id reply keys pad = record {
-  relay = record { keys = keys; pad = pad };
+abbrev pub new_circuit : ℕ → ℕ → Cell → CircuitState
+new_circuit chan id reply = record {
+  sent_count = 0;
   legs = Some (first_leg chan id reply) ∷ [];
   forth = no_bodies;
   back = no_bodies;
-  orders = [];
+  reach_orders = [];
+  carry_orders = [];
+  close_orders = [];
   dial = None;
 }
 
--- The switch with it.
-abbrev pub with_circuit : State → ℕ → ℕ → Cell → Option LayerKeys → Option (List ℕ) → State
-with_circuit s chan id reply (Some keys) pad = record (counted s) { circuits = s.circuits ++ Some (new_circuit chan id reply keys pad) ∷ [] }
-with_circuit s chan id reply None pad = counted s
+-- The switch with it, where the handshake gave keys.
+abbrev pub with_circuit : State → ℕ → ℕ → Cell → Option LayerKeys → State
+with_circuit s chan id reply (Some keys) = record (counted s) { circuits = s.circuits ++ Some (new_circuit chan id reply) ∷ [] }
+with_circuit s chan id reply None = counted s
 
 -- A channel with the DESTROY of a refusal, if one is owed and has room.
 abbrev pub refusing : ℕ → OpenRefusal → ChannelState → ChannelState
 refusing id why channel =
     record channel { lane = with_refusal id (refusal_reason (is_ours channel.side) id why) channel.lane }
 
-abbrev pub open_state_by : State → ℕ → ℕ → Cell → Option LayerKeys → Option (List ℕ) → Option ChannelState → OpenAnswer → State
-open_state_by s chan id reply keys pad (Some channel) (Refused why) =
+abbrev pub open_state_by : State → ℕ → ℕ → Cell → Option LayerKeys → Option ChannelState → OpenAnswer → State
+open_state_by s chan id reply keys (Some channel) (Refused why) =
     record (counted s) { channels = with_slot s.channels chan (Some (refusing id why channel)) }
-open_state_by s chan id reply keys pad (Some channel) (Opened n) = with_circuit s chan id reply keys pad
-open_state_by s chan id reply keys pad channel answer = counted s
+open_state_by s chan id reply keys (Some channel) (Opened n) = with_circuit s chan id reply keys
+open_state_by s chan id reply keys channel answer = counted s
 
 -- The state behind an opening.
-abbrev pub open_state : State → ℕ → ℕ → Cell → Option LayerKeys → Option (List ℕ) → State
-open_state s chan id reply keys pad =
-    open_state_by s chan id reply keys pad (slot_at s.channels chan) (open_result s chan id keys)
+abbrev pub open_state : State → ℕ → ℕ → Cell → Option LayerKeys → State
+open_state s chan id reply keys =
+    open_state_by s chan id reply keys (slot_at s.channels chan) (open_result s chan id keys)

@@ -1,0 +1,49 @@
+-- One leg of a circuit: what was sent on it and what waits is what may leave.
+use Rattle.std.specs.Prelude.{ℕ, ◌≡◌, List, ◌++◌, Bool, true, false, Option, Some, None}
+use Rattle.circuit_model.specs.Events.{CircuitCell}
+use Rattle.circuit_model.specs.Rules.{Rules}
+use Rattle.circuit_model.specs.Words.{log}
+use Rattle.switch_model.specs.History.Legs.{Port}
+use Rattle.switch_model.specs.History.Past.{Past}
+use Rattle.switch_model.specs.Waiting.Queues.{sendable}
+use Rattle.switch_machine.specs.State.{LegState}
+
+-- A leg that has its CircID.
+pub record LegHas (leg : LegState) (sent may_leave : List CircuitCell) (lies : Option Port) (has_id : Bool) : Type 0 where
+  pub holds : has_id ≡ true
+  pub port : lies ≡ Some (record { chan = leg.chan; id = leg.id })
+  pub cells : sent ++ leg.queue ≡ may_leave
+
+-- Any other: what was sent is the beginning of it.
+pub record Begins (sent may_leave : List CircuitCell) : Type 0 where
+  pub rest : List CircuitCell
+  pub cells : sent ++ rest ≡ may_leave
+
+-- A leg that has lost its CircID, or was never made.
+pub record LegLost (sent may_leave : List CircuitCell) (has_id : Bool) : Type 0 where
+  pub holds : has_id ≡ false
+  pub begins : Begins sent may_leave
+
+-- By what the state has of a leg: what was sent, what may leave, where the leg lies, and whether it has its
+-- CircID.
+abbrev pub LegBy : Option LegState → List CircuitCell → List CircuitCell → Option Port → Bool → Type 0
+LegBy None sent may_leave lies has_id = LegLost sent may_leave has_id
+LegBy (Some leg) sent may_leave lies has_id = LegHas leg sent may_leave lies has_id
+
+-- The same by the past of the circuit.
+
+-- What may leave on leg k.
+abbrev pub sendable_by : Rules → Past → ℕ → List CircuitCell
+sendable_by rules p k = sendable (log rules p.events) p.sealed_count k
+
+abbrev pub LegStands : Rules → LegState → ℕ → Past → Bool → Type 0
+LegStands rules leg k p has_id = LegHas leg (p.sent k) (sendable_by rules p k) (p.port k) has_id
+
+abbrev pub LegGone : Rules → ℕ → Past → Bool → Type 0
+LegGone rules k p has_id = LegLost (p.sent k) (sendable_by rules p k) has_id
+
+abbrev pub SentBegins : Rules → ℕ → Past → Type 0
+SentBegins rules k p = Begins (p.sent k) (sendable_by rules p k)
+
+abbrev pub LegAt : Rules → Option LegState → ℕ → Past → Bool → Type 0
+LegAt rules leg k p has_id = LegBy leg (p.sent k) (sendable_by rules p k) (p.port k) has_id
