@@ -24,9 +24,13 @@ use Rattle.switch_model.specs.Waiting.Rest.{queues_of, IsAtRest}
 use Rattle.switch_model.specs.History.Past.{past}
 use Rattle.switch_model.specs.History.EdgePast.{edge_past}
 use Rattle.switch_machine.specs.State.{ChannelState, LegState, KeptClaim, WayState, CircuitState, State, slot_at}
-use Rattle.switch_machine.specs.Machine.{leg_in}
-use Rattle.switch_machine.specs.CircuitStands.{LegAt, kept_note, kept_cells, relay_cells, WayStands, CircuitAt, CircuitStands}
-use Rattle.switch_machine.specs.Stands.{channel_past, ChannelAt, LiesOn, Stands}
+use Rattle.switch_machine.specs.Machine.{leg_in, kept_note, kept_cells}
+use Rattle.switch_machine.specs.Stands.Channels.{channel_past, ChannelAt}
+use Rattle.switch_machine.specs.Stands.OneLeg.{LegAt}
+use Rattle.switch_machine.specs.Stands.OneWay.{WayStands}
+use Rattle.switch_machine.specs.Stands.OneCircuit.{relay_cells, CircuitAt, CircuitStands}
+use Rattle.switch_machine.specs.Stands.Legs.{LiesOn}
+use Rattle.switch_machine.specs.Stands.{Stands}
 use Rattle.switch_model.proofs.Common.{self_eq}
 use Rattle.switch_machine.proofs.Slots.{slot_at-inside}
 use Rattle.switch_machine.proofs.Waiting.{queue-said}
@@ -125,13 +129,13 @@ leg-whole l n (suc k) most = refl
 rest-leg : (start : Start) (s : State) (h : List Step) (c k : ℕ) (x : CircuitState) (y : Option LegState) → Stands start s h → IsAtRest start.rules h c → slot_at s.circuits c ≡ Some x → slot_at x.legs k ≡ y →
     CircuitStands start.rules s.last_closes x c (past start.rules h c) (λ j. holds_id h c j) (edge_past start.rules h c) → LegAt start.rules y k (past start.rules h c) (holds_id h c k) → is_ended_outside h c k ≡ false →
     sent start.rules h c k ≡ sendable (circuit_log start.rules h c) (sealed_count h c) k
-rest-leg start s h c k x None st rest found_circuit found_leg own at ends = st.whole c k rest.live at.holds ends
+rest-leg start s h c k x None st rest found_circuit found_leg own at ends = st.legs.whole c k rest.live at.holds ends
 rest-leg start s h c k x (Some leg) st rest found_circuit found_leg own at ends =
     let found : leg_in s (record { circ = c; number = k }) ≡ Some leg = rw found_circuit found_leg in
-    let lies : LiesOn s.channels (Some leg) = subst (LiesOn s.channels) found (st.lie (record { circ = c; number = k })) in
-    let on_live : is_live_channel h leg.chan ≡ true = live-by h start.rules leg.chan (slot_at s.channels leg.chan) lies (st.channel leg.chan) in
+    let lies : LiesOn s.channels (Some leg) = subst (LiesOn s.channels) found (st.legs.lie (record { circ = c; number = k })) in
+    let on_live : is_live_channel h leg.chan ≡ true = live-by h start.rules leg.chan (slot_at s.channels leg.chan) lies (st.channels.channel leg.chan) in
     let none = none-second _ (queues_of start.rules h (waiting_legs start.rules h leg.chan)) (rest.empty leg.chan on_live) in
-    let circuits_below : c < circuits h = let inside = slot_at-inside s.circuits c x found_circuit in omega (arith, inside, st.circuits) in
+    let circuits_below : c < circuits h = let inside = slot_at-inside s.circuits c x found_circuit in omega (arith, inside, st.numbers.circuits) in
     let legs_below : k < hops h c + 1 = let inside = slot_at-inside x.legs k leg found_leg in let many : length x.legs ≡ hops h c + 1 = own.hops in omega (arith, inside, many) in
     let on : on_channel leg.chan (port h c k) ≡ true = rw at.port (self_eq leg.chan) in
     let empty : queue start.rules h c k ≡ [] = empty-below start.rules h leg.chan c k (circuits h) none circuits_below legs_below on in
@@ -147,4 +151,4 @@ rest-by start s h c k (Some x) st rest found own ends =
     ∙ leg-whole (circuit_log start.rules h c) (sealed_count h c) k (back-whole start.rules h c x.back _ own.live (rest.home Back) (rest.idle (record { circ = c; dir = Back })) own.back)
 
 pub at_rest_all_is_sent : (start : Start) (s : State) (h : List Step) → Stands start s h → (c : ℕ) → IsAtRest start.rules h c → (k : ℕ) → is_ended_outside h c k ≡ false → sent start.rules h c k ≡ one (circuit_log start.rules h c) k
-at_rest_all_is_sent start s h st c rest k ends = rest-by start s h c k (slot_at s.circuits c) st rest refl (st.circuit c) ends
+at_rest_all_is_sent start s h st c rest k ends = rest-by start s h c k (slot_at s.circuits c) st rest refl (st.circuits.circuit c) ends

@@ -18,28 +18,28 @@ use Rattle.switch_machine.specs.Stands.{Stands}
 use Rattle.switch_machine.specs.Adds.{StandsForSomeState, HasMachine}
 use Rattle.switch_machine.proofs.Laws.{stands_empty}
 use Rattle.switch_machine.proofs.Up.{channel_up_kept}
-use Rattle.switch_machine.proofs.Open.{open_kept}
-use Rattle.switch_machine.proofs.Next.{next_cell_kept}
+use Rattle.switch_machine.proofs.OpenCircuit.Kept.{open_kept}
+use Rattle.switch_machine.proofs.NextCell.Kept.{next_cell_kept}
 
 -- a step is known by its answer, and the state's answer is that of the history
 with-up : (start : Start) (h : List Step) (slot : ℕ) (side : Side) (a : UpAnswer) (s : State) → IsLegal start (ChannelUp slot side a ∷ h) → Stands start s h → StandsForSomeState start (ChannelUp slot side a ∷ h)
 with-up start h slot side a s legal st =
     let kept : Stands start (channel_up_state s side) (ChannelUp slot side (channel_up_result s) ∷ h) = channel_up_kept start s h slot side st in
-    record { state = channel_up_state s side; stands = subst (λ b. Stands start (channel_up_state s side) (ChannelUp slot side b ∷ h)) (kept.legal.0.1 ∙ sym legal.0.1) kept }
+    record { state = channel_up_state s side; stands = subst (λ b. Stands start (channel_up_state s side) (ChannelUp slot side b ∷ h)) (kept.steps.legal.0.1 ∙ sym legal.0.1) kept }
 
 with-opening : (start : Start) (h : List Step) (chan : ChanNo) (id : ℕ) (reply : Cell) (keys : Option LayerKeys) (pad : Option (List ℕ)) (a : OpenAnswer) (s : State) →
     IsLegal start (OpenCircuit chan id reply keys pad a ∷ h) → Stands start s h → StandsForSomeState start (OpenCircuit chan id reply keys pad a ∷ h)
 with-opening start h chan id reply keys pad a s legal st =
-    let kept : Stands start (open_state s chan.0 id reply keys pad) (OpenCircuit chan id reply keys pad (open_result s chan.0 id keys) ∷ h) = open_kept start s h chan.0 id reply keys pad legal.0.0 st in
+    let kept : Stands start (open_state s chan.0 id reply keys) (OpenCircuit chan id reply keys pad (open_result s chan.0 id keys) ∷ h) = open_kept start s h chan.0 id reply keys pad legal.0.0 st in
     record {
-      state = open_state s chan.0 id reply keys pad;
-      stands = subst (λ b. Stands start (open_state s chan.0 id reply keys pad) (OpenCircuit chan id reply keys pad b ∷ h)) (kept.legal.0.1 ∙ sym legal.0.1) kept;
+      state = open_state s chan.0 id reply keys;
+      stands = subst (λ b. Stands start (open_state s chan.0 id reply keys) (OpenCircuit chan id reply keys pad b ∷ h)) (kept.steps.legal.0.1 ∙ sym legal.0.1) kept;
     }
 
 with-next : (start : Start) (h : List Step) (chan : ChanNo) (given : ℕ) (a : Option Cell) (s : State) → IsLegal start (NextCell chan given a ∷ h) → Stands start s h → StandsForSomeState start (NextCell chan given a ∷ h)
 with-next start h chan given a s legal st =
     let kept : Stands start (next_cell_state s chan.0 given) (NextCell chan given (next_cell_result s chan.0 given) ∷ h) = next_cell_kept start s h chan.0 given st in
-    record { state = next_cell_state s chan.0 given; stands = subst (λ b. Stands start (next_cell_state s chan.0 given) (NextCell chan given b ∷ h)) (kept.legal.0.1 ∙ sym legal.0.1) kept }
+    record { state = next_cell_state s chan.0 given; stands = subst (λ b. Stands start (next_cell_state s chan.0 given) (NextCell chan given b ∷ h)) (kept.steps.legal.0.1 ∙ sym legal.0.1) kept }
 
 pub built_stands : (start : Start) (h : List Step) → HasMachine h → IsLegal start h → StandsForSomeState start h
 built_stands start [] built legal = record { state = _; stands = stands_empty start }

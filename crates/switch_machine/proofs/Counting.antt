@@ -9,8 +9,9 @@ use Rattle.switch_model.specs.Names.{Leg}
 use Rattle.switch_model.specs.Waiting.Counts.{tick, halved, cell_count, count_at, lesser, least_of, pick}
 use Rattle.switch_machine.specs.State.{LegState, State}
 use Rattle.switch_machine.specs.Machine.{leg_in}
+use Rattle.switch_machine.specs.Stands.Counts.{CountAt, CountStands}
+use Rattle.switch_machine.specs.Stands.{Stands}
 use Rattle.switch_machine.specs.Calls.NextCell.{count_of, count_of_found, waits_on, cell_count_in, waiting_on, picked_leg}
-use Rattle.switch_machine.specs.Stands.{CountAt, CountStands, Stands}
 use Rattle.switch_machine.proofs.Waiting.{Waits, all-waiting, waiting-said}
 use Rattle.switch_model.proofs.Least.{lesser-same, least-has}
 
@@ -55,7 +56,7 @@ agree-on : (start : Start) (s : State) (h : List Step) → Stands start s h → 
     AllByRecursion (Agree (count_at start.rules h given) (cell_count_in s given)) legs
 agree-on start s h st chan given [] all = tt
 agree-on start s h st chan given (leg ∷ legs) all =
-    (rw st.tick (counted-by (leg_in s leg) chan (cell_count start.rules h leg.circ leg.number) (tick h) given all.0 (st.counts leg)), agree-on start s h st chan given legs all.1)
+    (rw st.numbers.tick (counted-by (leg_in s leg) chan (cell_count start.rules h leg.circ leg.number) (tick h) given all.0 (st.counts.counts leg)), agree-on start s h st chan given legs all.1)
 
 pub picked-said : (start : Start) (s : State) (h : List Step) → Stands start s h → (chan given : ℕ) → picked_leg s chan given ≡ pick start.rules h chan given
 picked-said start s h st chan given =

@@ -11,10 +11,12 @@ use Rattle.switch_model.specs.History.Past.{past}
 use Rattle.switch_model.specs.History.EdgePast.{edge_past}
 use Rattle.switch_model.specs.Answers.OpenCircuit.{is_in_use}
 use Rattle.switch_machine.specs.State.{LegState, CircuitState, ChannelState, State, slot_at}
-use Rattle.switch_machine.specs.Machine.{has_port, leg_at}
+use Rattle.switch_machine.specs.Machine.{has_port, leg_at, leg_in}
+use Rattle.switch_machine.specs.Stands.OneLeg.{LegAt, LegStands}
+use Rattle.switch_machine.specs.Stands.OneCircuit.{CircuitAt}
+use Rattle.switch_machine.specs.Stands.CircIds.{IsUsed}
+use Rattle.switch_machine.specs.Stands.{Stands}
 use Rattle.switch_machine.specs.Calls.OpenCircuit.{circuit_has_id, is_id_taken}
-use Rattle.switch_machine.specs.CircuitStands.{LegAt, LegStands, CircuitAt}
-use Rattle.switch_machine.specs.Stands.{IsUsed, Stands}
 use Rattle.switch_machine.proofs.Slots.{list_any-slot, slot-list_any}
 use Rattle.switch_model.proofs.Common.{and-first, and-second, same-number}
 
@@ -27,7 +29,7 @@ leg-by start s h c k (Some x) leg own found = subst (λ y. LegAt start.rules y k
 
 pub leg-stands : (start : Start) (s : State) (h : List Step) → Stands start s h → (c k : ℕ) (leg : LegState) → leg_at (slot_at s.circuits c) k ≡ Some leg →
     LegStands start.rules leg k (past start.rules h c) (holds_id h c k)
-leg-stands start s h st c k leg found = leg-by start s h c k (slot_at s.circuits c) leg (st.circuit c) found
+leg-stands start s h st c k leg found = leg-by start s h c k (slot_at s.circuits c) leg (st.circuits.circuit c) found
 
 -- such a leg has its CircID
 pub leg-has_id : (start : Start) (s : State) (h : List Step) → Stands start s h → (c k : ℕ) (leg : LegState) → leg_at (slot_at s.circuits c) k ≡ Some leg →
@@ -64,7 +66,7 @@ taken-used start s h st chan id taken =
     port-used start s h st c.0 k.0 chan id (leg_at (slot_at s.circuits c.0) k.0) refl k.1
 
 -- and the other way, unless its DESTROY waits
-pub used-taken : (s : State) (lane : List Destroy) (chan id : ℕ) (x : Option Leg) → IsUsed s lane chan id x → is_some x ≡ true →
+pub used-taken : (s : State) (lane : List Destroy) (chan id : ℕ) (x : Option Leg) → IsUsed (leg_in s) lane chan id x → is_some x ≡ true →
     (list_any (circuit_has_id chan id) s.circuits ≡ true) ⊎ (list_any (λ d. d.id == id) lane ≡ true)
 used-taken s lane chan id None used some = absurd cc
 used-taken s lane chan id (Some leg) (inl has) some =
@@ -82,4 +84,4 @@ pub taken-said : (start : Start) (s : State) (h : List Step) → Stands start s 
     is_id_taken s chan channel id ≡ is_in_use start.rules h chan id
 taken-said start s h st chan id channel same =
     rw same (agree (list_any (circuit_has_id chan id) s.circuits) (is_some (at h chan id)) (list_any (λ d. d.id == id) (lane start.rules h chan))
-    (taken-used start s h st chan id) (used-taken s (lane start.rules h chan) chan id (at h chan id) (st.used chan id)))
+    (taken-used start s h st chan id) (used-taken s (lane start.rules h chan) chan id (at h chan id) (st.ids.used chan id)))

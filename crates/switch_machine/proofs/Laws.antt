@@ -2,7 +2,6 @@
 use Rattle.std.proofs.Common.{◌≡◌, ℕ, ◌+◌, Bool, true, false, if◌then◌else◌, nat_le, List, [], ◌∷◌, ◌++◌, max, Option, Some, None, refl, sym, subst, arith}
 use Rattle.cell_codec.specs.declared.cell.Cell.{Cell}
 use Rattle.kdf_tor.specs.declared.LayerKeys.{LayerKeys}
-use Rattle.circuit_model.specs.Rules.{Rules}
 use Rattle.circuit_model.specs.Words.{in_order}
 use Rattle.tr_io.specs.declared.answers.OpenAnswer.{OpenAnswer}
 use Rattle.tr_io.specs.declared.answers.OpenAnswer.TheVariants.{Opened, Refused}
@@ -19,54 +18,33 @@ use Rattle.switch_model.specs.Waiting.Lanes.{Destroy}
 use Rattle.switch_model.specs.Legal.{IsLegalFrom}
 use Rattle.switch_machine.specs.State.{ChannelState, LegState, CircuitState, State, slot_at}
 use Rattle.switch_machine.specs.Machine.{new_state, counted, filled_slots, leg_in}
+use Rattle.switch_machine.specs.Stands.{Stands}
 use Rattle.switch_machine.specs.Calls.ChannelUp.{channel_up_result, channel_up_state}
 use Rattle.switch_machine.specs.Calls.OpenCircuit.{open_result, open_state_by, open_state}
 use Rattle.switch_machine.specs.Calls.NextCell.{ticked, picked_leg, with_leg, sent_from, next_state_on, lane_of, next_cell_result, next_cell_state}
 use Rattle.switch_model.specs.Waiting.Queues.{circuit_log, sendable}
-use Rattle.switch_model.specs.History.Relayed.{IsRelayed}
-use Rattle.switch_machine.specs.Stands.{Stands}
 use Rattle.switch_machine.specs.Adds.{Adds, StandsForSome, StandsFor}
 use Rattle.switch_machine.proofs.Up.{channel_up_kept}
-use Rattle.switch_machine.proofs.Open.{open_kept}
-use Rattle.switch_machine.proofs.Next.{next_cell_kept}
-
--- a circuit without events relayed nothing
-relayed_nothing : (rules : Rules) → IsRelayed rules [] [] []
-relayed_nothing rules = record {
-  forth_begins = record { rest = []; cells = refl };
-  back_is = refl;
-  windows = record { circuit = omega arith; stream = λ serial. omega arith };
-}
+use Rattle.switch_machine.proofs.OpenCircuit.Kept.{open_kept}
+use Rattle.switch_machine.proofs.NextCell.Kept.{next_cell_kept}
 
 -- a new switch stands for no steps
 pub stands_empty : (start : Start) → Stands start new_state []
 unfolding slot_at
 stands_empty start = record {
-  legal = tt;
-  steps = refl;
-  channels = refl;
-  circuits = refl;
-  claims = refl;
-  bodies = refl;
-  dial_orders = refl;
-  channel = λ chan. record { channel = refl; lane = refl };
-  no_channel = λ chan beyond. refl;
-  circuit = λ c. record { live = refl; relayed = relayed_nothing start.rules; begins = λ k. record { rest = sendable (circuit_log start.rules [] c) 0 k; cells = refl }; left = λ serial. refl };
-  fresh = λ c beyond. record { past = refl; waiting = λ serial. refl; left = λ serial. refl; numbers = λ dir. refl };
-  used = λ chan id. tt;
-  apart = λ chan. tt;
-  no_leg = λ c k chan id beyond. refl;
-  lie = λ leg. tt;
-  last = λ leg. tt;
-  whole = λ c k alive holds ends. cc;
-  again = record { are_out = tt; once = tt };
-  never = λ order beyond. refl;
-  counts = λ leg. tt;
-  no_count = λ c k beyond. refl;
-  tick = refl;
-  slots = λ slot. refl;
-  halts = refl;
-  least_halt = λ n. refl;
+  steps = record { legal = tt; count_is = refl };
+  numbers = record { channels = refl; circuits = refl; claims = refl; bodies = refl; dial_orders = refl; tick = refl };
+  channels = record { channel = λ chan. record { channel = refl; lane = refl }; no_channel = λ chan beyond. refl };
+  circuits = record {
+    circuit = λ c. record { live = refl; begins = λ k. record { rest = sendable (circuit_log start.rules [] c) 0 k; cells = refl }; left = λ serial. refl };
+    fresh = λ c beyond. record { past = refl; left = λ serial. refl; numbers = λ dir. refl };
+  };
+  ids = record { used = λ chan id. tt; apart = λ chan. tt; no_leg = λ c k chan id beyond. refl };
+  legs = record { lie = λ leg. tt; last = λ leg. tt; whole = λ c k alive holds ends. cc };
+  dials = record { are_out = tt; once = tt; never = λ order beyond. refl };
+  counts = record { counts = λ leg. tt; no_count = λ c k beyond. refl };
+  slots = record { slots = λ slot. refl; halts = refl; least_halt = λ n. refl };
+  not_yet = record { unreached = λ c serial. refl; unlinked = λ c. refl };
 }
 
 pub stands_new : (start : Start) (s : State) → s ≡ new_state → Stands start s []
@@ -81,12 +59,12 @@ if-steps false s t n e f = f
 channel_up-steps : (s : State) (side : Side) → (channel_up_state s side).steps ≡ s.steps + 1
 channel_up-steps s side = if-steps (nat_le channel_limit (filled_slots s.channels)) (counted s) _ (s.steps + 1) refl refl
 
-open-steps : (s : State) (chan id : ℕ) (reply : Cell) (keys : Option LayerKeys) (pad : Option (List ℕ)) (x : Option ChannelState) (a : OpenAnswer) → (open_state_by s chan id reply keys pad x a).steps ≡ s.steps + 1
-open-steps s chan id reply keys pad (Some channel) (Refused why) = refl
-open-steps s chan id reply (Some keys) pad (Some channel) (Opened n) = refl
-open-steps s chan id reply None pad (Some channel) (Opened n) = refl
-open-steps s chan id reply keys pad (Some channel) OpenAnswer.Memory = refl
-open-steps s chan id reply keys pad None a = refl
+open-steps : (s : State) (chan id : ℕ) (reply : Cell) (keys : Option LayerKeys) (x : Option ChannelState) (a : OpenAnswer) → (open_state_by s chan id reply keys x a).steps ≡ s.steps + 1
+open-steps s chan id reply keys (Some channel) (Refused why) = refl
+open-steps s chan id reply (Some keys) (Some channel) (Opened n) = refl
+open-steps s chan id reply None (Some channel) (Opened n) = refl
+open-steps s chan id reply keys (Some channel) OpenAnswer.Memory = refl
+open-steps s chan id reply keys None a = refl
 
 with-steps : (s : State) (now : ℕ) (leg : Leg) (x : Option CircuitState) (y : Option LegState) → (with_leg s now leg x y).steps ≡ s.steps
 with-steps s now leg (Some x) (Some y) = refl
@@ -111,11 +89,11 @@ channel_up_adds start old new slot side a e f = rw (e, f) (record {
   stands = λ h st. channel_up_kept start old h slot side st;
 })
 
-pub open_adds : (start : Start) (old new : State) (chan : ChanNo) (id : ℕ) (reply : Cell) (keys : Option LayerKeys) (pad : Option (List ℕ)) (a : OpenAnswer) → IsReply reply keys → new ≡ open_state old chan.0 id reply keys pad → a ≡ open_result old chan.0 id keys →
+pub open_adds : (start : Start) (old new : State) (chan : ChanNo) (id : ℕ) (reply : Cell) (keys : Option LayerKeys) (pad : Option (List ℕ)) (a : OpenAnswer) → IsReply reply keys → new ≡ open_state old chan.0 id reply keys → a ≡ open_result old chan.0 id keys →
     Adds start old new (OpenCircuit chan id reply keys pad a)
 unfolding Adds
 open_adds start old new chan id reply keys pad a asked e f = rw (e, f) (record {
-  steps = open-steps old chan.0 id reply keys pad (slot_at old.channels chan.0) (open_result old chan.0 id keys);
+  steps = open-steps old chan.0 id reply keys (slot_at old.channels chan.0) (open_result old chan.0 id keys);
   stands = λ h st. open_kept start old h chan.0 id reply keys pad asked st;
 })
 
@@ -143,4 +121,4 @@ adds_at_end start old new step h adds st = rw (in_order-last h step) (adds.stand
 
 pub legal_for : (start : Start) (s : State) (h : List Step) → StandsFor start s h → IsLegalFrom start h
 unfolding StandsFor IsLegalFrom
-legal_for start s h st = st.legal
+legal_for start s h st = st.steps.legal

@@ -27,8 +27,8 @@ circuits-le (s ∷ h) = omega (arith, circuits-le h)
 pub stands-low : (start : Start) (s : State) (h : List Step) → Stands start s h → s.steps < 2 ^ 62 → Low s
 stands-low start s h st few = record {
   steps = few;
-  channels = omega (arith, st.channels, st.steps, channels-le h);
-  circuits = omega (arith, st.circuits, st.steps, circuits-le h);
+  channels = omega (arith, st.numbers.channels, st.steps.count_is, channels-le h);
+  circuits = omega (arith, st.numbers.circuits, st.steps.count_is, circuits-le h);
 }
 
 pub low : (start : Start) (s : State) → StandsForSome start s → s.steps < 2 ^ 62 → Low s

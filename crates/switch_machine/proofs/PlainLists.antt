@@ -5,14 +5,9 @@ use Rattle.std.proofs.lemmas.Bool.Decides.{nat_tests}
 use Rattle.switch_model.specs.Names.{Leg}
 use Rattle.switch_model.specs.History.Channels.{count_below}
 use Rattle.switch_model.specs.Waiting.Counts.{lesser, least_of}
-use Rattle.switch_machine.specs.State.{State, slot_at, with_slot}
+use Rattle.switch_machine.specs.State.{State, slot_at, with_slot, all_there}
 use Rattle.switch_machine.specs.Machine.{filled_slots, leg_at, legs_of}
 use Rattle.switch_machine.specs.Calls.NextCell.{waits_on, waiting_before}
-
--- a list by number in which nothing is gone
-abbrev pub all_there : {A : Type 0} → List A → List (Option A)
-all_there [] = []
-all_there (x ∷ xs) = Some x ∷ all_there xs
 
 pub length-all_there : {A : Type 0} (xs : List A) → length (all_there xs) ≡ length xs
 length-all_there [] = refl

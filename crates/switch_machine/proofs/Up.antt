@@ -12,9 +12,12 @@ use Rattle.switch_model.specs.Names.{chan_no}
 use Rattle.switch_model.specs.History.Channels.{is_live_channel, live_channels, count_below}
 use Rattle.switch_machine.specs.State.{ChannelState, State, slot_at}
 use Rattle.switch_machine.specs.Machine.{counted, filled_slots, leg_in}
+use Rattle.switch_machine.specs.Stands.Numbers.{numbers_in, numbers_past}
+use Rattle.switch_machine.specs.Stands.Channels.{ChannelPast, channel_past, ChannelAt, ChannelStands}
+use Rattle.switch_machine.specs.Stands.{Stands}
 use Rattle.switch_machine.specs.Calls.ChannelUp.{new_channel, channel_up_result, channel_up_state}
-use Rattle.switch_machine.specs.Stands.{ChannelPast, channel_past, ChannelAt, ChannelStands, Stands}
 use Rattle.switch_model.proofs.Common.{self_eq, not_equal}
+use Rattle.switch_machine.proofs.OneStep.{step-added, channel-count, lie-changed}
 use Rattle.switch_machine.proofs.Lying.{lies-push}
 use Rattle.switch_machine.proofs.Slots.{slot_at-push, slot_at-past, count_below-same}
 
@@ -25,82 +28,55 @@ live-at p (Some x) at = rw at.channel refl
 
 pub filled-channels : (start : Start) (s : State) (h : List Step) → Stands start s h → filled_slots s.channels ≡ live_channels h
 filled-channels start s h st =
-    count_below-same (λ n. is_some (slot_at s.channels n)) (is_live_channel h) (λ n. live-at (channel_past start.rules h n) (slot_at s.channels n) (st.channel n)) (length s.channels)
-    ∙ ap (count_below (is_live_channel h)) st.channels
+    count_below-same (λ n. is_some (slot_at s.channels n)) (is_live_channel h) (λ n. live-at (channel_past start.rules h n) (slot_at s.channels n) (st.channels.channel n)) (length s.channels)
+    ∙ ap (count_below (is_live_channel h)) st.numbers.channels
 
 -- a channel that was never up
 never-up : (start : Start) (s : State) (h : List Step) → Stands start s h → (chan : ℕ) → chan ≡ length s.channels → (side : Side) →
     ChannelStands (new_channel side) (record { channel = Some (record { side = side; to = None }); given = (channel_past start.rules h chan).given; lane = (channel_past start.rules h chan).lane })
 never-up start s h st chan new side =
     let none : slot_at s.channels chan ≡ None = slot_at-past s.channels chan (omega arith) in
-    let gone = subst (λ x. ChannelAt x (channel_past start.rules h chan)) none (st.channel chan) in
-    record { channel = refl; given = sym (st.no_channel chan (omega arith)); lane = sym gone.lane }
+    let gone = subst (λ x. ChannelAt x (channel_past start.rules h chan)) none (st.channels.channel chan) in
+    record { channel = refl; given = sym (st.channels.no_channel chan (omega arith)); lane = sym gone.lane }
 
 up-by : (start : Start) (s : State) (h : List Step) (slot : ℕ) (side : Side) (b : Bool) → nat_le channel_limit (filled_slots s.channels) ≡ b → Stands start s h →
     Stands start (if b then counted s else record (counted s) { channels = s.channels ++ Some (new_channel side) ∷ [] })
     (ChannelUp slot side (if b then UpAnswer.Full channel_limit else UpAnswer.Up (chan_no (length s.channels))) ∷ h)
 up-by start s h slot side true is st = record {
-  legal = ((tt, rw (← filled-channels start s h st, is) refl), st.legal);
-  steps = omega (arith, st.steps);
+  steps = step-added start s.steps h _ st.steps (tt, rw (← filled-channels start s h st, is) refl);
+  numbers = st.numbers;
   channels = st.channels;
   circuits = st.circuits;
-  claims = st.claims;
-  bodies = st.bodies;
-  dial_orders = st.dial_orders;
-  channel = st.channel;
-  no_channel = st.no_channel;
-  circuit = st.circuit;
-  fresh = st.fresh;
-  used = st.used;
-  apart = st.apart;
-  no_leg = st.no_leg;
-  lie = st.lie;
-  last = st.last;
-  whole = st.whole;
-  again = st.again;
-  never = st.never;
+  ids = st.ids;
+  legs = st.legs;
+  dials = st.dials;
   counts = st.counts;
-  no_count = st.no_count;
-  tick = st.tick;
   slots = st.slots;
-  halts = st.halts;
-  least_halt = st.least_halt;
+  not_yet = st.not_yet;
 }
 up-by start s h slot side false is st =
     let n = length s.channels in
     let step = ChannelUp slot side (UpAnswer.Up (chan_no n)) in
     record {
-      legal = ((tt, rw (← filled-channels start s h st, is, st.channels) refl), st.legal);
-      steps = omega (arith, st.steps);
-      channels = grind (arith, common_steps, st.channels);
+      steps = step-added start s.steps h step st.steps (tt, rw (← filled-channels start s h st, is, st.numbers.channels) refl);
+      numbers = channel-count (numbers_in s) (numbers_past start.rules h) _ _ (grind (arith, common_steps, st.numbers.channels)) st.numbers;
+      channels = record {
+        channel = λ chan. elim (eqb_tells chan n) [
+          | inl (is_new, same) ↦ rw (slot_at-push s.channels (Some (new_channel side)) chan, is_new)
+              (subst (λ m. ChannelAt (Some (new_channel side)) (channel_past start.rules (step ∷ h) m)) (sym same)
+              (rw (self_eq n) (never-up start s h st n refl side)))
+          | inr (is_new, other) ↦ rw (slot_at-push s.channels (Some (new_channel side)) chan, is_new)
+              (rw (not_equal n chan other) (st.channels.channel chan))
+        ];
+        no_channel = λ chan beyond. st.channels.no_channel chan (grind (arith, common_steps));
+      };
       circuits = st.circuits;
-      claims = st.claims;
-      bodies = st.bodies;
-      dial_orders = st.dial_orders;
-      channel = λ chan. elim (eqb_tells chan n) [
-        | inl (is_new, same) ↦ rw (slot_at-push s.channels (Some (new_channel side)) chan, is_new)
-            (subst (λ m. ChannelAt (Some (new_channel side)) (channel_past start.rules (step ∷ h) m)) (sym same)
-            (rw (self_eq n) (never-up start s h st n refl side)))
-        | inr (is_new, other) ↦ rw (slot_at-push s.channels (Some (new_channel side)) chan, is_new)
-            (rw (not_equal n chan other) (st.channel chan))
-      ];
-      no_channel = λ chan beyond. st.no_channel chan (grind (arith, common_steps));
-      circuit = st.circuit;
-      fresh = st.fresh;
-      used = st.used;
-      apart = st.apart;
-      no_leg = st.no_leg;
-      lie = λ leg. lies-push s.channels (Some (new_channel side)) (leg_in s leg) refl (st.lie leg);
-      last = st.last;
-      whole = st.whole;
-      again = st.again;
-      never = st.never;
+      ids = st.ids;
+      legs = lie-changed s.channels _ (leg_in s) _ _ _ _ _ (λ leg. lies-push s.channels (Some (new_channel side)) (leg_in s leg) refl) st.legs;
+      dials = st.dials;
       counts = st.counts;
-      no_count = st.no_count;
-      tick = st.tick;
       slots = st.slots;
-      halts = st.halts;
-      least_halt = st.least_halt;
+      not_yet = st.not_yet;
     }
 
 pub channel_up_kept : (start : Start) (s : State) (h : List Step) (slot : ℕ) (side : Side) → Stands start s h → Stands start (channel_up_state s side) (ChannelUp slot side (channel_up_result s) ∷ h)

@@ -14,9 +14,10 @@ use Rattle.switch_model.specs.History.Past.{past}
 use Rattle.switch_model.specs.History.EdgePast.{edge_past}
 use Rattle.switch_machine.specs.State.{LegState, CircuitState, State, slot_at}
 use Rattle.switch_machine.specs.Machine.{leg_at, leg_in, legs_of}
-use Rattle.switch_machine.specs.Calls.NextCell.{waits_on, waiting_in, waiting_before, waiting_on}
-use Rattle.switch_machine.specs.CircuitStands.{LegAt, CircuitAt}
+use Rattle.switch_machine.specs.Stands.OneLeg.{LegAt}
+use Rattle.switch_machine.specs.Stands.OneCircuit.{CircuitAt}
 use Rattle.switch_machine.specs.Stands.{Stands}
+use Rattle.switch_machine.specs.Calls.NextCell.{waits_on, waiting_in, waiting_before, waiting_on}
 use Rattle.switch_model.proofs.Common.{drop-front, and-false}
 
 abbrev pub queue_of : Option LegState → List CircuitCell
@@ -33,7 +34,7 @@ queue-by start s h c k None gone = rw gone.live refl
 queue-by start s h c k (Some x) own = queue-leg start.rules h c k (slot_at x.legs k) own.live (own.legs k)
 
 pub queue-said : (start : Start) (s : State) (h : List Step) → Stands start s h → (c k : ℕ) → queue start.rules h c k ≡ queue_of (leg_at (slot_at s.circuits c) k)
-queue-said start s h st c k = queue-by start s h c k (slot_at s.circuits c) (st.circuit c)
+queue-said start s h st c k = queue-by start s h c k (slot_at s.circuits c) (st.circuits.circuit c)
 
 -- whether a leg waits on a channel
 port-leg : (rules : Rules) (h : List Step) (chan c k : ℕ) (y : Option LegState) → LegAt rules y k (past rules h c) (holds_id h c k) →
@@ -49,7 +50,7 @@ waits-by start s h chan c k (Some x) own = port-leg start.rules h chan c k (slot
 
 waits-said : (start : Start) (s : State) (h : List Step) → Stands start s h → (chan c k : ℕ) →
     (on_channel chan (port h c k) && some_in (queue start.rules h c k)) ≡ waits_on chan (leg_at (slot_at s.circuits c) k)
-waits-said start s h st chan c k = rw (queue-said start s h st c k) (waits-by start s h chan c k (slot_at s.circuits c) (st.circuit c))
+waits-said start s h st chan c k = rw (queue-said start s h st c k) (waits-by start s h chan c k (slot_at s.circuits c) (st.circuits.circuit c))
 
 -- the legs that wait
 of-said : (start : Start) (s : State) (h : List Step) → Stands start s h → (chan c n : ℕ) → waiting_of start.rules h chan c n ≡ waiting_in chan c (slot_at s.circuits c) n
@@ -69,10 +70,10 @@ all-legs start s h chan c (Some x) own = ap (waiting_in chan c (Some x)) (sym ow
 below-said : (start : Start) (s : State) (h : List Step) → Stands start s h → (chan n : ℕ) → waiting_below start.rules h chan n ≡ waiting_before s chan n
 below-said start s h st chan zero = refl
 below-said start s h st chan (suc c) =
-    rw (below-said start s h st chan c, of-said start s h st chan c (hops h c + 1), all-legs start s h chan c (slot_at s.circuits c) (st.circuit c)) refl
+    rw (below-said start s h st chan c, of-said start s h st chan c (hops h c + 1), all-legs start s h chan c (slot_at s.circuits c) (st.circuits.circuit c)) refl
 
 pub waiting-said : (start : Start) (s : State) (h : List Step) → Stands start s h → (chan : ℕ) → waiting_legs start.rules h chan ≡ waiting_on s chan
-waiting-said start s h st chan = rw (← st.circuits) (below-said start s h st chan (length s.circuits))
+waiting-said start s h st chan = rw (← st.numbers.circuits) (below-said start s h st chan (length s.circuits))
 
 -- each of them is in the state, and has a cell
 abbrev pub Waits : State → ℕ → Leg → Type 0

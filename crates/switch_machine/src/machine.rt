@@ -37,7 +37,7 @@ pub fn channel_up_is_one_step()
 #[tactic(auto, using(crate::proofs::Laws::open_adds))]
 pub fn open_circuit_is_one_step()
     ensures { (start : Start) (s t : State) (chan : ChanNo) (id : ℕ) (reply : Cell) (keys : Option LayerKeys) (pad : Option (List ℕ)) →
-        IsReply reply keys → t ≡ open_state s chan.0 id reply keys pad →
+        IsReply reply keys → t ≡ open_state s chan.0 id reply keys →
         Adds start s t (OpenCircuit chan id reply keys pad (open_result s chan.0 id keys)) }
 {}
 
@@ -49,11 +49,10 @@ pub fn next_cell_is_one_step()
 {}
 
 /// dial_done of an order that is out, where memory is wanting, is no step: the switch stands for the same
-/// history, with the order among those that are handed out again.
-#[tactic(auto, using(crate::proofs::Again::dial_memory_kept))]
+/// history, with the order's circuit among those whose order is handed out again.
 pub fn want_of_memory_hands_an_order_out_again()
     ensures { (start : Start) (s : State) (h : List Step) (given : DialStep) →
-        is_out start.rules h given ≡ true → Stands start s h → Stands start (dial_memory_state s given.order) h }
+        is_out start.rules h given ≡ true → Stands start s h → Stands start (dial_memory_state s given.circ.0) h }
 {}
 
 /// Each legal history of the calls that have a machine here is stood for by some state.

@@ -24,14 +24,16 @@ use Rattle.switch_model.specs.History.EdgePast.{EdgePast, edge_past}
 use Rattle.switch_model.specs.Answers.EdgeOut.{Ordered}
 use Rattle.switch_machine.specs.State.{ChannelState, CircuitState, State, slot_at}
 use Rattle.switch_machine.specs.Machine.{counted, filled_slots}
+use Rattle.switch_machine.specs.Stands.Channels.{channel_past, ChannelAt, ChannelStands}
+use Rattle.switch_machine.specs.Stands.OneCircuit.{CircuitAt}
+use Rattle.switch_machine.specs.Stands.{Stands}
 use Rattle.switch_machine.specs.Calls.OpenCircuit.{is_id_taken, has_peers_bit, open_result_on, open_result, open_state_by, open_state}
-use Rattle.switch_machine.specs.CircuitStands.{CircuitAt}
-use Rattle.switch_machine.specs.Stands.{channel_past, ChannelAt, ChannelStands, Stands}
+use Rattle.switch_machine.proofs.OneStep.{step-added}
 use Rattle.switch_machine.proofs.Slots.{count_below-same}
 use Rattle.switch_machine.proofs.Ids.{taken-said}
 use Rattle.switch_model.proofs.Common.{or-first, or-second}
-use Rattle.switch_machine.proofs.OpenRefused.{refused-kept}
-use Rattle.switch_machine.proofs.OpenAccepted.{opened-kept}
+use Rattle.switch_machine.proofs.OpenCircuit.Refused.{refused-kept}
+use Rattle.switch_machine.proofs.OpenCircuit.Accepted.{opened-kept}
 
 -- what the state has of a circuit says whether it is live
 circuit-live : (rules : Rules) (closes : List Ordered) (x : Option CircuitState) (c : ℕ) (p : Past) (has_id : ℕ → Bool) (e : EdgePast) → CircuitAt rules closes x c p has_id e → is_some x ≡ p.live
@@ -41,18 +43,18 @@ circuit-live rules closes (Some x) c p has_id e at = sym at.live
 pub filled-circuits : (start : Start) (s : State) (h : List Step) → Stands start s h → filled_slots s.circuits ≡ live_circuits start.rules h
 filled-circuits start s h st =
     count_below-same (λ c. is_some (slot_at s.circuits c)) (is_live_circuit start.rules h)
-    (λ c. circuit-live start.rules s.last_closes (slot_at s.circuits c) c (past start.rules h c) (λ k. holds_id h c k) (edge_past start.rules h c) (st.circuit c)) (length s.circuits)
-    ∙ ap (count_below (is_live_circuit start.rules h)) st.circuits
+    (λ c. circuit-live start.rules s.last_closes (slot_at s.circuits c) c (past start.rules h c) (λ k. holds_id h c k) (edge_past start.rules h c) (st.circuits.circuit c)) (length s.circuits)
+    ∙ ap (count_below (is_live_circuit start.rules h)) st.numbers.circuits
 
 -- the answer
 open-said_by : (start : Start) (s : State) (h : List Step) (chan id : ℕ) (keys : Option LayerKeys) (x : Option ChannelState) → Stands start s h → ChannelAt x (channel_past start.rules h chan) →
     open_result_on s chan id keys x ≡ open_answer start.rules h chan id keys
 open-said_by start s h chan id keys None st at = rw at.channel refl
 open-said_by start s h chan id keys (Some channel) st at =
-    rw (at.channel, taken-said start s h st chan id channel at.lane, filled-circuits start s h st, st.circuits) refl
+    rw (at.channel, taken-said start s h st chan id channel at.lane, filled-circuits start s h st, st.numbers.circuits) refl
 
 pub open-said : (start : Start) (s : State) (h : List Step) (chan id : ℕ) (keys : Option LayerKeys) → Stands start s h → open_result s chan id keys ≡ open_answer start.rules h chan id keys
-open-said start s h chan id keys st = open-said_by start s h chan id keys (slot_at s.channels chan) st (st.channel chan)
+open-said start s h chan id keys st = open-said_by start s h chan id keys (slot_at s.channels chan) st (st.channels.channel chan)
 
 -- a refusal that sends nothing
 if-both : {A : Type 0} (b : Bool) (x : A) → (if b then x else x) ≡ x
@@ -66,31 +68,16 @@ unknown-channel start s h chan id reply keys pad st asked said =
     let rules = start.rules in
     let same : (n : ℕ) → (if chan == n then lane rules h n else lane rules h n) ≡ lane rules h n = λ n. if-both (chan == n) (lane rules h n) in
     record {
-      legal = ((asked, said), st.legal);
-      steps = omega (arith, st.steps);
-      channels = st.channels;
+      steps = step-added start s.steps h _ st.steps (asked, said);
+      numbers = st.numbers;
+      channels = record { channel = λ n. rw (same n) (st.channels.channel n); no_channel = st.channels.no_channel };
       circuits = st.circuits;
-      claims = st.claims;
-      bodies = st.bodies;
-      dial_orders = st.dial_orders;
-      channel = λ n. rw (same n) (st.channel n);
-      no_channel = st.no_channel;
-      circuit = st.circuit;
-      fresh = st.fresh;
-      used = λ n i. rw (same n) (st.used n i);
-      apart = λ n. rw (same n) (st.apart n);
-      no_leg = st.no_leg;
-      lie = st.lie;
-      last = st.last;
-      whole = st.whole;
-      again = st.again;
-      never = st.never;
+      ids = record { used = λ n i. rw (same n) (st.ids.used n i); apart = λ n. rw (same n) (st.ids.apart n); no_leg = st.ids.no_leg };
+      legs = st.legs;
+      dials = st.dials;
       counts = st.counts;
-      no_count = st.no_count;
-      tick = st.tick;
       slots = st.slots;
-      halts = st.halts;
-      least_halt = st.least_halt;
+      not_yet = st.not_yet;
     }
 
 -- which refusals send a DESTROY
@@ -117,7 +104,7 @@ judged zero taken peers keys full n =
 open-by : (start : Start) (s : State) (h : List Step) (chan id : ℕ) (reply : Cell) (pad : Option (List ℕ)) (channel : ChannelState) (zero taken peers : Bool) (keys : Option LayerKeys) (full : Bool) →
     Stands start s h → IsReply reply keys → slot_at s.channels chan ≡ Some channel → (id == 0) ≡ zero → is_in_use start.rules h chan id ≡ taken →
     judged zero taken peers keys full (length s.circuits) ≡ open_answer start.rules h chan id keys →
-    Stands start (open_state_by s chan id reply keys pad (Some channel) (judged zero taken peers keys full (length s.circuits)))
+    Stands start (open_state_by s chan id reply keys (Some channel) (judged zero taken peers keys full (length s.circuits)))
     (OpenCircuit (chan_no chan) id reply keys pad (judged zero taken peers keys full (length s.circuits)) ∷ h)
 unfolding judged
 open-by start s h chan id reply pad channel true taken peers keys full st asked found is_zero is_taken said =
@@ -135,14 +122,14 @@ open-by start s h chan id reply pad channel false false true (Some keys) false s
 
 open-on : (start : Start) (s : State) (h : List Step) (chan id : ℕ) (reply : Cell) (keys : Option LayerKeys) (pad : Option (List ℕ)) (x : Option ChannelState) → Stands start s h → IsReply reply keys → slot_at s.channels chan ≡ x →
     open_result_on s chan id keys x ≡ open_answer start.rules h chan id keys →
-    Stands start (open_state_by s chan id reply keys pad x (open_result_on s chan id keys x)) (OpenCircuit (chan_no chan) id reply keys pad (open_result_on s chan id keys x) ∷ h)
+    Stands start (open_state_by s chan id reply keys x (open_result_on s chan id keys x)) (OpenCircuit (chan_no chan) id reply keys pad (open_result_on s chan id keys x) ∷ h)
 unfolding judged
 open-on start s h chan id reply keys pad None st asked found said = unknown-channel start s h chan id reply keys pad st asked said
 open-on start s h chan id reply keys pad (Some channel) st asked found said =
-    let own : ChannelStands channel (channel_past start.rules h chan) = subst (λ x. ChannelAt x (channel_past start.rules h chan)) found (st.channel chan) in
+    let own : ChannelStands channel (channel_past start.rules h chan) = subst (λ x. ChannelAt x (channel_past start.rules h chan)) found (st.channels.channel chan) in
     open-by start s h chan id reply pad channel (id == 0) (is_id_taken s chan channel id) (has_peers_bit channel.side id) keys (nat_le circuit_limit (filled_slots s.circuits)) st asked found refl
     (sym (taken-said start s h st chan id channel own.lane)) said
 
 pub open_kept : (start : Start) (s : State) (h : List Step) (chan id : ℕ) (reply : Cell) (keys : Option LayerKeys) (pad : Option (List ℕ)) → IsReply reply keys → Stands start s h →
-    Stands start (open_state s chan id reply keys pad) (OpenCircuit (chan_no chan) id reply keys pad (open_result s chan id keys) ∷ h)
+    Stands start (open_state s chan id reply keys) (OpenCircuit (chan_no chan) id reply keys pad (open_result s chan id keys) ∷ h)
 open_kept start s h chan id reply keys pad asked st = open-on start s h chan id reply keys pad (slot_at s.channels chan) st asked refl (open-said start s h chan id keys st)

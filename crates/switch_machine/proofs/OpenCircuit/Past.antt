@@ -29,10 +29,11 @@ use Rattle.switch_model.specs.History.EdgePast.{edge_past}
 use Rattle.switch_machine.specs.State.{slot_at}
 use Rattle.switch_machine.specs.Calls.OpenCircuit.{first_leg, new_circuit}
 use Rattle.switch_model.specs.Answers.EdgeOut.{Ordered}
-use Rattle.switch_machine.specs.CircuitStands.{LegAt, CircuitStands, IsFresh, no_past, left_at}
-use Rattle.switch_machine.specs.Stands.{IsSentWhole}
+use Rattle.switch_machine.specs.Stands.OneLeg.{LegAt}
+use Rattle.switch_machine.specs.Stands.OneCircuit.{CircuitStands, IsFresh, no_past, left_at}
 use Rattle.switch_model.proofs.Common.{self_eq, not_equal, and-first, and-second, same-number}
 use Rattle.switch_model.proofs.Others.{other_pasts}
+use Rattle.switch_machine.proofs.Lying.{IsWhole}
 
 abbrev pub opening : ℕ → ℕ → Cell → LayerKeys → Option (List ℕ) → ℕ → Step
 opening chan id reply keys pad n = OpenCircuit (chan_no chan) id reply (Some keys) pad (Opened (circ_no n))
@@ -90,28 +91,6 @@ events-opened : (rules : Rules) (h : List Step) (chan id : ℕ) (reply : Cell) (
 events-opened rules h chan id reply keys pad n fresh =
     ap (λ (p : Past). p.events) (past-opened rules h chan id reply keys pad n ∙ ap (λ p. opened_past p chan id reply keys pad) fresh)
 
-drop-none : (n : ℕ) → ◌≡◌ {A = List Order} (drop n []) []
-drop-none zero = refl
-drop-none (suc n) = refl
-
-if-none : (b : Bool) (orders : List Order) → orders ≡ [] → (if b then [] else orders) ≡ []
-if-none true orders none = refl
-if-none false orders none = none
-
-three-none : (a b c : Bool) (n : ℕ) → ◌≡◌ {A = List Order} ((if a then [] else []) ++ (if b then [] else drop n []) ++ (if c then [] else [])) []
-three-none a b c n = rw (if-none a [] refl, if-none b (drop n []) (drop-none n), if-none c [] refl) refl
-
--- a circuit with no orders has none that wait
-waiting-none : (h : List Step) (c serial : ℕ) (log : Log) → orders_of log serial ≡ [] → waiting_orders h c serial log ≡ []
-waiting-none h c serial log none =
-    rw none (three-none (is_reached h c serial) (is_ended_by_edge log serial) (is_closed_out h c serial) (carried_out h c serial))
-
-new-waiting : (rules : Rules) (h : List Step) (chan id : ℕ) (reply : Cell) (keys : LayerKeys) (pad : Option (List ℕ)) (n serial : ℕ) → past rules h n ≡ no_past →
-    (edge_past rules (opening chan id reply keys pad n ∷ h) n).waiting serial ≡ []
-unfolding open_effects
-new-waiting rules h chan id reply keys pad n serial fresh =
-    waiting-none (opening chan id reply keys pad n ∷ h) n serial (circuit_log rules (opening chan id reply keys pad n ∷ h) n) (rw (events-opened rules h chan id reply keys pad n fresh) refl)
-
 -- the first leg
 holds-first : (h : List Step) (chan id : ℕ) (reply : Cell) (keys : LayerKeys) (pad : Option (List ℕ)) (n : ℕ) → holds_id (opening chan id reply keys pad n ∷ h) n 0 ≡ true
 holds-first h chan id reply keys pad n = simp (self_eq n, self_eq chan, self_eq id)
@@ -132,42 +111,31 @@ new-legs rules h chan id reply keys pad n fresh (suc k) = record {
   begins = record { rest = sendable (log rules (opened_past no_past chan id reply keys pad).events) 0 (suc k); cells = refl };
 }
 
-or-none : {A : Type 0} (o : Option A) → o ≡ option_or o None
-or-none None = refl
-or-none (Some x) = refl
-
--- being opened relays nothing
-born-relayed : (rules : Rules) (reply : CircuitCell) (keys : LayerKeys) (pad : Option (List ℕ)) → IsRelayed rules (Born reply keys pad ∷ []) [] []
-unfolding open_effects
-born-relayed rules reply keys pad = record {
-  forth_begins = record { rest = []; cells = refl };
-  back_is = refl;
-  windows = (record { circuit = omega arith; stream = λ serial. omega arith }, record { circuit = omega arith; stream = λ serial. omega arith });
-}
-
 new-circuit : (rules : Rules) (closes : List Ordered) (h : List Step) (chan id : ℕ) (reply : Cell) (keys : LayerKeys) (pad : Option (List ℕ)) (n : ℕ) →
     IsFresh (past rules h n) (edge_past rules h n) → ((serial : ℕ) → left_at closes n serial ≡ []) →
-    CircuitStands rules closes (new_circuit chan id reply keys pad) n (opened_past no_past chan id reply keys pad) (λ k. holds_id (opening chan id reply keys pad n ∷ h) n k) (edge_past rules (opening chan id reply keys pad n ∷ h) n)
+    CircuitStands rules closes (new_circuit chan id reply) n (opened_past no_past chan id reply keys pad) (λ k. holds_id (opening chan id reply keys pad n ∷ h) n k) (edge_past rules (opening chan id reply keys pad n ∷ h) n)
 unfolding open_effects
 new-circuit rules closes h chan id reply keys pad n fresh none = record {
   live = refl;
-  relay = record { keys = refl; pad = or-none pad };
+  sent_count = refl;
+  born = refl;
+  sealed = omega arith;
+  linked = refl;
   hops = refl;
   legs = new-legs rules h chan id reply keys pad n fresh.past;
-  forth = record { claimed = refl; out = refl; kept = refl; noted = tt; cells = refl; numbers = sym (fresh.numbers Forth) };
-  back = record { claimed = refl; out = refl; kept = refl; noted = tt; cells = refl; numbers = sym (fresh.numbers Back) };
-  orders = λ serial. sym (new-waiting rules h chan id reply keys pad n serial fresh.past);
+  forth = record { claimed = refl; out = refl; kept = refl; noted = tt; cells = refl; claimed_numbers = []; claimed_all = refl; numbers = sym (fresh.numbers Forth) };
+  back = record { claimed = refl; out = refl; kept = refl; noted = tt; cells = refl; claimed_numbers = []; claimed_all = refl; numbers = sym (fresh.numbers Back) };
+  orders = record { reach_orders = λ serial. refl; carry_orders = λ serial. refl; close_orders = λ serial. refl };
   no_left = none;
-  relayed = born-relayed rules (circuit_cell reply) keys pad;
   dial = refl;
 }
 
 pub circuit-opened : (rules : Rules) (closes : List Ordered) (h : List Step) (chan id : ℕ) (reply : Cell) (keys : LayerKeys) (pad : Option (List ℕ)) (n : ℕ) →
     IsFresh (past rules h n) (edge_past rules h n) → ((serial : ℕ) → left_at closes n serial ≡ []) →
-    CircuitStands rules closes (new_circuit chan id reply keys pad) n (past rules (opening chan id reply keys pad n ∷ h) n) (λ k. holds_id (opening chan id reply keys pad n ∷ h) n k) (edge_past rules (opening chan id reply keys pad n ∷ h) n)
+    CircuitStands rules closes (new_circuit chan id reply) n (past rules (opening chan id reply keys pad n ∷ h) n) (λ k. holds_id (opening chan id reply keys pad n ∷ h) n k) (edge_past rules (opening chan id reply keys pad n ∷ h) n)
 circuit-opened rules closes h chan id reply keys pad n fresh none =
     let step = opening chan id reply keys pad n in
-    subst (λ p. CircuitStands rules closes (new_circuit chan id reply keys pad) n p (λ k. holds_id (step ∷ h) n k) (edge_past rules (step ∷ h) n))
+    subst (λ p. CircuitStands rules closes (new_circuit chan id reply) n p (λ k. holds_id (step ∷ h) n k) (edge_past rules (step ∷ h) n))
     (sym (past-opened rules h chan id reply keys pad n ∙ ap (λ p. opened_past p chan id reply keys pad) fresh.past))
     (new-circuit rules closes h chan id reply keys pad n fresh none)
 
@@ -176,7 +144,7 @@ eqb-zero-suc k = grind (arith, nat_tests)
 
 -- what was sent on its legs, and on those of the others
 pub whole-new : (rules : Rules) (h : List Step) (chan id : ℕ) (reply : Cell) (keys : LayerKeys) (pad : Option (List ℕ)) (n : ℕ) → past rules h n ≡ no_past → (k : ℕ) →
-    IsSentWhole rules (opening chan id reply keys pad n ∷ h) n k
+    IsWhole rules (opening chan id reply keys pad n ∷ h) n k
 unfolding open_effects
 whole-new rules h chan id reply keys pad n fresh zero alive lost ends =
     let both : true ≡ false = sym (holds-first h chan id reply keys pad n) ∙ lost in
@@ -185,45 +153,6 @@ whole-new rules h chan id reply keys pad n fresh (suc k) alive lost ends =
     rw (events-opened rules h chan id reply keys pad n fresh, ap (λ (p : Past). p.sent (suc k)) fresh, eqb-suc-zero k, eqb-zero-suc k) refl
 
 pub whole-other : (rules : Rules) (h : List Step) (chan id : ℕ) (reply : Cell) (keys : LayerKeys) (pad : Option (List ℕ)) (n d k : ℕ) → at h chan id ≡ None → (n == d) ≡ false →
-    IsSentWhole rules h d k → IsSentWhole rules (opening chan id reply keys pad n ∷ h) d k
+    IsWhole rules h d k → IsWhole rules (opening chan id reply keys pad n ∷ h) d k
 whole-other rules h chan id reply keys pad n d k free other whole alive lost ends =
     rw other (whole (rw other at alive) (sym (holds-other h chan id reply keys pad n d k free other) ∙ lost) ends)
-
-if-false : (b : Bool) → (b && false) ≡ false
-if-false true = refl
-if-false false = refl
-
--- no dial order of it is out
-filter-same : (f g : Dial → Bool) (xs : List Dial) → ((x : Dial) → f x ≡ g x) → filter f xs ≡ filter g xs
-filter-same f g [] same = refl
-filter-same f g (x ∷ xs) same = rw (same x, filter-same f g xs same) refl
-
-open-none : (rules : Rules) (h : List Step) (chan id : ℕ) (reply : Cell) (keys : LayerKeys) (pad : Option (List ℕ)) (n : ℕ) → past rules h n ≡ no_past →
-    is_dialling (next_hop (circuit_log rules (opening chan id reply keys pad n ∷ h) n)) ≡ false
-unfolding open_effects
-open-none rules h chan id reply keys pad n fresh = rw (events-opened rules h chan id reply keys pad n fresh) refl
-
-open-off : (rules : Rules) (h : List Step) (dial : Dial) → is_dialling (next_hop (circuit_log rules h dial.circ)) ≡ false → is_open rules h dial ≡ false
-open-off rules h dial none = rw none (if-false (is_live_circuit rules h dial.circ))
-
-open-new : (rules : Rules) (h : List Step) (chan id : ℕ) (reply : Cell) (keys : LayerKeys) (pad : Option (List ℕ)) (n : ℕ) → past rules h n ≡ no_past → (dial : Dial) → dial.circ ≡ n →
-    is_open rules (opening chan id reply keys pad n ∷ h) dial ≡ is_open rules h dial
-open-new rules h chan id reply keys pad n fresh dial same =
-    let never : is_live_circuit rules h n ≡ false = ap (λ (p : Past). p.live) fresh in
-    let none : is_dialling (next_hop (circuit_log rules (opening chan id reply keys pad n ∷ h) n)) ≡ false = open-none rules h chan id reply keys pad n fresh in
-    let before : is_open rules h dial ≡ false = rw (same, never) refl in
-    let after : is_open rules (opening chan id reply keys pad n ∷ h) dial ≡ false =
-    open-off rules (opening chan id reply keys pad n ∷ h) dial (subst (λ m. is_dialling (next_hop (circuit_log rules (opening chan id reply keys pad n ∷ h) m)) ≡ false) (sym same) none) in
-    after ∙ sym before
-
-open-at : (rules : Rules) (h : List Step) (chan id : ℕ) (reply : Cell) (keys : LayerKeys) (pad : Option (List ℕ)) (n : ℕ) → past rules h n ≡ no_past → (dial : Dial) →
-    is_open rules (opening chan id reply keys pad n ∷ h) dial ≡ is_open rules h dial
-open-at rules h chan id reply keys pad n fresh dial = elim (eqb_tells dial.circ n) [
-  | inl (is, same) ↦ open-new rules h chan id reply keys pad n fresh dial same
-  | inr (is, other) ↦ rw (not_equal n dial.circ other) refl
-]
-
-pub out-opened : (rules : Rules) (h : List Step) (chan id : ℕ) (reply : Cell) (keys : LayerKeys) (pad : Option (List ℕ)) (n : ℕ) → past rules h n ≡ no_past →
-    dials_out rules (opening chan id reply keys pad n ∷ h) ≡ dials_out rules h
-out-opened rules h chan id reply keys pad n fresh =
-    filter-same _ _ (dials_made rules h) (λ dial. ap (λ b. b && was_handed_out h dial.order) (open-at rules h chan id reply keys pad n fresh dial))

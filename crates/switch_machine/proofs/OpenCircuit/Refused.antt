@@ -13,15 +13,21 @@ use Rattle.switch_model.specs.Start.{Start}
 use Rattle.switch_model.specs.Names.{Leg, chan_no}
 use Rattle.switch_model.specs.History.Channels.{is_ours, opened_by_us, channel_at}
 use Rattle.switch_model.specs.History.Legs.{at}
+use Rattle.switch_model.specs.History.Circuit.{is_live_circuit}
 use Rattle.switch_model.specs.Waiting.Lanes.{Destroy, lane, refusal_reason, with_refusal}
 use Rattle.switch_model.specs.Legal.{IsRightStep}
-use Rattle.switch_machine.specs.State.{ChannelState, State, slot_at}
+use Rattle.switch_machine.specs.State.{ChannelState, LegState, State, slot_at}
 use Rattle.switch_machine.specs.Machine.{leg_in}
+use Rattle.switch_machine.specs.Stands.Numbers.{numbers_in, numbers_past}
+use Rattle.switch_machine.specs.Stands.Channels.{channel_past}
+use Rattle.switch_machine.specs.Stands.CircIds.{IsUsed, IsApart}
+use Rattle.switch_machine.specs.Stands.{Stands}
 use Rattle.switch_machine.specs.Calls.OpenCircuit.{refusing, open_state_by}
-use Rattle.switch_machine.specs.Stands.{channel_past, ChannelAt, ChannelStands, IsUsed, IsApart, Stands}
 use Rattle.switch_model.proofs.Common.{self_eq, not_equal}
+use Rattle.switch_machine.proofs.OneStep.{step-added, channel-count, lie-changed}
+use Rattle.switch_machine.proofs.OneChannel.{channel-own, channel-changed}
 use Rattle.switch_machine.proofs.Lying.{lies-with}
-use Rattle.switch_machine.proofs.Slots.{slot_at-with, length-with, slot_at-inside}
+use Rattle.switch_machine.proofs.Slots.{length-with, slot_at-inside}
 
 -- a lane with a refusal has what it had
 all-more : (P : Destroy → Type 0) (xs : List Destroy) (d : Destroy) → AllByRecursion P xs → P d → AllByRecursion P (xs ++ d ∷ [])
@@ -53,58 +59,44 @@ any-refusal : (test : Destroy → Bool) (id : ℕ) (reason : Option ℕ) (xs : L
 any-refusal test id None xs some = some
 any-refusal test id (Some r) xs some = any-if test (nat_le refusal_limit (count_by (λ d. d.refusal) xs)) xs _ some (any-more test xs _ some)
 
-used-more : (s t : State) (xs ys : List Destroy) (chan id : ℕ) (x : Option Leg) → ((leg : Leg) → leg_in t leg ≡ leg_in s leg) →
-    (list_any (λ d. d.id == id) xs ≡ true → list_any (λ d. d.id == id) ys ≡ true) → IsUsed s xs chan id x → IsUsed t ys chan id x
-used-more s t xs ys chan id None same more used = tt
-used-more s t xs ys chan id (Some leg) same more (inl has) = inl (rw (same leg) has)
-used-more s t xs ys chan id (Some leg) same more (inr waits) = inr (more waits)
+pub used-more : (legs : Leg → Option LegState) (xs ys : List Destroy) (chan id : ℕ) (x : Option Leg) →
+    (list_any (λ d. d.id == id) xs ≡ true → list_any (λ d. d.id == id) ys ≡ true) → IsUsed legs xs chan id x → IsUsed legs ys chan id x
+used-more legs xs ys chan id None more used = tt
+used-more legs xs ys chan id (Some leg) more (inl has) = inl has
+used-more legs xs ys chan id (Some leg) more (inr waits) = inr (more waits)
 
 pub refused-kept : (start : Start) (s : State) (h : List Step) (chan id : ℕ) (reply : Cell) (keys : Option LayerKeys) (pad : Option (List ℕ)) (why : OpenRefusal) (channel : ChannelState) →
     Stands start s h → slot_at s.channels chan ≡ Some channel → IsRightStep start h (OpenCircuit (chan_no chan) id reply keys pad (Refused why)) →
     ((r : ℕ) → refusal_reason (is_ours channel.side) id why ≡ Some r → at h chan id ≡ None) →
-    Stands start (open_state_by s chan id reply keys pad (Some channel) (Refused why)) (OpenCircuit (chan_no chan) id reply keys pad (Refused why) ∷ h)
+    Stands start (open_state_by s chan id reply keys (Some channel) (Refused why)) (OpenCircuit (chan_no chan) id reply keys pad (Refused why) ∷ h)
 refused-kept start s h chan id reply keys pad why channel st found answered free =
     let rules = start.rules in
     let step = OpenCircuit (chan_no chan) id reply keys pad (Refused why) in
-    let own : ChannelStands channel (channel_past rules h chan) = subst (λ x. ChannelAt x (channel_past rules h chan)) found (st.channel chan) in
+    let own = channel-own s.channels (λ n. channel_past rules h n) chan channel found st.channels in
     let ours : opened_by_us (channel_at h chan) ≡ is_ours channel.side = rw own.channel refl in
     let inside = slot_at-inside s.channels chan channel found in
+    let owed : ℕ → Option ℕ = λ n. refusal_reason (opened_by_us (channel_at h n)) id why in
     record {
-      legal = (answered, st.legal);
-      steps = omega (arith, st.steps);
-      channels = length-with s.channels chan _ ∙ st.channels;
+      steps = step-added start s.steps h step st.steps answered;
+      numbers = channel-count (numbers_in s) (numbers_past rules h) _ _ (length-with s.channels chan _ ∙ st.numbers.channels) st.numbers;
+      channels = channel-changed s.channels (λ n. channel_past rules h n) (λ n. channel_past rules (step ∷ h) n) chan channel (refusing id why channel) found (λ n other. rw other refl)
+          (record { channel = own.channel; given = own.given; lane = rw (self_eq chan, ours, own.lane) refl }) st.channels;
       circuits = st.circuits;
-      claims = st.claims;
-      bodies = st.bodies;
-      dial_orders = st.dial_orders;
-      channel = λ n. elim (eqb_tells n chan) [
-        | inl (is_here, same) ↦ rw (slot_at-with s.channels chan (Some (refusing id why channel)) n inside, is_here)
-            (subst (λ m. ChannelAt (Some (refusing id why channel)) (channel_past rules (step ∷ h) m)) (sym same)
-            (record { channel = own.channel; given = own.given; lane = rw (self_eq chan, ours, own.lane) refl }))
-        | inr (is_here, other) ↦ rw (slot_at-with s.channels chan (Some (refusing id why channel)) n inside, is_here, not_equal chan n other) (st.channel n)
-      ];
-      no_channel = λ n beyond. st.no_channel n (omega (arith, length-with s.channels chan (Some (refusing id why channel))));
-      circuit = st.circuit;
-      fresh = st.fresh;
-      used = λ n i.
-          let waits : Destroy → Bool = λ d. d.id == i in
-          used-more s (open_state_by s chan id reply keys pad (Some channel) (Refused why)) (lane rules h n) _ n i (at h n i) (λ leg. refl)
-          (λ some. any-if waits (chan == n) _ _ (any-refusal waits id (refusal_reason (opened_by_us (channel_at h n)) id why) (lane rules h n) some) some) (st.used n i);
-      apart = λ n. elim (eqb_tells n chan) [
-        | inl (is_here, same) ↦ subst (λ m. AllByRecursion (IsApart rules (step ∷ h) m) (lane rules (step ∷ h) m)) (sym same)
-            (rw (self_eq chan, ours) (all-refusal (IsApart rules h chan) id (refusal_reason (is_ours channel.side) id why) (lane rules h chan) (st.apart chan) (λ r owed c k. rw (free r owed) refl)))
-        | inr (is_here, other) ↦ rw (not_equal chan n other) (st.apart n)
-      ];
-      no_leg = st.no_leg;
-      lie = λ leg. lies-with s.channels chan (refusing id why channel) (leg_in s leg) inside (st.lie leg);
-      last = st.last;
-      whole = st.whole;
-      again = st.again;
-      never = st.never;
+      ids = record {
+        used = λ n i.
+            let waits : Destroy → Bool = λ d. d.id == i in
+            used-more (leg_in s) (lane rules h n) _ n i (at h n i)
+            (λ some. any-if waits (chan == n) _ _ (any-refusal waits id (owed n) (lane rules h n) some) some) (st.ids.used n i);
+        apart = λ n. elim (eqb_tells n chan) [
+          | inl (is_here, same) ↦ subst (λ m. AllByRecursion (IsApart (at h m) (is_live_circuit rules h)) (lane rules (step ∷ h) m)) (sym same)
+              (rw (self_eq chan, ours) (all-refusal (IsApart (at h chan) (is_live_circuit rules h)) id (refusal_reason (is_ours channel.side) id why) (lane rules h chan) (st.ids.apart chan) (λ r is_owed c k. rw (free r is_owed) refl)))
+          | inr (is_here, other) ↦ rw (not_equal chan n other) (st.ids.apart n)
+        ];
+        no_leg = st.ids.no_leg;
+      };
+      legs = lie-changed s.channels _ (leg_in s) _ _ _ _ _ (λ leg. lies-with s.channels chan (refusing id why channel) (leg_in s leg) inside) st.legs;
+      dials = st.dials;
       counts = st.counts;
-      no_count = st.no_count;
-      tick = st.tick;
       slots = st.slots;
-      halts = st.halts;
-      least_halt = st.least_halt;
+      not_yet = st.not_yet;
     }

@@ -15,31 +15,38 @@ use Rattle.switch_model.specs.History.Past.{past}
 use Rattle.switch_model.specs.History.EdgePast.{edge_past}
 use Rattle.switch_model.specs.Answers.NextCell.{cell_at, next_cell_answer}
 use Rattle.switch_machine.specs.State.{ChannelState, LegState, CircuitState, State, slot_at, with_slot}
-use Rattle.switch_machine.specs.Machine.{has_port, leg_at, leg_in}
-use Rattle.switch_machine.specs.Calls.NextCell.{count_of, ticked, sent_first}
-use Rattle.switch_machine.specs.CircuitStands.{LegAt, LegStands, CircuitAt, CircuitStands}
-use Rattle.switch_machine.specs.Stands.{CountAt, CountStands, IsUsed, LiesOn, IsDestroyLast, EndsWithDestroy, IsSentWhole, Stands}
+use Rattle.switch_machine.specs.Machine.{has_port, leg_at, leg_in, dial_in}
+use Rattle.switch_machine.specs.Stands.Numbers.{numbers_in, numbers_past}
+use Rattle.switch_machine.specs.Stands.OneLeg.{LegAt, LegStands}
+use Rattle.switch_machine.specs.Stands.OneCircuit.{CircuitAt, CircuitStands}
+use Rattle.switch_machine.specs.Stands.CircIds.{IsUsed}
+use Rattle.switch_machine.specs.Stands.Legs.{LiesOn, MayWait, EndsWithDestroy}
+use Rattle.switch_machine.specs.Stands.Counts.{CountAt, CountStands}
+use Rattle.switch_machine.specs.Stands.{Stands}
+use Rattle.switch_machine.specs.Calls.NextCell.{count_of, ticked, sent_first, sent_after, circuit_sent}
 use Rattle.switch_model.proofs.Common.{self_eq, not_equal, and-first, and-second, same-number}
-use Rattle.switch_machine.proofs.Lying.{lies-first, last-first}
+use Rattle.switch_machine.proofs.OneStep.{step-added, circuit-count, tick-given}
+use Rattle.switch_machine.proofs.OneCircuit.{circuit-own, circuit-changed, dial_in-kept}
+use Rattle.switch_machine.proofs.Dials.{again-kept}
+use Rattle.switch_machine.proofs.Lying.{IsWhole, lies-first, last-first, behind-first, none-behind}
 use Rattle.switch_machine.proofs.Slots.{slot_at-with, length-with, slot_at-inside}
 use Rattle.switch_machine.proofs.Ids.{leg-has_id}
 use Rattle.switch_machine.proofs.Counting.{count-later, later-by, halved-none, halved-never}
-use Rattle.switch_machine.proofs.NextDestroy.{leg-fewer, all-apart, circuit-on, past-on, whole-on}
-use Rattle.switch_machine.proofs.NextLeg.{leg-named, circuit-sent, whole-kept}
+use Rattle.switch_machine.proofs.NextCell.Destroy.{leg-fewer, all-apart, circuit-on, past-on, whole-on}
+use Rattle.switch_machine.proofs.NextCell.Leg.{leg-named, circuit-sent, whole-kept}
 
 -- the state after the leg's first cell left
 abbrev pub sent_state : State → ℕ → ℕ → ℕ → CircuitState → LegState → List CircuitCell → State
-sent_state s given c k x leg cells =
-    record (ticked s given) { circuits = with_slot s.circuits c (Some (record x { legs = with_slot x.legs k (sent_first (max s.tick given) leg cells) })) }
+sent_state s given c k x leg cells = record (ticked s given) { circuits = with_slot s.circuits c (Some (circuit_sent (max s.tick given) k x leg cells)) }
 
-turned : (a b : ℕ) → (a == b) ≡ (b == a)
+pub turned : (a b : ℕ) → (a == b) ≡ (b == a)
 turned a b = grind (arith, nat_tests)
 
 -- its legs
-leg_in-sent : (s : State) (c k : ℕ) (x : CircuitState) (y : Option LegState) (old : LegState) → slot_at s.circuits c ≡ Some x → slot_at x.legs k ≡ Some old → (leg : Leg) →
-    leg_at (slot_at (with_slot s.circuits c (Some (record x { legs = with_slot x.legs k y }))) leg.circ) leg.number ≡ (if (leg.circ == c) && (leg.number == k) then y else leg_in s leg)
-leg_in-sent s c k x y old found_circuit found_leg leg =
-    let new = Some (record x { legs = with_slot x.legs k y }) in
+leg_in-sent : (s : State) (c k n : ℕ) (x : CircuitState) (y : Option LegState) (old : LegState) → slot_at s.circuits c ≡ Some x → slot_at x.legs k ≡ Some old → (leg : Leg) →
+    leg_at (slot_at (with_slot s.circuits c (Some (record x { sent_count = n; legs = with_slot x.legs k y }))) leg.circ) leg.number ≡ (if (leg.circ == c) && (leg.number == k) then y else leg_in s leg)
+leg_in-sent s c k n x y old found_circuit found_leg leg =
+    let new = Some (record x { sent_count = n; legs = with_slot x.legs k y }) in
     let inside = slot_at-inside s.circuits c x found_circuit in
     let leg_inside = slot_at-inside x.legs k old found_leg in
     elim (eqb_tells leg.circ c) [
@@ -68,7 +75,7 @@ leg-is s c k leg found other it =
     rw (same_circ, same_leg) found
 
 used-sent : (s t : State) (waits : List Destroy) (m i : ℕ) (b : Bool) (x : Option Leg) → ((other : Leg) → b ≡ false → has_port m i (leg_in s other) ≡ true → has_port m i (leg_in t other) ≡ true) →
-    IsUsed s waits m i x → IsUsed t waits m i (if b then None else x)
+    IsUsed (leg_in s) waits m i x → IsUsed (leg_in t) waits m i (if b then None else x)
 used-sent s t waits m i true x keeps used = tt
 used-sent s t waits m i false None keeps used = tt
 used-sent s t waits m i false (Some other) keeps (inl has) = inl (keeps other refl has)
@@ -80,10 +87,10 @@ pub lies-sent : (slots : List (Option ChannelState)) (b : Bool) (now : ℕ) (leg
 lies-sent slots true now leg z cell cells own other = lies-first slots now leg cell cells (cell.command == 4) refl own
 lies-sent slots false now leg z cell cells own other = other
 
-last-sent : (b : Bool) (now : ℕ) (leg : LegState) (z : Option LegState) (cell : CircuitCell) (cells : List CircuitCell) → EndsWithDestroy z → IsDestroyLast (cell ∷ cells) →
-    EndsWithDestroy (if b then sent_first now leg (cell ∷ cells) else z)
-last-sent true now leg z cell cells other own = last-first now leg cell cells (cell.command == 4) refl own.1
-last-sent false now leg z cell cells other own = other
+last-sent : (j : ℕ) (b : Bool) (now : ℕ) (leg : LegState) (z : Option LegState) (cell : CircuitCell) (cells : List CircuitCell) → EndsWithDestroy j z → (b ≡ true → MayWait j (cell ∷ cells)) →
+    EndsWithDestroy j (if b then sent_first now leg (cell ∷ cells) else z)
+last-sent j true now leg z cell cells other own = last-first j now leg cell cells (cell.command == 4) refl (behind-first j cell cells (own refl))
+last-sent j false now leg z cell cells other own = other
 
 -- the lane of the leg's channel was empty
 drop-none : (b : Bool) (waits : List Destroy) → (b ≡ true → waits ≡ []) → (if b then drop 1 waits else waits) ≡ waits
@@ -116,69 +123,66 @@ leg-left start s h given c k x leg cell cells st found_circuit found_leg queued 
     let y = sent_first now leg (cell ∷ cells) in
     let t = sent_state s given c k x leg (cell ∷ cells) in
     let inside = slot_at-inside s.circuits c x found_circuit in
-    let own : CircuitStands rules s.last_closes x c (past rules h c) (λ j. holds_id h c j) (edge_past rules h c) =
-    subst (λ z. CircuitAt rules s.last_closes z c (past rules h c) (λ j. holds_id h c j) (edge_past rules h c)) found_circuit (st.circuit c) in
+    let own = circuit-own rules s.last_closes s.circuits (λ d. past rules h d) (λ d j. holds_id h d j) (λ d. edge_past rules h d) c x found_circuit st.circuits in
+    let many : length t.circuits ≡ length s.circuits = length-with s.circuits c (Some (circuit_sent now k x leg (cell ∷ cells))) in
     let found : leg_at (slot_at s.circuits c) k ≡ Some leg = rw found_circuit found_leg in
     let named : is_leg c k (at h leg.chan leg.id) ≡ true = leg-has_id start s h st c k leg found in
     let others : (d j : ℕ) → is_leg d j (at h leg.chan leg.id) ≡ ((c == d) && (k == j)) = λ d j. leg-named c k d j (at h leg.chan leg.id) named in
     let none : (d : ℕ) → (c == d) ≡ false → (j : ℕ) → (is_leg d j (at h leg.chan leg.id) && is_live_circuit rules h d) ≡ false = λ d unlike j. rw (others d j, unlike) refl in
+    let beyond_c : (d : ℕ) → length s.circuits ≤ d → (c == d) ≡ false = λ d beyond. not_equal c d (λ same. absurd (omega (arith, beyond, inside, same))) in
     let same_lane : (n : ℕ) → lane rules (step ∷ h) n ≡ lane rules h n = λ n. drop-none (leg.chan == n) (lane rules h n) (λ here. subst (λ a. lane rules h a ≡ []) (same-number leg.chan n here) no_destroy) in
     let is_it : Leg → Bool = λ other. (other.circ == c) && (other.number == k) in
-    let leg_of : (other : Leg) → leg_in t other ≡ (if is_it other then y else leg_in s other) = leg_in-sent s c k x y leg found_circuit found_leg in
-    let behind : IsDestroyLast (cell ∷ cells) = subst IsDestroyLast queued (subst EndsWithDestroy found (st.last (record { circ = c; number = k }))) in
+    let leg_of : (other : Leg) → leg_in t other ≡ (if is_it other then y else leg_in s other) = leg_in-sent s c k (sent_after k x.sent_count) x y leg found_circuit found_leg in
+    let queue_may : MayWait k (cell ∷ cells) = subst (MayWait k) queued (subst (EndsWithDestroy k) found (st.legs.last (record { circ = c; number = k }))) in
     let leg_own : LegStands rules leg k (past rules h c) (holds_id h c k) = subst (λ z. LegAt rules z k (past rules h c) (holds_id h c k)) found_leg (own.legs k) in
-    let whole-here : (j : ℕ) → IsSentWhole rules (step ∷ h) c j = λ j. elim (eqb_tells j k) [
+    let whole-here : (j : ℕ) → IsWhole rules (step ∷ h) c j = λ j. elim (eqb_tells j k) [
       | inl (is, same) ↦ λ alive lost ends. subst (λ i. sent rules (step ∷ h) c i ≡ sendable (circuit_log rules (step ∷ h) c) (sealed_count (step ∷ h) c) i) (sym same)
-          (whole-kept rules h given c k leg cell cells (cell.command == 4) refl own.live queued named leg_own behind.0 (subst (λ i. holds_id (step ∷ h) c i ≡ false) same lost))
-      | inr (is, other) ↦ whole-on rules h leg.chan given (cell_at leg.id cell) c j (rw (others c j, self_eq c, not_equal k j other) refl) (st.whole c j)
+          (whole-kept rules h given c k leg cell cells (cell.command == 4) refl own.live queued named leg_own (none-behind k cell cells queue_may) (subst (λ i. holds_id (step ∷ h) c i ≡ false) same lost))
+      | inr (is, other) ↦ whole-on rules h leg.chan given (cell_at leg.id cell) c j (rw (others c j, self_eq c, not_equal k j other) refl) (st.legs.whole c j)
     ] in
-    let whole-of : (d j : ℕ) → d ≡ c → IsSentWhole rules (step ∷ h) d j = λ d j same. subst (λ e. IsSentWhole rules (step ∷ h) e j) (sym same) (whole-here j) in
+    let whole-of : (d j : ℕ) → d ≡ c → IsWhole rules (step ∷ h) d j = λ d j same. subst (λ e. IsWhole rules (step ∷ h) e j) (sym same) (whole-here j) in
     record {
-      legal = ((tt, said), st.legal);
-      steps = omega (arith, st.steps);
-      channels = st.channels;
-      circuits = length-with s.circuits c _ ∙ st.circuits;
-      claims = st.claims;
-      bodies = st.bodies;
-      dial_orders = st.dial_orders;
-      channel = λ n. rw (same_lane n) (st.channel n);
-      no_channel = st.no_channel;
-      circuit = λ d. elim (eqb_tells d c) [
-        | inl (is, same) ↦ rw (slot_at-with s.circuits c (Some (record x { legs = with_slot x.legs k y })) d inside, is)
-            (subst (λ e. CircuitAt rules s.last_closes (Some (record x { legs = with_slot x.legs k y })) e (past rules (step ∷ h) e) (λ j. holds_id (step ∷ h) e j) (edge_past rules (step ∷ h) e)) (sym same)
-            (circuit-sent rules s.last_closes h given now c k x leg cell cells found_leg queued named own))
-        | inr (is, other) ↦ rw (slot_at-with s.circuits c (Some (record x { legs = with_slot x.legs k y })) d inside, is)
-            (circuit-on rules s.last_closes h leg.chan given (cell_at leg.id cell) d (slot_at s.circuits d) (none d (not_equal c d other)) (st.circuit d))
-      ];
-      fresh = λ d beyond.
-          let past_end : length s.circuits ≤ d = omega (arith, length-with s.circuits c (Some (record x { legs = with_slot x.legs k y }))) in
-          rw (past-on rules h leg.chan given (cell_at leg.id cell) d (none d (not_equal c d (λ same. absurd (omega arith))))) (st.fresh d past_end);
-      used = λ m i. rw (same_lane m) (used-sent s t (lane rules h m) m i (is_destroy_for (chan_no leg.chan) (cell_at leg.id cell) m i) (at h m i)
-          (λ other unlike has. rw (leg_of other) (port-by m i (is_it other) y (leg_in s other)
-          (λ it. port-when m i leg now cell cells (cell.command == 4) refl unlike (rw (leg-is s c k leg found other it) at has)) has)) (st.used m i));
-      apart = λ m. rw (same_lane m) (all-apart rules h leg.chan given (cell_at leg.id cell) m (lane rules h m) (st.apart m));
-      no_leg = λ d j m i beyond.
-          leg-fewer d j (is_destroy_for (chan_no leg.chan) (cell_at leg.id cell) m i) (at h m i)
-          (st.no_leg d j m i (omega (arith, length-with s.circuits c (Some (record x { legs = with_slot x.legs k y })))));
-      lie = λ other. rw (leg_of other) (lies-sent s.channels (is_it other) now leg (leg_in s other) cell cells (subst (λ z. LiesOn s.channels z) found (st.lie (record { circ = c; number = k }))) (st.lie other));
-      last = λ other. rw (leg_of other) (last-sent (is_it other) now leg (leg_in s other) cell cells (st.last other) behind);
-      whole = λ d j. elim (eqb_tells d c) [
-        | inl (is, same) ↦ whole-of d j same
-        | inr (is, other) ↦ whole-on rules h leg.chan given (cell_at leg.id cell) d j (none d (not_equal c d other) j) (st.whole d j)
-      ];
-      again = st.again;
-      never = st.never;
-      counts = λ other. rw (leg_of other, others other.circ other.number, turned c other.circ, turned k other.number)
-          (count-by (is_it other) (is_live_circuit rules h other.circ) y (leg_in s other) _ _ (max (tick h) given)
-          (λ it. rw (same-number other.circ c (and-first (other.circ == c) _ it)) own.live)
-          (λ it. count-first leg (cell_count rules h other.circ other.number) (tick h) s.tick given cell cells (cell.command == 4) st.tick
-          (subst (λ z. CountAt z (cell_count rules h other.circ other.number) (tick h)) (leg-is s c k leg found other it) (st.counts other)))
-          (count-later (leg_in s other) (cell_count rules h other.circ other.number) (tick h) given (st.counts other)));
-      no_count = λ d j beyond.
-          let past_end : length s.circuits ≤ d = omega (arith, length-with s.circuits c (Some (record x { legs = with_slot x.legs k y }))) in
-          rw (none d (not_equal c d (λ same. absurd (omega arith))) j, st.no_count d j past_end) (halved-none (given - tick h));
-      tick = ap (λ n. max n given) st.tick;
+      steps = step-added start s.steps h step st.steps (tt, said);
+      numbers = tick-given (record (numbers_in s) { circuits = length t.circuits }) (numbers_past rules h) _ _ (ap (λ n. max n given) st.numbers.tick)
+          (circuit-count (numbers_in s) (numbers_past rules h) _ _ (many ∙ st.numbers.circuits) st.numbers);
+      channels = record { channel = λ n. rw (same_lane n) (st.channels.channel n); no_channel = st.channels.no_channel };
+      circuits = circuit-changed rules s.last_closes s.circuits (λ d. past rules h d) (λ d. past rules (step ∷ h) d) (λ d j. holds_id h d j) (λ d j. holds_id (step ∷ h) d j)
+          (λ d. edge_past rules h d) (λ d. edge_past rules (step ∷ h) d) c x (Some (circuit_sent now k x leg (cell ∷ cells))) found_circuit
+          (λ d other. circuit-on rules s.last_closes h leg.chan given (cell_at leg.id cell) d (slot_at s.circuits d) (none d other))
+          (λ d other fresh. rw (past-on rules h leg.chan given (cell_at leg.id cell) d (none d other)) fresh)
+          (circuit-sent rules s.last_closes h given now c k x leg cell cells found_leg queued named own) st.circuits;
+      ids = record {
+        used = λ m i. rw (same_lane m) (used-sent s t (lane rules h m) m i (is_destroy_for (chan_no leg.chan) (cell_at leg.id cell) m i) (at h m i)
+            (λ other unlike has. rw (leg_of other) (port-by m i (is_it other) y (leg_in s other)
+            (λ it. port-when m i leg now cell cells (cell.command == 4) refl unlike (rw (leg-is s c k leg found other it) at has)) has)) (st.ids.used m i));
+        apart = λ m. rw (same_lane m) (all-apart rules h leg.chan given (cell_at leg.id cell) m (lane rules h m) (st.ids.apart m));
+        no_leg = λ d j m i beyond. leg-fewer d j (is_destroy_for (chan_no leg.chan) (cell_at leg.id cell) m i) (at h m i) (st.ids.no_leg d j m i (omega (arith, beyond, many)));
+      };
+      legs = record {
+        lie = λ other. rw (leg_of other) (lies-sent s.channels (is_it other) now leg (leg_in s other) cell cells (subst (λ z. LiesOn s.channels z) found (st.legs.lie (record { circ = c; number = k }))) (st.legs.lie other));
+        last = λ other. rw (leg_of other) (last-sent other.number (is_it other) now leg (leg_in s other) cell cells (st.legs.last other)
+            (λ it. subst (λ j. MayWait j (cell ∷ cells)) (sym (same-number other.number k (and-second (other.circ == c) _ it))) queue_may));
+        whole = λ d j. elim (eqb_tells d c) [
+          | inl (is, same) ↦ whole-of d j same
+          | inr (is, other) ↦ whole-on rules h leg.chan given (cell_at leg.id cell) d j (none d (not_equal c d other) j) (st.legs.whole d j)
+        ];
+      };
+      dials = record {
+        are_out = again-kept (dial_in s) (dial_in t) s.again (λ d out. rw (dial_in-kept s c x (circuit_sent now k x leg (cell ∷ cells)) found_circuit refl d) out) st.dials.are_out;
+        once = st.dials.once;
+        never = st.dials.never;
+      };
+      counts = record {
+        counts = λ other. rw (leg_of other, others other.circ other.number, turned c other.circ, turned k other.number)
+            (count-by (is_it other) (is_live_circuit rules h other.circ) y (leg_in s other) _ _ (max (tick h) given)
+            (λ it. rw (same-number other.circ c (and-first (other.circ == c) _ it)) own.live)
+            (λ it. count-first leg (cell_count rules h other.circ other.number) (tick h) s.tick given cell cells (cell.command == 4) st.numbers.tick
+            (subst (λ z. CountAt z (cell_count rules h other.circ other.number) (tick h)) (leg-is s c k leg found other it) (st.counts.counts other)))
+            (count-later (leg_in s other) (cell_count rules h other.circ other.number) (tick h) given (st.counts.counts other)));
+        no_count = λ d j beyond.
+            let past_end : length s.circuits ≤ d = omega (arith, beyond, many) in
+            rw (none d (beyond_c d past_end) j, st.counts.no_count d j past_end) (halved-none (given - tick h));
+      };
       slots = st.slots;
-      halts = st.halts;
-      least_halt = st.least_halt;
+      not_yet = st.not_yet;
     }

@@ -1,6 +1,8 @@
 -- next_cell that gives the first cell of a leg keeps what a state stands for.
-use Rattle.std.proofs.Common.{◌≡◌, ℕ, ◌==◌, ◌&&◌, Bool, true, false, if◌then◌else◌, List, [], ◌∷◌, ◌++◌, Option, Some, None, refl, sym, ap, ◌∙◌, subst, inl, inr, append_assoc}
+use Rattle.std.proofs.Common.{◌≡◌, ℕ, ◌==◌, ◌&&◌, Bool, true, false, if◌then◌else◌, List, [], ◌∷◌, ◌++◌, Option, Some, None, length, zero, suc, refl, sym, ap, ◌∙◌, subst, inl, inr, append_assoc, arith}
+use Rattle.std.proofs.Math.Dec.{eqb-suc-zero}
 use Rattle.std.proofs.lemmas.Bool.Decides.{eqb_tells}
+use Rattle.std.proofs.lemmas.Grind.{common_steps}
 use Rattle.std.proofs.lemmas.List.{append-nil}
 use Rattle.cell_codec.specs.declared.cell.Cell.{Cell}
 use Rattle.circuit_model.specs.Events.{CircuitCell}
@@ -17,11 +19,12 @@ use Rattle.switch_model.specs.History.EdgePast.{edge_past}
 use Rattle.switch_model.specs.Answers.EdgeOut.{Ordered}
 use Rattle.switch_model.specs.Answers.NextCell.{cell_at}
 use Rattle.switch_machine.specs.State.{LegState, CircuitState, slot_at, with_slot}
-use Rattle.switch_machine.specs.Calls.NextCell.{count_of, sent_first}
-use Rattle.switch_machine.specs.CircuitStands.{LegAt, LegStands, CircuitStands}
+use Rattle.switch_machine.specs.Calls.NextCell.{count_of, sent_first, sent_after, circuit_sent}
+use Rattle.switch_machine.specs.Stands.OneLeg.{LegAt, LegStands}
+use Rattle.switch_machine.specs.Stands.OneCircuit.{CircuitStands}
 use Rattle.switch_model.proofs.Common.{self_eq, not_equal, and-first, and-second, same-number}
 use Rattle.switch_machine.proofs.Slots.{slot_at-with, length-with, slot_at-inside}
-use Rattle.switch_machine.proofs.NextDestroy.{holds-on}
+use Rattle.switch_machine.proofs.NextCell.Destroy.{holds-on}
 
 -- which leg a CircID names
 pub leg-named : (c k d j : ℕ) (x : Option Leg) → is_leg c k x ≡ true → is_leg d j x ≡ ((c == d) && (k == j))
@@ -75,10 +78,15 @@ leg-other rules h chan given cell c j (Some leg) none own = record {
 }
 
 -- the circuit after a leg's first cell left
+count-sent : (rules : Rules) (h : List Step) (chan given c k count : ℕ) (cell : Cell) → is_leg c k (at h chan cell.circ) ≡ true → is_live_circuit rules h c ≡ true → count ≡ length (sent rules h c 0) →
+    sent_after k count ≡ length (sent rules (NextCell (chan_no chan) given (Some cell) ∷ h) c 0)
+count-sent rules h chan given c zero count cell named alive same = rw (named, alive, same) (grind (arith, common_steps))
+count-sent rules h chan given c (suc k) count cell named alive same = rw (leg-named c (suc k) c 0 (at h chan cell.circ) named, self_eq c, eqb-suc-zero k) same
+
 pub circuit-sent : (rules : Rules) (closes : List Ordered) (h : List Step) (given now : ℕ) (c k : ℕ) (x : CircuitState) (leg : LegState) (cell : CircuitCell) (cells : List CircuitCell) →
     slot_at x.legs k ≡ Some leg → leg.queue ≡ cell ∷ cells → is_leg c k (at h leg.chan leg.id) ≡ true →
     CircuitStands rules closes x c (past rules h c) (λ j. holds_id h c j) (edge_past rules h c) →
-    CircuitStands rules closes (record x { legs = with_slot x.legs k (sent_first now leg (cell ∷ cells)) }) c
+    CircuitStands rules closes (circuit_sent now k x leg (cell ∷ cells)) c
     (past rules (NextCell (chan_no leg.chan) given (Some (cell_at leg.id cell)) ∷ h) c) (λ j. holds_id (NextCell (chan_no leg.chan) given (Some (cell_at leg.id cell)) ∷ h) c j)
     (edge_past rules (NextCell (chan_no leg.chan) given (Some (cell_at leg.id cell)) ∷ h) c)
 circuit-sent rules closes h given now c k x leg cell cells found queued named own =
@@ -87,7 +95,10 @@ circuit-sent rules closes h given now c k x leg cell cells found queued named ow
     let leg_own : LegStands rules leg k (past rules h c) (holds_id h c k) = subst (λ y. LegAt rules y k (past rules h c) (holds_id h c k)) found (own.legs k) in
     record {
       live = own.live;
-      relay = own.relay;
+      sent_count = count-sent rules h leg.chan given c k x.sent_count (cell_at leg.id cell) named own.live own.sent_count;
+      born = own.born;
+      sealed = own.sealed;
+      linked = own.linked;
       hops = length-with x.legs k _ ∙ own.hops;
       legs = λ j. elim (eqb_tells j k) [
         | inl (is_it, same) ↦ rw (slot_at-with x.legs k (sent_first now leg (cell ∷ cells)) j inside, is_it)
@@ -100,7 +111,6 @@ circuit-sent rules closes h given now c k x leg cell cells found queued named ow
       back = own.back;
       orders = own.orders;
       no_left = own.no_left;
-      relayed = own.relayed;
       dial = own.dial;
     }
 

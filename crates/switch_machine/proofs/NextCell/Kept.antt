@@ -10,13 +10,14 @@ use Rattle.switch_model.specs.Waiting.Counts.{some_in}
 use Rattle.switch_model.specs.Answers.NextCell.{cell_at, first_of_queue, destroy_or, next_cell_answer}
 use Rattle.switch_machine.specs.State.{ChannelState, LegState, CircuitState, State, slot_at}
 use Rattle.switch_machine.specs.Machine.{leg_at, leg_in}
+use Rattle.switch_machine.specs.Stands.Channels.{channel_past, ChannelAt, ChannelStands}
+use Rattle.switch_machine.specs.Stands.{Stands}
 use Rattle.switch_machine.specs.Calls.NextCell.{first_cell, cell_of_leg, waits_on, picked_leg, ticked, with_leg, sent_from, next_state_on, next_result_on, next_cell_result, next_cell_state, lane_of}
-use Rattle.switch_machine.specs.Stands.{channel_past, ChannelAt, ChannelStands, Stands}
 use Rattle.switch_model.proofs.Common.{and-first, and-second, same-number}
 use Rattle.switch_machine.proofs.Counting.{picked-waits}
-use Rattle.switch_machine.proofs.NextSaid.{next-said}
-use Rattle.switch_machine.proofs.NextDestroy.{nothing-left, destroy-left}
-use Rattle.switch_machine.proofs.NextSent.{sent_state, leg-left}
+use Rattle.switch_machine.proofs.NextCell.Said.{next-said}
+use Rattle.switch_machine.proofs.NextCell.Destroy.{nothing-left, destroy-left}
+use Rattle.switch_machine.proofs.NextCell.Sent.{sent_state, leg-left}
 
 -- the queue of the leg that is picked
 queue-step : (start : Start) (s : State) (h : List Step) (chan given c k : ℕ) (x : CircuitState) (leg : LegState) (cells : List CircuitCell) → Stands start s h →
@@ -50,7 +51,7 @@ lane-step : (start : Start) (s : State) (h : List Step) (chan given : ℕ) (chan
     Stands start (next_state_on s chan given (Some channel) waits) (NextCell (chan_no chan) given (destroy_or waits (cell_of_leg s (picked_leg s chan given))) ∷ h)
 lane-step start s h chan given channel (d ∷ waits) st found first said = destroy-left start s h chan given channel d waits st found first said
 lane-step start s h chan given channel [] st found first said =
-    let own : ChannelStands channel (channel_past start.rules h chan) = subst (λ x. ChannelAt x (channel_past start.rules h chan)) found (st.channel chan) in
+    let own : ChannelStands channel (channel_past start.rules h chan) = subst (λ x. ChannelAt x (channel_past start.rules h chan)) found (st.channels.channel chan) in
     picked-step start s h chan given (picked_leg s chan given) st refl (sym own.lane ∙ first) said
 
 channel-step : (start : Start) (s : State) (h : List Step) (chan given : ℕ) (x : Option ChannelState) → Stands start s h → slot_at s.channels chan ≡ x →

@@ -10,9 +10,11 @@ use Rattle.switch_model.specs.History.EdgePast.{edge_past}
 use Rattle.switch_model.specs.Answers.NextCell.{first_queued, first_of, next_cell_answer}
 use Rattle.switch_machine.specs.State.{ChannelState, LegState, CircuitState, State, slot_at}
 use Rattle.switch_machine.specs.Machine.{leg_at}
+use Rattle.switch_machine.specs.Stands.Channels.{channel_past, ChannelAt}
+use Rattle.switch_machine.specs.Stands.OneLeg.{LegAt}
+use Rattle.switch_machine.specs.Stands.OneCircuit.{CircuitAt}
+use Rattle.switch_machine.specs.Stands.{Stands}
 use Rattle.switch_machine.specs.Calls.NextCell.{first_cell, cell_of_leg, picked_leg, next_result_on, next_cell_result}
-use Rattle.switch_machine.specs.CircuitStands.{LegAt, CircuitAt}
-use Rattle.switch_machine.specs.Stands.{channel_past, ChannelAt, Stands}
 use Rattle.switch_machine.proofs.Waiting.{queue_of, queue-said}
 use Rattle.switch_machine.proofs.Counting.{picked-said}
 
@@ -32,7 +34,7 @@ circuit-cell start s h c k (Some x) own = leg-cell start.rules h c k (slot_at x.
 cell-said : (start : Start) (s : State) (h : List Step) → Stands start s h → (o : Option Leg) → cell_of_leg s o ≡ first_of start.rules h o
 cell-said start s h st None = refl
 cell-said start s h st (Some leg) =
-    rw (queue-said start s h st leg.circ leg.number) (circuit-cell start s h leg.circ leg.number (slot_at s.circuits leg.circ) (st.circuit leg.circ))
+    rw (queue-said start s h st leg.circ leg.number) (circuit-cell start s h leg.circ leg.number (slot_at s.circuits leg.circ) (st.circuits.circuit leg.circ))
 
 next-said_by : (start : Start) (s : State) (h : List Step) (chan given : ℕ) (x : Option ChannelState) → Stands start s h → ChannelAt x (channel_past start.rules h chan) →
     next_result_on s chan given x ≡ next_cell_answer start.rules h chan given
@@ -41,4 +43,4 @@ next-said_by start s h chan given (Some channel) st at =
     rw (at.channel, at.lane, cell-said start s h st (picked_leg s chan given), picked-said start s h st chan given) refl
 
 pub next-said : (start : Start) (s : State) (h : List Step) (chan given : ℕ) → Stands start s h → next_cell_result s chan given ≡ next_cell_answer start.rules h chan given
-next-said start s h chan given st = next-said_by start s h chan given (slot_at s.channels chan) st (st.channel chan)
+next-said start s h chan given st = next-said_by start s h chan given (slot_at s.channels chan) st (st.channels.channel chan)

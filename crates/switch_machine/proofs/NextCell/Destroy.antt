@@ -1,5 +1,5 @@
 -- next_cell that gives nothing, or a DESTROY of the lane, keeps what a state stands for.
-use Rattle.std.proofs.Common.{◌≡◌, ℕ, ◌-◌, ◌==◌, ◌&&◌, ◌||◌, Bool, true, false, if◌then◌else◌, max, List, [], ◌∷◌, Option, Some, None, refl, sym, ◌∙◌, ap, subst, arith, inl, inr}
+use Rattle.std.proofs.Common.{◌≡◌, ℕ, ◌-◌, ◌==◌, ◌&&◌, ◌||◌, Bool, true, false, if◌then◌else◌, max, List, [], ◌∷◌, length, Option, Some, None, refl, sym, ◌∙◌, ap, subst, arith, inl, inr}
 use Rattle.std.specs.List.{AllByRecursion, list_any}
 use Rattle.std.proofs.Math.Path.{fun_ext}
 use Rattle.std.proofs.lemmas.Bool.Decides.{eqb_tells}
@@ -18,45 +18,38 @@ use Rattle.switch_model.specs.History.Past.{past}
 use Rattle.switch_model.specs.History.EdgePast.{edge_past}
 use Rattle.switch_model.specs.Answers.EdgeOut.{Ordered}
 use Rattle.switch_model.specs.Answers.NextCell.{cell_at, next_cell_answer}
-use Rattle.switch_machine.specs.State.{ChannelState, CircuitState, State, slot_at}
+use Rattle.switch_machine.specs.State.{ChannelState, LegState, CircuitState, State, slot_at}
 use Rattle.switch_machine.specs.Machine.{leg_in}
+use Rattle.switch_machine.specs.Stands.Numbers.{numbers_in, numbers_past}
+use Rattle.switch_machine.specs.Stands.Channels.{channel_past}
+use Rattle.switch_machine.specs.Stands.OneCircuit.{CircuitAt, CircuitStands}
+use Rattle.switch_machine.specs.Stands.CircIds.{IsUsed, IsApart}
+use Rattle.switch_machine.specs.Stands.{Stands}
 use Rattle.switch_machine.specs.Calls.NextCell.{ticked, next_state_on}
-use Rattle.switch_machine.specs.CircuitStands.{CircuitAt, CircuitStands}
-use Rattle.switch_machine.specs.Stands.{channel_past, ChannelAt, ChannelStands, IsUsed, IsApart, IsSentWhole, Stands}
 use Rattle.switch_model.proofs.Common.{self_eq, not_equal, and-first, and-second, same-number}
-use Rattle.switch_machine.proofs.Slots.{slot_at-with, length-with, slot_at-inside}
-use Rattle.switch_machine.proofs.Lying.{lies-with}
+use Rattle.switch_machine.proofs.Slots.{length-with, slot_at-inside}
+use Rattle.switch_machine.proofs.OneStep.{step-added, channel-count, tick-given}
+use Rattle.switch_machine.proofs.OneChannel.{channel-own, channel-changed}
+use Rattle.switch_machine.proofs.Lying.{IsWhole, lies-with}
 use Rattle.switch_machine.proofs.Counting.{count-later, halved-none}
 
 -- nothing leaves
 pub nothing-left : (start : Start) (s : State) (h : List Step) (chan given : ℕ) → Stands start s h → None ≡ next_cell_answer start.rules h chan given →
     Stands start (ticked s given) (NextCell (chan_no chan) given None ∷ h)
 nothing-left start s h chan given st said = record {
-  legal = ((tt, said), st.legal);
-  steps = omega (arith, st.steps);
+  steps = step-added start s.steps h _ st.steps (tt, said);
+  numbers = tick-given (numbers_in s) (numbers_past start.rules h) _ _ (ap (λ t. max t given) st.numbers.tick) st.numbers;
   channels = st.channels;
   circuits = st.circuits;
-  claims = st.claims;
-  bodies = st.bodies;
-  dial_orders = st.dial_orders;
-  channel = st.channel;
-  no_channel = st.no_channel;
-  circuit = st.circuit;
-  fresh = st.fresh;
-  used = st.used;
-  apart = st.apart;
-  no_leg = st.no_leg;
-  lie = st.lie;
-  last = st.last;
-  whole = st.whole;
-  again = st.again;
-  never = st.never;
-  counts = λ leg. count-later (leg_in s leg) (cell_count start.rules h leg.circ leg.number) (tick h) given (st.counts leg);
-  no_count = λ c k beyond. rw (st.no_count c k beyond) (halved-none (given - tick h));
-  tick = ap (λ t. max t given) st.tick;
+  ids = st.ids;
+  legs = st.legs;
+  dials = st.dials;
+  counts = record {
+    counts = λ leg. count-later (leg_in s leg) (cell_count start.rules h leg.circ leg.number) (tick h) given (st.counts.counts leg);
+    no_count = λ c k beyond. rw (st.counts.no_count c k beyond) (halved-none (given - tick h));
+  };
   slots = st.slots;
-  halts = st.halts;
-  least_halt = st.least_halt;
+  not_yet = st.not_yet;
 }
 
 -- a cell that leaves can only free its own CircID
@@ -68,8 +61,8 @@ pub leg-fewer : (c k : ℕ) (b : Bool) (x : Option Leg) → is_leg c k x ≡ fal
 leg-fewer c k true x none = refl
 leg-fewer c k false x none = none
 
-pub all-apart : (rules : Rules) (h : List Step) (chan given : ℕ) (cell : Cell) (m : ℕ) (waits : List Destroy) → AllByRecursion (IsApart rules h m) waits →
-    AllByRecursion (IsApart rules (NextCell (chan_no chan) given (Some cell) ∷ h) m) waits
+pub all-apart : (rules : Rules) (h : List Step) (chan given : ℕ) (cell : Cell) (m : ℕ) (waits : List Destroy) → AllByRecursion (IsApart (at h m) (is_live_circuit rules h)) waits →
+    AllByRecursion (IsApart (at (NextCell (chan_no chan) given (Some cell) ∷ h) m) (is_live_circuit rules (NextCell (chan_no chan) given (Some cell) ∷ h))) waits
 all-apart rules h chan given cell m [] apart = tt
 all-apart rules h chan given cell m (d ∷ waits) apart =
     (λ c k. leg-less c k (is_destroy_for (chan_no chan) cell m d.id) (is_live_circuit rules h c) (at h m d.id) (apart.0 c k), all-apart rules h chan given cell m waits apart.1)
@@ -118,18 +111,18 @@ circuit-on rules closes h chan given cell d (Some x) none own =
 
 -- a leg that the cell doesn't name
 pub whole-on : (rules : Rules) (h : List Step) (chan given : ℕ) (cell : Cell) (d k : ℕ) → (is_leg d k (at h chan cell.circ) && is_live_circuit rules h d) ≡ false →
-    IsSentWhole rules h d k → IsSentWhole rules (NextCell (chan_no chan) given (Some cell) ∷ h) d k
+    IsWhole rules h d k → IsWhole rules (NextCell (chan_no chan) given (Some cell) ∷ h) d k
 whole-on rules h chan given cell d k none whole alive lost ends =
     let no_leg : is_leg d k (at h chan cell.circ) ≡ false = not-live _ (rw alive at none) in
     rw none (whole alive (sym (holds-on h chan given cell d k no_leg) ∙ lost) ends)
 
 -- the lane has one fewer
-pub used-less : (s : State) (t : State) (waits less : List Destroy) (m i : ℕ) (b : Bool) (x : Option Leg) → ((leg : Leg) → leg_in t leg ≡ leg_in s leg) →
-    (b ≡ false → list_any (λ d. d.id == i) waits ≡ true → list_any (λ d. d.id == i) less ≡ true) → IsUsed s waits m i x → IsUsed t less m i (if b then None else x)
-used-less s t waits less m i true x same fewer used = tt
-used-less s t waits less m i false None same fewer used = tt
-used-less s t waits less m i false (Some leg) same fewer (inl has) = inl (rw (same leg) has)
-used-less s t waits less m i false (Some leg) same fewer (inr waiting) = inr (fewer refl waiting)
+pub used-less : (legs : Leg → Option LegState) (waits less : List Destroy) (m i : ℕ) (b : Bool) (x : Option Leg) →
+    (b ≡ false → list_any (λ d. d.id == i) waits ≡ true → list_any (λ d. d.id == i) less ≡ true) → IsUsed legs waits m i x → IsUsed legs less m i (if b then None else x)
+used-less legs waits less m i true x fewer used = tt
+used-less legs waits less m i false None fewer used = tt
+used-less legs waits less m i false (Some leg) fewer (inl has) = inl has
+used-less legs waits less m i false (Some leg) fewer (inr waiting) = inr (fewer refl waiting)
 
 other-first : (b rest : Bool) → (b && true) ≡ false → (b || rest) ≡ true → rest ≡ true
 other-first true rest unlike some = cc
@@ -143,48 +136,45 @@ destroy-left start s h chan given channel d waits st found first said =
     let cell = cell_at d.id (destroy d.reason) in
     let step = NextCell (chan_no chan) given (Some cell) in
     let t = next_state_on s chan given (Some channel) (d ∷ waits) in
-    let own : ChannelStands channel (channel_past rules h chan) = subst (λ x. ChannelAt x (channel_past rules h chan)) found (st.channel chan) in
+    let own = channel-own s.channels (λ n. channel_past rules h n) chan channel found st.channels in
     let inside = slot_at-inside s.channels chan channel found in
     let waiting : lane rules h chan ≡ d ∷ waits = sym own.lane ∙ first in
-    let apart : AllByRecursion (IsApart rules h chan) (d ∷ waits) = subst (λ l. AllByRecursion (IsApart rules h chan) l) waiting (st.apart chan) in
+    let IsApartIn : ℕ → Destroy → Type 0 = λ m. IsApart (at h m) (is_live_circuit rules h) in
+    let apart : AllByRecursion (IsApartIn chan) (d ∷ waits) = subst (λ l. AllByRecursion (IsApartIn chan) l) waiting (st.ids.apart chan) in
     let none : (c k : ℕ) → (is_leg c k (at h chan d.id) && is_live_circuit rules h c) ≡ false = apart.0 in
     record {
-      legal = ((tt, said), st.legal);
-      steps = omega (arith, st.steps);
-      channels = length-with s.channels chan _ ∙ st.channels;
-      circuits = st.circuits;
-      claims = st.claims;
-      bodies = st.bodies;
-      dial_orders = st.dial_orders;
-      channel = λ n. elim (eqb_tells n chan) [
-        | inl (is_here, same) ↦ rw (slot_at-with s.channels chan (Some (record channel { lane = waits })) n inside, is_here)
-            (subst (λ m. ChannelAt (Some (record channel { lane = waits })) (channel_past rules (step ∷ h) m)) (sym same)
-            (record { channel = own.channel; given = own.given; lane = rw (self_eq chan, waiting) refl }))
-        | inr (is_here, other) ↦ rw (slot_at-with s.channels chan (Some (record channel { lane = waits })) n inside, is_here, not_equal chan n other) (st.channel n)
-      ];
-      no_channel = λ n beyond. st.no_channel n (omega (arith, length-with s.channels chan (Some (record channel { lane = waits }))));
-      circuit = λ c. circuit-on rules s.last_closes h chan given cell c (slot_at s.circuits c) (none c) (st.circuit c);
-      fresh = λ c beyond. rw (past-on rules h chan given cell c (none c)) (st.fresh c beyond);
-      used = λ m i. elim (eqb_tells m chan) [
-        | inl (is_here, same) ↦ subst (λ n. IsUsed t (lane rules (step ∷ h) n) n i (at (step ∷ h) n i)) (sym same)
-            (rw (self_eq chan, waiting) (used-less s t (d ∷ waits) waits chan i ((d.id == i) && true) (at h chan i) (λ leg. refl)
-            (λ unlike some. other-first (d.id == i) (list_any (λ e. e.id == i) waits) unlike some) (rw waiting at (st.used chan i))))
-        | inr (is_here, other) ↦ rw (not_equal chan m other) (used-less s t (lane rules h m) (lane rules h m) m i false (at h m i) (λ leg. refl) (λ b some. some) (st.used m i))
-      ];
-      apart = λ m. elim (eqb_tells m chan) [
-        | inl (is_here, same) ↦ subst (λ n. AllByRecursion (IsApart rules (step ∷ h) n) (lane rules (step ∷ h) n)) (sym same) (rw (self_eq chan, waiting) (all-apart rules h chan given cell chan waits apart.1))
-        | inr (is_here, other) ↦ rw (not_equal chan m other) (all-apart rules h chan given cell m (lane rules h m) (st.apart m))
-      ];
-      no_leg = λ c k m i beyond. leg-fewer c k (is_destroy_for (chan_no chan) cell m i) (at h m i) (st.no_leg c k m i beyond);
-      lie = λ leg. lies-with s.channels chan (record channel { lane = waits }) (leg_in s leg) inside (st.lie leg);
-      last = st.last;
-      whole = λ c k. whole-on rules h chan given cell c k (none c k) (st.whole c k);
-      again = st.again;
-      never = st.never;
-      counts = λ leg. rw (none leg.circ leg.number) (count-later (leg_in s leg) (cell_count rules h leg.circ leg.number) (tick h) given (st.counts leg));
-      no_count = λ c k beyond. rw (none c k, st.no_count c k beyond) (halved-none (given - tick h));
-      tick = ap (λ n. max n given) st.tick;
+      steps = step-added start s.steps h step st.steps (tt, said);
+      numbers = tick-given (record (numbers_in s) { channels = length t.channels }) (numbers_past rules h) _ _ (ap (λ n. max n given) st.numbers.tick)
+          (channel-count (numbers_in s) (numbers_past rules h) _ _ (length-with s.channels chan _ ∙ st.numbers.channels) st.numbers);
+      channels = channel-changed s.channels (λ n. channel_past rules h n) (λ n. channel_past rules (step ∷ h) n) chan channel (record channel { lane = waits }) found (λ n other. rw other refl)
+          (record { channel = own.channel; given = own.given; lane = rw (self_eq chan, waiting) refl }) st.channels;
+      circuits = record {
+        circuit = λ c. circuit-on rules s.last_closes h chan given cell c (slot_at s.circuits c) (none c) (st.circuits.circuit c);
+        fresh = λ c beyond. rw (past-on rules h chan given cell c (none c)) (st.circuits.fresh c beyond);
+      };
+      ids = record {
+        used = λ m i. elim (eqb_tells m chan) [
+          | inl (is_here, same) ↦ subst (λ n. IsUsed (leg_in s) (lane rules (step ∷ h) n) n i (at (step ∷ h) n i)) (sym same)
+              (rw (self_eq chan, waiting) (used-less (leg_in s) (d ∷ waits) waits chan i ((d.id == i) && true) (at h chan i)
+              (λ unlike some. other-first (d.id == i) (list_any (λ e. e.id == i) waits) unlike some) (rw waiting at (st.ids.used chan i))))
+          | inr (is_here, other) ↦ rw (not_equal chan m other) (st.ids.used m i)
+        ];
+        apart = λ m. elim (eqb_tells m chan) [
+          | inl (is_here, same) ↦ subst (λ n. AllByRecursion (IsApart (at (step ∷ h) n) (is_live_circuit rules (step ∷ h))) (lane rules (step ∷ h) n)) (sym same) (rw (self_eq chan, waiting) (all-apart rules h chan given cell chan waits apart.1))
+          | inr (is_here, other) ↦ rw (not_equal chan m other) (all-apart rules h chan given cell m (lane rules h m) (st.ids.apart m))
+        ];
+        no_leg = λ c k m i beyond. leg-fewer c k (is_destroy_for (chan_no chan) cell m i) (at h m i) (st.ids.no_leg c k m i beyond);
+      };
+      legs = record {
+        lie = λ leg. lies-with s.channels chan (record channel { lane = waits }) (leg_in s leg) inside (st.legs.lie leg);
+        last = st.legs.last;
+        whole = λ c k. whole-on rules h chan given cell c k (none c k) (st.legs.whole c k);
+      };
+      dials = st.dials;
+      counts = record {
+        counts = λ leg. rw (none leg.circ leg.number) (count-later (leg_in s leg) (cell_count rules h leg.circ leg.number) (tick h) given (st.counts.counts leg));
+        no_count = λ c k beyond. rw (none c k, st.counts.no_count c k beyond) (halved-none (given - tick h));
+      };
       slots = st.slots;
-      halts = st.halts;
-      least_halt = st.least_halt;
+      not_yet = st.not_yet;
     }
