@@ -1,5 +1,5 @@
 -- Each legal history of the calls that have a machine is stood for by some state, and laws of every legal history.
-use Rattle.std.proofs.Common.{ℕ, List, [], ◌∷◌, ◌++◌, Option, sym, ◌∙◌, subst}
+use Rattle.std.proofs.Common.{ℕ, List, [], ◌∷◌, Option, sym, ◌∙◌, subst}
 use Rattle.cell_codec.specs.declared.cell.Cell.{Cell}
 use Rattle.kdf_tor.specs.declared.LayerKeys.{LayerKeys}
 use Rattle.tr_io.specs.declared.answers.OpenAnswer.{OpenAnswer}

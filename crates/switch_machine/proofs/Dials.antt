@@ -1,10 +1,10 @@
 -- The circuits whose dial order is handed out again, where dial orders change.
-use Rattle.std.proofs.Common.{◌≡◌, ℕ, ◌==◌, ◌||◌, ◌≤◌, Bool, true, false, not, if◌then◌else◌, List, [], ◌∷◌, Option, refl, sym, ◌∙◌}
+use Rattle.std.proofs.Common.{◌≡◌, ℕ, ◌==◌, ◌≤◌, Bool, true, false, not, if◌then◌else◌, List, [], ◌∷◌, Option, refl}
 use Rattle.std.specs.List.{AllByRecursion, filter}
 use Rattle.switch_machine.specs.State.{DialState}
 use Rattle.switch_machine.specs.Machine.{is_among, is_handed_out, again_with}
 use Rattle.switch_machine.specs.Stands.Dials.{AreOnce, DialsStand}
-use Rattle.switch_model.proofs.Common.{or-first, or-second, not_equal, same-number}
+use Rattle.switch_model.proofs.Common.{or-first, or-second, same-number}
 
 -- each order that is out stays out
 pub again-kept : (f g : ℕ → Option DialState) (again : List ℕ) → ((c : ℕ) → is_handed_out (f c) ≡ true → is_handed_out (g c) ≡ true) →

@@ -7,6 +7,8 @@ pub mod OneChannel
 pub mod OneCircuit
 pub mod Up
 pub mod OpenCircuit
+pub mod OtherEdges
+pub mod TearDown
 pub mod Waiting
 pub mod Counting
 pub mod NextCell

@@ -31,7 +31,7 @@ pub count_below-same : (p q : ℕ → Bool) → ((n : ℕ) → p n ≡ q n) → 
 count_below-same p q same zero = refl
 count_below-same p q same (suc n) = rw (same n, count_below-same p q same n) refl
 
-or-true : (b : Bool) → (b || true) ≡ true
+pub or-true : (b : Bool) → (b || true) ≡ true
 or-true true = refl
 or-true false = refl
 

@@ -18,7 +18,7 @@ use Rattle.switch_model.specs.History.Past.{past}
 use Rattle.switch_model.specs.History.EdgePast.{edge_past}
 use Rattle.switch_model.specs.Answers.EdgeOut.{Ordered}
 use Rattle.switch_model.specs.Answers.NextCell.{cell_at}
-use Rattle.switch_machine.specs.State.{LegState, CircuitState, slot_at, with_slot}
+use Rattle.switch_machine.specs.State.{LegState, CircuitState, slot_at}
 use Rattle.switch_machine.specs.Calls.NextCell.{count_of, sent_first, sent_after, circuit_sent}
 use Rattle.switch_machine.specs.Stands.OneLeg.{LegAt, LegStands}
 use Rattle.switch_machine.specs.Stands.OneCircuit.{CircuitStands}

@@ -18,7 +18,6 @@ use Rattle.switch_machine.specs.State.{ChannelState, LegState, CircuitState, Sta
 use Rattle.switch_machine.specs.Machine.{has_port, leg_at, leg_in, dial_in}
 use Rattle.switch_machine.specs.Stands.Numbers.{numbers_in, numbers_past}
 use Rattle.switch_machine.specs.Stands.OneLeg.{LegAt, LegStands}
-use Rattle.switch_machine.specs.Stands.OneCircuit.{CircuitAt, CircuitStands}
 use Rattle.switch_machine.specs.Stands.CircIds.{IsUsed}
 use Rattle.switch_machine.specs.Stands.Legs.{LiesOn, MayWait, EndsWithDestroy}
 use Rattle.switch_machine.specs.Stands.Counts.{CountAt, CountStands}

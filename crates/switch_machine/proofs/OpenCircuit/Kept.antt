@@ -1,5 +1,5 @@
 -- open_circuit keeps what a state stands for.
-use Rattle.std.proofs.Common.{◌≡◌, ℕ, ◌==◌, Bool, true, false, not, if◌then◌else◌, is_some, is_none, List, ◌∷◌, length, Option, Some, None, nat_le, refl, sym, ◌∙◌, ap, subst, arith}
+use Rattle.std.proofs.Common.{◌≡◌, ℕ, ◌==◌, Bool, true, false, not, if◌then◌else◌, is_some, is_none, List, ◌∷◌, length, Option, Some, None, nat_le, refl, sym, ◌∙◌, ap, subst}
 use Rattle.cell_codec.specs.declared.cell.Cell.{Cell}
 use Rattle.circuit_model.specs.Rules.{Rules}
 use Rattle.kdf_tor.specs.declared.LayerKeys.{LayerKeys}

@@ -1,17 +1,13 @@
 -- What an opening adds to the history of its circuit, and leaves of the others.
-use Rattle.std.proofs.Common.{◌≡◌, ℕ, ◌==◌, ◌&&◌, Bool, true, false, if◌then◌else◌, List, [], ◌∷◌, ◌++◌, drop, Option, Some, None, refl, sym, ◌∙◌, ap, subst, zero, suc, inl, inr, arith}
-use Rattle.std.specs.List.{filter}
-use Rattle.std.specs.Option.{option_or}
-use Rattle.std.proofs.lemmas.Bool.Decides.{nat_tests, eqb_tells}
+use Rattle.std.proofs.Common.{◌≡◌, ℕ, ◌==◌, ◌&&◌, Bool, true, false, if◌then◌else◌, List, [], ◌∷◌, Option, Some, None, refl, sym, ◌∙◌, ap, subst, zero, suc, arith}
+use Rattle.std.proofs.lemmas.Bool.Decides.{nat_tests}
 use Rattle.std.proofs.Math.Dec.{eqb-suc-zero}
 use Rattle.cell_codec.specs.declared.cell.Cell.{Cell}
 use Rattle.circuit_model.specs.Effects.{open_effects}
-use Rattle.circuit_model.specs.Events.{CircuitCell, Event}
+use Rattle.circuit_model.specs.Events.{Event}
 use Rattle.circuit_model.specs.declared.event.Event.TheVariants.{Born}
-use Rattle.circuit_model.specs.Log.{Log, Order}
-use Rattle.circuit_model.specs.NextHop.{next_hop}
 use Rattle.circuit_model.specs.Rules.{Rules}
-use Rattle.circuit_model.specs.Words.{log, orders_of}
+use Rattle.circuit_model.specs.Words.{log}
 use Rattle.kdf_tor.specs.declared.LayerKeys.{LayerKeys}
 use Rattle.tr_io.specs.declared.answers.OpenAnswer.TheVariants.{Opened}
 use Rattle.tr_io.specs.declared.names.Dir.TheVariants.{Forth, Back}
@@ -19,11 +15,8 @@ use Rattle.tr_io.specs.declared.step.Step.{Step}
 use Rattle.tr_io.specs.declared.step.Step.TheVariants.{OpenCircuit}
 use Rattle.switch_model.specs.Names.{Leg, is_leg, chan_no, circ_no, circuit_cell}
 use Rattle.switch_model.specs.History.Legs.{Port, port, at, holds_id, holds_port}
-use Rattle.switch_model.specs.History.Circuit.{is_live_circuit, events}
-use Rattle.switch_model.specs.Waiting.Queues.{circuit_log, sendable}
-use Rattle.switch_model.specs.Waiting.Orders.{waiting_orders, is_reached, carried_out, is_closed_out, is_ended_by_edge}
-use Rattle.switch_model.specs.Waiting.Dials.{Dial, is_dialling, is_open, dials_made, dials_out, was_handed_out}
-use Rattle.switch_model.specs.History.Relayed.{IsRelayed}
+use Rattle.switch_model.specs.History.Circuit.{events}
+use Rattle.switch_model.specs.Waiting.Queues.{sendable}
 use Rattle.switch_model.specs.History.Past.{Past, past}
 use Rattle.switch_model.specs.History.EdgePast.{edge_past}
 use Rattle.switch_machine.specs.State.{slot_at}
@@ -31,7 +24,7 @@ use Rattle.switch_machine.specs.Calls.OpenCircuit.{first_leg, new_circuit}
 use Rattle.switch_model.specs.Answers.EdgeOut.{Ordered}
 use Rattle.switch_machine.specs.Stands.OneLeg.{LegAt}
 use Rattle.switch_machine.specs.Stands.OneCircuit.{CircuitStands, IsFresh, no_past, left_at}
-use Rattle.switch_model.proofs.Common.{self_eq, not_equal, and-first, and-second, same-number}
+use Rattle.switch_model.proofs.Common.{self_eq, and-first, and-second, same-number}
 use Rattle.switch_model.proofs.Others.{other_pasts}
 use Rattle.switch_machine.proofs.Lying.{IsWhole}
 

@@ -89,9 +89,10 @@ sent_after (suc k) count = count
 
 -- The circuit with the leg as it is behind its first cell.
 abbrev pub circuit_sent : ℕ → ℕ → CircuitState → LegState → List CircuitCell → CircuitState
-circuit_sent now k circuit leg cells = record circuit {
+circuit_sent now k circuit leg [] = circuit
+circuit_sent now k circuit leg (cell ∷ cells) = record circuit {
   sent_count = sent_after k circuit.sent_count;
-  legs = with_slot circuit.legs k (sent_first now leg cells);
+  legs = with_slot circuit.legs k (sent_first now leg (cell ∷ cells));
 }
 
 -- The switch with it.

@@ -1,0 +1,3 @@
+-- What a step that tears one circuit down keeps of what a state stands for.
+pub mod Torn
+pub mod By
