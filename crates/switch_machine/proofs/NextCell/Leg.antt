@@ -10,7 +10,7 @@ use Rattle.circuit_model.specs.Rules.{Rules}
 use Rattle.tr_io.specs.declared.step.Step.{Step}
 use Rattle.tr_io.specs.declared.step.Step.TheVariants.{NextCell}
 use Rattle.switch_model.specs.Names.{Leg, is_leg, chan_no}
-use Rattle.switch_model.specs.History.Legs.{at, holds_id}
+use Rattle.switch_model.specs.History.Legs.{at, holds_id, port}
 use Rattle.switch_model.specs.History.Circuit.{is_live_circuit, sent}
 use Rattle.switch_model.specs.Waiting.Queues.{circuit_log, sealed_count, sendable}
 use Rattle.switch_model.specs.Waiting.Counts.{charged}
@@ -24,6 +24,7 @@ use Rattle.switch_machine.specs.Stands.OneLeg.{LegAt, LegStands}
 use Rattle.switch_machine.specs.Stands.OneCircuit.{CircuitStands}
 use Rattle.switch_model.proofs.Common.{self_eq, not_equal, and-first, and-second, same-number}
 use Rattle.switch_machine.proofs.Slots.{slot_at-with, length-with, slot_at-inside}
+use Rattle.switch_machine.specs.Stands.Legs.{MayWait}
 use Rattle.switch_machine.proofs.NextCell.Destroy.{holds-on}
 
 -- which leg a CircID names
@@ -83,13 +84,19 @@ count-sent : (rules : Rules) (h : List Step) (chan given c k count : ℕ) (cell 
 count-sent rules h chan given c zero count cell named alive same = rw (named, alive, same) (grind (arith, common_steps))
 count-sent rules h chan given c (suc k) count cell named alive same = rw (leg-named c (suc k) c 0 (at h chan cell.circ) named, self_eq c, eqb-suc-zero k) same
 
+client-sent : (h : List Step) (given c k : ℕ) (leg : LegState) (cell : CircuitCell) (cells : List CircuitCell) → is_leg c k (at h leg.chan leg.id) ≡ true → port h c k ≡ Some (record { chan = leg.chan; id = leg.id }) → MayWait k (cell ∷ cells) →
+    holds_id h c 0 ≡ true → holds_id (NextCell (chan_no leg.chan) given (Some (cell_at leg.id cell)) ∷ h) c 0 ≡ true
+client-sent h given c zero leg cell cells named lies waits own = rw (lies, self_eq leg.chan, self_eq leg.id, waits.0) named
+client-sent h given c (suc k) leg cell cells named lies waits own =
+    holds-on h leg.chan given (cell_at leg.id cell) c 0 (leg-named c (suc k) c 0 (at h leg.chan leg.id) named ∙ rw (self_eq c, eqb-suc-zero k) refl) ∙ own
+
 pub circuit-sent : (rules : Rules) (closes : List Ordered) (h : List Step) (given now : ℕ) (c k : ℕ) (x : CircuitState) (leg : LegState) (cell : CircuitCell) (cells : List CircuitCell) →
-    slot_at x.legs k ≡ Some leg → leg.queue ≡ cell ∷ cells → is_leg c k (at h leg.chan leg.id) ≡ true →
+    slot_at x.legs k ≡ Some leg → leg.queue ≡ cell ∷ cells → is_leg c k (at h leg.chan leg.id) ≡ true → MayWait k (cell ∷ cells) →
     CircuitStands rules closes x c (past rules h c) (λ j. holds_id h c j) (edge_past rules h c) →
     CircuitStands rules closes (circuit_sent now k x leg (cell ∷ cells)) c
     (past rules (NextCell (chan_no leg.chan) given (Some (cell_at leg.id cell)) ∷ h) c) (λ j. holds_id (NextCell (chan_no leg.chan) given (Some (cell_at leg.id cell)) ∷ h) c j)
     (edge_past rules (NextCell (chan_no leg.chan) given (Some (cell_at leg.id cell)) ∷ h) c)
-circuit-sent rules closes h given now c k x leg cell cells found queued named own =
+circuit-sent rules closes h given now c k x leg cell cells found queued named waits own =
     let step = NextCell (chan_no leg.chan) given (Some (cell_at leg.id cell)) in
     let inside = slot_at-inside x.legs k leg found in
     let leg_own : LegStands rules leg k (past rules h c) (holds_id h c k) = subst (λ y. LegAt rules y k (past rules h c) (holds_id h c k)) found (own.legs k) in
@@ -107,6 +114,7 @@ circuit-sent rules closes h given now c k x leg cell cells found queued named ow
         | inr (is_it, other) ↦ rw (slot_at-with x.legs k (sent_first now leg (cell ∷ cells)) j inside, is_it)
             (leg-other rules h leg.chan given (cell_at leg.id cell) c j (slot_at x.legs j) (leg-named c k c j (at h leg.chan leg.id) named ∙ rw (self_eq c, not_equal k j other) refl) (own.legs j))
       ];
+      client_leg = client-sent h given c k leg cell cells named leg_own.port waits own.client_leg;
       forth = own.forth;
       back = own.back;
       orders = own.orders;

@@ -149,7 +149,7 @@ leg-left start s h given c k x leg cell cells st found_circuit found_leg queued 
           (λ d. edge_past rules h d) (λ d. edge_past rules (step ∷ h) d) c x (Some (circuit_sent now k x leg (cell ∷ cells))) found_circuit
           (λ d other. circuit-on rules s.last_closes h leg.chan given (cell_at leg.id cell) d (slot_at s.circuits d) (none d other))
           (λ d other fresh. rw (past-on rules h leg.chan given (cell_at leg.id cell) d (none d other)) fresh)
-          (circuit-sent rules s.last_closes h given now c k x leg cell cells found_leg queued named own) st.circuits;
+          (circuit-sent rules s.last_closes h given now c k x leg cell cells found_leg queued named queue_may own) st.circuits;
       ids = record {
         used = λ m i. rw (same_lane m) (used-sent s t (lane rules h m) m i (is_destroy_for (chan_no leg.chan) (cell_at leg.id cell) m i) (at h m i)
             (λ other unlike has. rw (leg_of other) (port-by m i (is_it other) y (leg_in s other)

@@ -116,6 +116,7 @@ new-circuit rules closes h chan id reply keys pad n fresh none = record {
   linked = refl;
   hops = refl;
   legs = new-legs rules h chan id reply keys pad n fresh.past;
+  client_leg = holds-first h chan id reply keys pad n;
   forth = record { claimed = refl; out = refl; kept = refl; noted = tt; cells = refl; claimed_numbers = []; claimed_all = refl; numbers = sym (fresh.numbers Forth) };
   back = record { claimed = refl; out = refl; kept = refl; noted = tt; cells = refl; claimed_numbers = []; claimed_all = refl; numbers = sym (fresh.numbers Back) };
   orders = record { reach_orders = λ serial. refl; carry_orders = λ serial. refl; close_orders = λ serial. refl };
