@@ -4,22 +4,32 @@ use Rattle.cell_codec.specs.declared.cell.Cell.{Cell}
 use Rattle.kdf_tor.specs.declared.LayerKeys.{LayerKeys}
 use Rattle.tr_io.specs.declared.answers.OpenAnswer.{OpenAnswer}
 use Rattle.tr_io.specs.declared.answers.UpAnswer.{UpAnswer}
+use Rattle.tr_io.specs.declared.answers.BackAnswer.{BackAnswer}
 use Rattle.tr_io.specs.declared.names.ChanNo.{ChanNo}
+use Rattle.tr_io.specs.declared.names.CircNo.{CircNo}
+use Rattle.tr_io.specs.declared.names.ClaimNote.{ClaimNote}
 use Rattle.tr_io.specs.declared.names.Side.{Side}
 use Rattle.tr_io.specs.declared.step.Step.{Step}
-use Rattle.tr_io.specs.declared.step.Step.TheVariants.{ChannelUp, OpenCircuit, NextCell}
+use Rattle.tr_io.specs.declared.step.Step.TheVariants.{ChannelUp, OpenCircuit, NextCell, TearDown, GiveBack, Abandon}
 use Rattle.switch_model.specs.Start.{Start}
+use Rattle.switch_model.specs.History.Circuit.{events}
 use Rattle.switch_model.specs.Legal.{IsLegal}
 use Rattle.switch_machine.specs.State.{State}
 use Rattle.switch_machine.specs.Calls.ChannelUp.{channel_up_result, channel_up_state}
 use Rattle.switch_machine.specs.Calls.OpenCircuit.{open_result, open_state}
 use Rattle.switch_machine.specs.Calls.NextCell.{next_cell_result, next_cell_state}
+use Rattle.switch_machine.specs.Calls.TearDown.{tear_down_result, tear_down_state}
+use Rattle.switch_machine.specs.Calls.GiveBack.{give_back_result, give_back_state}
+use Rattle.switch_machine.specs.Calls.Abandon.{abandon_result, abandon_state}
 use Rattle.switch_machine.specs.Stands.{Stands}
 use Rattle.switch_machine.specs.Adds.{StandsForSomeState, HasMachine}
 use Rattle.switch_machine.proofs.Laws.{stands_empty}
 use Rattle.switch_machine.proofs.Up.{channel_up_kept}
 use Rattle.switch_machine.proofs.OpenCircuit.Kept.{open_kept}
 use Rattle.switch_machine.proofs.NextCell.Kept.{next_cell_kept}
+use Rattle.switch_machine.proofs.TearDown.Kept.{tear_down_kept}
+use Rattle.switch_machine.proofs.GiveBack.Kept.{give_back_kept}
+use Rattle.switch_machine.proofs.Abandon.Kept.{abandon_kept}
 
 -- a step is known by its answer, and the state's answer is that of the history
 with-up : (start : Start) (h : List Step) (slot : ℕ) (side : Side) (a : UpAnswer) (s : State) → IsLegal start (ChannelUp slot side a ∷ h) → Stands start s h → StandsForSomeState start (ChannelUp slot side a ∷ h)
@@ -41,6 +51,24 @@ with-next start h chan given a s legal st =
     let kept : Stands start (next_cell_state s chan.0 given) (NextCell chan given (next_cell_result s chan.0 given) ∷ h) = next_cell_kept start s h chan.0 given st in
     record { state = next_cell_state s chan.0 given; stands = subst (λ b. Stands start (next_cell_state s chan.0 given) (NextCell chan given b ∷ h)) (kept.steps.legal.0.1 ∙ sym legal.0.1) kept }
 
+with-teardown : (start : Start) (h : List Step) (circ : CircNo) (reason : ℕ) (a : BackAnswer) (s : State) → IsLegal start (TearDown circ reason a ∷ h) → Stands start s h → StandsForSomeState start (TearDown circ reason a ∷ h)
+with-teardown start h circ reason a s legal st =
+    let t = tear_down_state start.rules (events start.rules h) s circ.0 reason in
+    let kept : Stands start t (TearDown circ reason (tear_down_result s circ.0 reason) ∷ h) = tear_down_kept start s h circ.0 reason st in
+    record { state = t; stands = subst (λ b. Stands start t (TearDown circ reason b ∷ h)) (kept.steps.legal.0.1 ∙ sym legal.0.1) kept }
+
+with-return : (start : Start) (h : List Step) (note : ClaimNote) (place : Option ℕ) (a : BackAnswer) (s : State) → IsLegal start (GiveBack note place a ∷ h) → Stands start s h → StandsForSomeState start (GiveBack note place a ∷ h)
+with-return start h note place a s legal st =
+    let t = give_back_state start.name start.rules (events start.rules h) s note place in
+    let kept : Stands start t (GiveBack note place (give_back_result start.name start.rules (events start.rules h) s note place) ∷ h) = give_back_kept start s h note place st in
+    record { state = t; stands = subst (λ b. Stands start t (GiveBack note place b ∷ h)) (kept.steps.legal.0.1 ∙ sym legal.0.1) kept }
+
+with-abandoned : (start : Start) (h : List Step) (note : ClaimNote) (place : Option ℕ) (a : BackAnswer) (s : State) → IsLegal start (Abandon note place a ∷ h) → Stands start s h → StandsForSomeState start (Abandon note place a ∷ h)
+with-abandoned start h note place a s legal st =
+    let t = abandon_state start.name start.rules (events start.rules h) s note place in
+    let kept : Stands start t (Abandon note place (abandon_result start.name s note place) ∷ h) = abandon_kept start s h note place st in
+    record { state = t; stands = subst (λ b. Stands start t (Abandon note place b ∷ h)) (kept.steps.legal.0.1 ∙ sym legal.0.1) kept }
+
 pub built_stands : (start : Start) (h : List Step) → HasMachine h → IsLegal start h → StandsForSomeState start h
 built_stands start [] built legal = record { state = _; stands = stands_empty start }
 built_stands start (ChannelUp slot side a ∷ h) built legal =
@@ -52,4 +80,13 @@ built_stands start (OpenCircuit chan id reply keys pad a ∷ h) built legal =
 built_stands start (NextCell chan given a ∷ h) built legal =
     let some = built_stands start h built legal.1 in
     with-next start h chan given a some.state legal some.stands
+built_stands start (TearDown circ reason a ∷ h) built legal =
+    let some = built_stands start h built legal.1 in
+    with-teardown start h circ reason a some.state legal some.stands
+built_stands start (GiveBack note place a ∷ h) built legal =
+    let some = built_stands start h built legal.1 in
+    with-return start h note place a some.state legal some.stands
+built_stands start (Abandon note place a ∷ h) built legal =
+    let some = built_stands start h built legal.1 in
+    with-abandoned start h note place a some.state legal some.stands
 built_stands start (s ∷ h) built legal = absurd built

@@ -8,7 +8,11 @@ pub mod OneCircuit
 pub mod Up
 pub mod OpenCircuit
 pub mod OtherEdges
+pub mod Settling
+pub mod Unlinked
 pub mod TearDown
+pub mod GiveBack
+pub mod Abandon
 pub mod Waiting
 pub mod Counting
 pub mod NextCell

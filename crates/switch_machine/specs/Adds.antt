@@ -4,7 +4,7 @@ use Rattle.circuit_model.specs.Words.{in_order}
 use Rattle.tr_io.specs.declared.answers.OpenAnswer.{OpenAnswer}
 use Rattle.tr_io.specs.declared.answers.UpAnswer.{UpAnswer}
 use Rattle.tr_io.specs.declared.step.Step.{Step}
-use Rattle.tr_io.specs.declared.step.Step.TheVariants.{ChannelUp, OpenCircuit, NextCell}
+use Rattle.tr_io.specs.declared.step.Step.TheVariants.{ChannelUp, OpenCircuit, NextCell, TearDown, GiveBack, Abandon}
 use Rattle.switch_model.specs.Start.{Start}
 use Rattle.switch_machine.specs.State.{State}
 use Rattle.switch_machine.specs.Stands.{Stands}
@@ -42,6 +42,9 @@ HasMachine [] = ⊤
 HasMachine (ChannelUp slot side a ∷ h) = HasMachine h
 HasMachine (OpenCircuit chan id reply keys pad a ∷ h) = HasMachine h
 HasMachine (NextCell chan given a ∷ h) = HasMachine h
+HasMachine (TearDown circ reason a ∷ h) = HasMachine h
+HasMachine (GiveBack note place a ∷ h) = HasMachine h
+HasMachine (Abandon note place a ∷ h) = HasMachine h
 HasMachine (s ∷ h) = ⊥
 
 -- That the state stands for a history which is listed oldest first.

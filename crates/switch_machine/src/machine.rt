@@ -4,9 +4,15 @@ ghost use Rattle.std.specs.Prelude.{◌≡◌, ℕ, List, [], Option, true};
 ghost use Rattle.cell_codec.specs.declared.cell.Cell.{Cell};
 ghost use Rattle.kdf_tor.specs.declared.LayerKeys.{LayerKeys};
 ghost use Rattle.tr_io.specs.declared.names.ChanNo.{ChanNo};
+ghost use Rattle.tr_io.specs.declared.names.CircNo.{CircNo};
+ghost use Rattle.tr_io.specs.declared.names.ClaimNote.{ClaimNote};
 ghost use Rattle.tr_io.specs.declared.names.Side.{Side};
 ghost use Rattle.tr_io.specs.declared.step.Step.{Step};
-ghost use Rattle.tr_io.specs.declared.step.Step.TheVariants.{ChannelUp, OpenCircuit, NextCell};
+ghost use Rattle.tr_io.specs.declared.step.Step.TheVariants.{ChannelUp, OpenCircuit, NextCell, TearDown, GiveBack, Abandon};
+ghost use Rattle.switch_model.specs.History.Circuit.{events};
+ghost use Rattle.switch_model.specs.Answers.TearDown.{tear_down_answer};
+ghost use Rattle.switch_model.specs.Answers.GiveBack.{give_back_answer};
+ghost use Rattle.switch_model.specs.Answers.Abandon.{abandon_answer};
 ghost use Rattle.switch_model.specs.Start.{Start};
 ghost use Rattle.switch_model.specs.Conditions.{IsReply};
 ghost use Rattle.switch_machine.specs.State.{State};
@@ -14,8 +20,11 @@ ghost use Rattle.switch_machine.specs.Machine.{new_state};
 ghost use Rattle.switch_machine.specs.Calls.ChannelUp.{channel_up_result, channel_up_state};
 ghost use Rattle.switch_machine.specs.Calls.OpenCircuit.{open_result, open_state};
 ghost use Rattle.switch_machine.specs.Calls.NextCell.{next_cell_result, next_cell_state};
+ghost use Rattle.switch_machine.specs.Calls.TearDown.{tear_down_result, tear_down_state};
+ghost use Rattle.switch_machine.specs.Calls.GiveBack.{give_back_result, give_back_state};
+ghost use Rattle.switch_machine.specs.Calls.Abandon.{abandon_result, abandon_state};
 ghost use Rattle.switch_machine.specs.Stands.{Stands};
-ghost use Rattle.switch_machine.specs.Adds.{Adds, HasMachine, StandsForSomeState};
+ghost use Rattle.switch_machine.specs.Adds.{Adds, AddsTo, HasMachine, StandsForSomeState};
 ghost use Rattle.switch_model.specs.Answers.DialDone.{is_out};
 ghost use Rattle.switch_machine.specs.Calls.DialMemory.{dial_memory_state};
 ghost use Rattle.switch_model.specs.Legal.{IsLegal};
@@ -46,6 +55,39 @@ pub fn open_circuit_is_one_step()
 pub fn next_cell_is_one_step()
     ensures { (start : Start) (s t : State) (chan : ChanNo) (tick : ℕ) →
         t ≡ next_cell_state s chan.0 tick → Adds start s t (NextCell chan tick (next_cell_result s chan.0 tick)) }
+{}
+
+/// A teardown that the caller asks for, or one of a circuit that is gone, is one step of the history whose
+/// events it was given.
+#[tactic(auto, using(crate::proofs::TearDown::Law::tear_down_adds, crate::proofs::TearDown::Law::tear_down_said))]
+pub fn tear_down_is_one_step()
+    ensures adds { (start : Start) (h : List Step) (s t : State) (circ : CircNo) (reason : ℕ) →
+        t ≡ tear_down_state start.rules (events start.rules h) s circ.0 reason →
+        AddsTo start h s t (TearDown circ reason (tear_down_result s circ.0 reason)) }
+    ensures answer { (start : Start) (s : State) (h : List Step) (c reason : ℕ) → Stands start s h →
+        tear_down_result s c reason ≡ tear_down_answer start.rules h c reason }
+{}
+
+/// A job that comes back done, settled, closing its circuit or refused, is one step of the history whose events
+/// it was given.
+#[tactic(auto, using(crate::proofs::GiveBack::Law::give_back_adds, crate::proofs::GiveBack::Said::give_back_said))]
+pub fn give_back_is_one_step()
+    ensures adds { (start : Start) (h : List Step) (s t : State) (note : ClaimNote) (place : Option ℕ) →
+        t ≡ give_back_state start.name start.rules (events start.rules h) s note place →
+        AddsTo start h s t (GiveBack note place (give_back_result start.name start.rules (events start.rules h) s note place)) }
+    ensures answer { (start : Start) (s : State) (h : List Step) (note : ClaimNote) (place : Option ℕ) → Stands start s h →
+        give_back_result start.name start.rules (events start.rules h) s note place ≡ give_back_answer start h note place }
+{}
+
+/// A job that comes back undone, which tears its circuit down or is refused, is one step of the history whose
+/// events it was given.
+#[tactic(auto, using(crate::proofs::Abandon::Law::abandon_adds, crate::proofs::Abandon::Said::abandon_said))]
+pub fn abandon_is_one_step()
+    ensures adds { (start : Start) (h : List Step) (s t : State) (note : ClaimNote) (place : Option ℕ) →
+        t ≡ abandon_state start.name start.rules (events start.rules h) s note place →
+        AddsTo start h s t (Abandon note place (abandon_result start.name s note place)) }
+    ensures answer { (start : Start) (s : State) (h : List Step) (note : ClaimNote) (place : Option ℕ) → Stands start s h →
+        abandon_result start.name s note place ≡ abandon_answer start h note place }
 {}
 
 /// dial_done of an order that is out, where memory is wanting, is no step: the switch stands for the same

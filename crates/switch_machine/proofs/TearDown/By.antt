@@ -8,7 +8,8 @@ use Rattle.tr_io.specs.declared.step.Step.{Step}
 use Rattle.switch_model.specs.Start.{Start}
 use Rattle.switch_model.specs.Names.{Leg, is_leg}
 use Rattle.switch_model.specs.History.Channels.{channel_at, given_ids}
-use Rattle.switch_model.specs.History.Legs.{port, hops, at, holds_id}
+use Rattle.circuit_model.specs.Events.{CircuitCell}
+use Rattle.switch_model.specs.History.Legs.{port, hops, at, holds_id, holds_port}
 use Rattle.switch_model.specs.History.Circuit.{is_live_circuit, current_leg, events}
 use Rattle.switch_model.specs.History.Past.{past}
 use Rattle.switch_model.specs.History.EdgePast.{edge_past}
@@ -143,3 +144,10 @@ torn-by start old s h step c reason x lanes st to =
       slots = to.slots;
       not_yet = to.not_yet;
     }
+
+-- a leg of the circuit has its CircID
+pub leg-named-by : (h : List Step) (c k : ℕ) (l : LegState) (leg : Option LegState) (sent may_leave : List CircuitCell) → leg ≡ Some l → LegBy leg sent may_leave (port h c k) (holds_id h c k) → is_leg c k (at h l.chan l.id) ≡ true
+leg-named-by h c k l None sent may_leave e own = absurd cc
+leg-named-by h c k l (Some leg) sent may_leave e own =
+    let same : leg ≡ l = cc in
+    subst (λ (y : LegState). is_leg c k (at h y.chan y.id) ≡ true) same (subst (λ p. holds_port h c k p ≡ true) own.port own.holds)

@@ -1,0 +1,4 @@
+-- abandon.
+pub mod Said
+pub mod Kept
+pub mod Law
