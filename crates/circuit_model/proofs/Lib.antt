@@ -8,4 +8,5 @@ pub mod Streams
 pub mod PathLayers
 pub mod Versions
 pub mod Keystreams
+pub mod Ciphers
 pub mod Handshakes

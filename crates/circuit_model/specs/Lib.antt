@@ -13,4 +13,5 @@ pub mod Streams
 pub mod Extending
 pub mod Effects
 pub mod Sent
+pub mod Batches
 pub mod Words

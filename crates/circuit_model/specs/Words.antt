@@ -15,6 +15,7 @@
 --   received cells     Received   received, message_at, early_count
 --   the table          Streams, Extending, Effects   effects_after
 --   what is sent       Sent       one
+--   workers' batches   Batches    next_layer, opened_each, forward_of, events_behind
 --
 -- What an `Event`, a `Message`, an `Order`, `Effects`, a `Received`, a `Place` and their parts are stands in
 -- `src/`, as types that code uses too.

@@ -1,6 +1,6 @@
 //! Laws about the definitions, over every history `h` of a circuit, listed newest first.
 
-ghost use Rattle.std.specs.Prelude.{◌≡◌, ◌≢◌, ℕ, ◌+◌, ◌*◌, ◌<◌, ◌≤◌, List, [], ◌∷◌, ◌++◌, length, IsTrue, IsFalse, option_map, option_to_list};
+ghost use Rattle.std.specs.Prelude.{◌≡◌, ◌≢◌, ℕ, ◌+◌, ◌*◌, ◌<◌, ◌≤◌, List, [], ◌∷◌, ◌++◌, length, map, if◌then◌else◌, Option, Some, None, IsTrue, IsFalse, option_map, option_to_list};
 ghost use Rattle.std.specs.Str.{str_to_ascii_lowercase};
 ghost use Rattle.tor_spec.specs.Begin.{Target, begin_target};
 ghost use Rattle.tor_spec.specs.CellCommands.{relay_early_command};
@@ -9,12 +9,13 @@ ghost use Rattle.tor_spec.specs.Extend.{Address};
 ghost use Rattle.tor_spec.specs.Reasons.{destroy_protocol, destroy_requested, end_exit_policy};
 ghost use Rattle.tor_spec.specs.RelayCell.{begin_command, sendme_command, truncate_command, relay_body};
 ghost use Rattle.tor_spec.specs.Sendme.{is_version_0, needs_no_proof, sendme_proof};
+ghost use Rattle.crypto_spec.specs.HopLayer.{opened, opened_all, after_opening_all, sealed_all};
 ghost use Rattle.circuit_model.specs.Events.{Event, CircuitCell};
 ghost use Rattle.circuit_model.specs.declared.event.Event.TheVariants.{Forward, Backward, Data};
 ghost use Rattle.circuit_model.specs.Rules.{Rules, allowed_address};
 ghost use Rattle.circuit_model.specs.Log.{Log, Message, no_effects, closing, is_closed};
 ghost use Rattle.circuit_model.specs.declared.effects.Order.TheVariants.{Reach};
-ghost use Rattle.circuit_model.specs.Opened.{born_keys, keys_in, forward_count, plain_body, recognised_bodies, recognises};
+ghost use Rattle.circuit_model.specs.Opened.{born_keys, keys_in, forward_count, plain_body, recognised_bodies, recognises, digest_with};
 ghost use Rattle.circuit_model.specs.PathLayers.{PathHop, layered_for, digested_for};
 ghost use Rattle.circuit_model.specs.NextHop.{next_hop, has_leg, is_linked, leg_count};
 ghost use Rattle.circuit_model.specs.Places.{Place, place_at, places, taken_places};
@@ -23,7 +24,8 @@ ghost use Rattle.circuit_model.specs.Windows.{has_command, is_data_of, circuit_p
 ghost use Rattle.circuit_model.specs.SendmeProof.{proof_owed, is_right_sendme};
 ghost use Rattle.circuit_model.specs.Received.{message_at, early_count, relay_early_limit};
 ghost use Rattle.circuit_model.specs.Streams.{ending, place_limit};
-ghost use Rattle.circuit_model.specs.Sent.{one, sent_to_hop, sealed, destroy};
+ghost use Rattle.circuit_model.specs.Sent.{one, sent_to_hop, sealed, all_sealed, destroy};
+ghost use Rattle.circuit_model.specs.Batches.{next_layer, events_behind, opened_each, body_of};
 ghost use Rattle.circuit_model.specs.Words.{log, effects};
 
 /// After a close there are no further effects.
@@ -179,4 +181,24 @@ pub fn a_hop_recognises_what_is_meant_for_it()
     ensures { (log : Log) (hop : PathHop) (command stream : ℕ) (payload : List ℕ) →
         (born_keys log).df ≡ hop.keys.df → recognised_bodies log ≡ hop.meant →
         IsTrue (recognises log (digested_for hop (relay_body command stream payload))) }
+{}
+
+/// A batch of forward bodies that is opened through the layer that the log gives comes out as the relay reads the
+/// bodies one after another, and leaves the layer behind them all.
+#[tactic(auto, using(crate::proofs::Ciphers::opened_is_read, crate::proofs::Ciphers::batch_opened, crate::proofs::Ciphers::batch_layer))]
+pub fn a_batch_is_opened_body_by_body()
+    ensures reads { (l : Log) (body : List ℕ) → opened (next_layer l) body
+        ≡ record { body = plain_body l body; recognised = if recognises l (plain_body l body) then Some (digest_with l (plain_body l body)) else None } }
+    ensures each { (rules : Rules) (h : List Event) (cells : List CircuitCell) →
+        opened_all (next_layer (log rules h)) (map body_of cells) ≡ opened_each rules h cells }
+    ensures behind { (rules : Rules) (h : List Event) (cells : List CircuitCell) →
+        after_opening_all (next_layer (log rules h)) (map body_of cells) ≡ next_layer (log rules (events_behind h cells)) }
+{}
+
+/// A batch of backward bodies that is sealed from its place of the keystream on is what leaves on the leg towards the
+/// client.
+#[tactic(auto, using(crate::proofs::Ciphers::batch_sealed))]
+pub fn a_sealed_batch_is_what_leaves()
+    ensures { (key : List ℕ) (n : ℕ) (bodies : List (List ℕ)) →
+        sealed_all key (509 * n) bodies ≡ map body_of (all_sealed key n bodies) }
 {}

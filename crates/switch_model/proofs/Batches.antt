@@ -16,7 +16,8 @@ use Rattle.switch_model.specs.History.Taken.{claimed_cells}
 use Rattle.switch_model.specs.History.Circuit.{is_live_circuit, sent, events, current_leg}
 use Rattle.switch_model.specs.Waiting.Lanes.{Destroy, lane}
 use Rattle.switch_model.specs.Waiting.Queues.{circuit_log}
-use Rattle.switch_model.specs.History.Returns.{Goes, closing_at, settled, forward_of}
+use Rattle.circuit_model.specs.Batches.{forward_of}
+use Rattle.switch_model.specs.History.Returns.{Goes, closing_at, settled}
 use Rattle.switch_model.specs.Examples.{closing_return}
 use Rattle.switch_model.proofs.Common.{self_eq}
 

@@ -24,7 +24,8 @@ use Rattle.switch_model.specs.Names.{Leg, Way, is_leg, same_way, circuit_cell}
 use Rattle.switch_model.specs.History.Legs.{at}
 use Rattle.switch_model.specs.History.Taken.{is_hop, is_hop_leg, taken_forth, claimed_cells}
 use Rattle.switch_model.specs.History.Circuit.{is_live_circuit, events, with_event, taken_from_hop, is_awaited, edge_event}
-use Rattle.switch_model.specs.History.Returns.{Closing, Goes, Closes, Full, closing_at, settled, settled_with, forward_of}
+use Rattle.circuit_model.specs.Batches.{forward_of}
+use Rattle.switch_model.specs.History.Returns.{Closing, Goes, Closes, Full, closing_at, settled, settled_with}
 use Rattle.switch_model.specs.Waiting.Claims.{bodies, given_bodies, circuit_at, circuit_served, new_bodies, new_at, born_bodies, count_way}
 use Rattle.switch_model.proofs.Common.{same-number}
 

@@ -26,7 +26,8 @@ use Rattle.switch_model.specs.History.Legs.{at}
 use Rattle.switch_model.specs.History.Taken.{is_hop_leg, claimed_cells}
 use Rattle.switch_model.specs.History.Circuit.{is_live_circuit, sent, events, opens, with_event, taken_from_hop, is_awaited, edge_event, returns_forth}
 use Rattle.switch_model.specs.Waiting.Queues.{circuit_log, sealed_count, sendable}
-use Rattle.switch_model.specs.History.Returns.{Closing, Goes, Closes, Full, closing_at, settled, settled_with, forward_of}
+use Rattle.circuit_model.specs.Batches.{forward_of}
+use Rattle.switch_model.specs.History.Returns.{Closing, Goes, Closes, Full, closing_at, settled, settled_with}
 use Rattle.switch_model.proofs.Common.{Begins, same-list, none-begins, both-begin}
 
 -- the events before a step and after it: an opening alone adds Born

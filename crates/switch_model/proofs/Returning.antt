@@ -16,7 +16,8 @@ use Rattle.switch_model.specs.History.Legs.{circuits}
 use Rattle.switch_model.specs.History.Circuit.{is_live_circuit, is_accepted_return}
 use Rattle.switch_model.specs.Waiting.Claims.{kept}
 use Rattle.switch_model.specs.Answers.GiveBack.{is_note, returned, return_answer}
-use Rattle.switch_model.specs.History.Returns.{Closing, Goes, Closes, Full, closing_at, settled, settling_reason, forward_of, events_behind}
+use Rattle.circuit_model.specs.Batches.{forward_of, events_behind}
+use Rattle.switch_model.specs.History.Returns.{Closing, Goes, Closes, Full, closing_at, settled, settling_reason}
 use Rattle.switch_model.specs.History.Relayed.{settled_forth}
 
 -- it passed them all

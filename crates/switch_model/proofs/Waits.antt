@@ -19,7 +19,8 @@ use Rattle.switch_model.specs.History.Legs.{at, holds_id}
 use Rattle.switch_model.specs.History.Taken.{is_hop_leg, claimed_cells}
 use Rattle.switch_model.specs.History.Circuit.{is_live_circuit, sent, events}
 use Rattle.switch_model.specs.Waiting.Queues.{circuit_log, sealed_count, sendable, queue}
-use Rattle.switch_model.specs.History.Returns.{Goes, closing_at, forward_of}
+use Rattle.circuit_model.specs.Batches.{forward_of}
+use Rattle.switch_model.specs.History.Returns.{Goes, closing_at}
 use Rattle.switch_model.specs.Examples.{hop_cell_then_return}
 use Rattle.switch_model.proofs.Common.{self_eq, drop-front}
 

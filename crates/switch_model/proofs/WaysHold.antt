@@ -23,7 +23,8 @@ use Rattle.switch_model.specs.History.Taken.{taken_forth, claimed_cells}
 use Rattle.switch_model.specs.History.Circuit.{is_live_circuit, sent, events, opens, is_accepted_return}
 use Rattle.switch_model.specs.Waiting.Claims.{claimed, kept, bodies}
 use Rattle.switch_model.specs.Answers.GiveBack.{done, done_by}
-use Rattle.switch_model.specs.History.Returns.{settled, settling_reason, events_behind}
+use Rattle.circuit_model.specs.Batches.{events_behind}
+use Rattle.switch_model.specs.History.Returns.{settled, settling_reason}
 use Rattle.switch_model.specs.History.Relayed.{settled_forth}
 use Rattle.switch_model.specs.Legal.{IsLegal}
 use Rattle.switch_model.proofs.Common.{self_eq, and-first, and-second, same-number}

@@ -26,7 +26,8 @@ use Rattle.switch_model.specs.History.Legs.{at}
 use Rattle.switch_model.specs.History.Taken.{is_hop_leg, claimed_cells}
 use Rattle.switch_model.specs.History.Circuit.{is_live_circuit, events, with_event, taken_from_hop, returns_forth}
 use Rattle.switch_model.specs.Waiting.Queues.{circuit_log}
-use Rattle.switch_model.specs.History.Returns.{Closing, Goes, Closes, Full, closing_at, settled, settled_with, forward_of}
+use Rattle.circuit_model.specs.Batches.{forward_of}
+use Rattle.switch_model.specs.History.Returns.{Closing, Goes, Closes, Full, closing_at, settled, settled_with}
 use Rattle.switch_model.specs.Answers.EdgeIn.{phase_of, is_joined, edge_in_answer}
 use Rattle.switch_model.specs.Legal.{IsLegal}
 use Rattle.switch_model.specs.History.Relayed.{KeepsWindows, AlwaysKeepsWindows}

@@ -13,7 +13,8 @@ use Rattle.tr_io.specs.declared.step.Step.TheVariants.{GiveBack}
 use Rattle.switch_model.specs.Start.{Start}
 use Rattle.switch_model.specs.History.Taken.{claimed_cells}
 use Rattle.switch_model.specs.History.Circuit.{is_live_circuit, sent, events, is_accepted_return}
-use Rattle.switch_model.specs.History.Returns.{settling_reason, forward_of, AllGo, events_behind}
+use Rattle.circuit_model.specs.Batches.{forward_of, events_behind}
+use Rattle.switch_model.specs.History.Returns.{settling_reason, AllGo}
 use Rattle.switch_model.specs.Answers.GiveBack.{done, done_by}
 use Rattle.switch_model.specs.Legal.{IsLegal}
 use Rattle.switch_model.proofs.Common.{self_eq}

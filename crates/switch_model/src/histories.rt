@@ -27,7 +27,8 @@ ghost use Rattle.switch_model.specs.History.Legs.{Port, port, hops, at, holds_id
 ghost use Rattle.switch_model.specs.History.Taken.{is_hop_leg, claimed_cells};
 ghost use Rattle.switch_model.specs.History.Circuit.{is_live_circuit, sent, events};
 ghost use Rattle.switch_model.specs.Waiting.Queues.{circuit_log, sealed_count, sendable, queue};
-ghost use Rattle.switch_model.specs.History.Returns.{Goes, closing_at, forward_of};
+ghost use Rattle.circuit_model.specs.Batches.{forward_of};
+ghost use Rattle.switch_model.specs.History.Returns.{Goes, closing_at};
 ghost use Rattle.switch_model.specs.Start.{Start};
 ghost use Rattle.switch_model.specs.History.Past.{past, concerns};
 ghost use Rattle.switch_model.specs.Legal.{IsLegal};

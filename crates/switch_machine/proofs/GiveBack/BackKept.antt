@@ -18,7 +18,8 @@ use Rattle.switch_machine.proofs.OneStep.{step-added}
 use Rattle.switch_machine.proofs.OtherEdges.{other_edges}
 use Rattle.switch_machine.proofs.Slots.{length-with, slot_at-inside, slot_at-with}
 use Rattle.switch_machine.proofs.Unlinked.{whole-unlinked}
-use Rattle.switch_machine.specs.Calls.GiveBack.{body_of, first_kept, sealed_cells, sealed_circuit, sealed_state}
+use Rattle.circuit_model.specs.Batches.{body_of}
+use Rattle.switch_machine.specs.Calls.GiveBack.{first_kept, sealed_cells, sealed_circuit, sealed_state}
 use Rattle.switch_machine.specs.Calls.Settling.{more_queued, queued_on}
 use Rattle.switch_machine.specs.Machine.{dial_in, has_port, kept_cells, leg_at, leg_in}
 use Rattle.switch_machine.specs.Stands.{Stands}

@@ -14,7 +14,8 @@ use Rattle.switch_machine.specs.Calls.Settling.{Settling, bodies_with}
 use Rattle.switch_machine.specs.Stands.OneCircuit.{OrdersStand}
 use Rattle.switch_model.proofs.Ways.{keeps}
 use Rattle.switch_model.specs.History.Past.{Past}
-use Rattle.switch_model.specs.History.Returns.{Closes, Closing, Full, Goes, closing_at, forward_of, settled, settled_with}
+use Rattle.circuit_model.specs.Batches.{forward_of}
+use Rattle.switch_model.specs.History.Returns.{Closes, Closing, Full, Goes, closing_at, settled, settled_with}
 use Rattle.switch_model.specs.Waiting.Dials.{Dial}
 
 -- what holds before the cells, and behind each cell where it held before it, holds behind those that settle

@@ -13,7 +13,8 @@ use Rattle.switch_machine.specs.State.{KeptClaim, WayState}
 use Rattle.switch_model.proofs.Common.{and-false, self_eq}
 use Rattle.switch_model.specs.History.EdgePast.{numbers_of}
 use Rattle.switch_model.specs.History.Relayed.{settled_forth}
-use Rattle.switch_model.specs.History.Returns.{Closes, Closing, Full, Goes, closing_at, forward_of, reason_with, settled, settled_with, settling_reason}
+use Rattle.circuit_model.specs.Batches.{forward_of}
+use Rattle.switch_model.specs.History.Returns.{Closes, Closing, Full, Goes, closing_at, reason_with, settled, settled_with, settling_reason}
 use Rattle.switch_model.specs.Names.{Way, same_dir, same_way, way_of}
 use Rattle.tr_io.specs.declared.names.ClaimNote.{ClaimNote}
 use Rattle.tr_io.specs.declared.names.Dir.{Dir}

@@ -14,7 +14,8 @@ use Rattle.switch_machine.proofs.GiveBack.Home.{claimed-same, other-way, own-way
 use Rattle.switch_machine.proofs.GiveBack.Returned.{returning}
 use Rattle.switch_machine.proofs.Settling.Core.{leg-more, length-sealed}
 use Rattle.switch_machine.proofs.Slots.{length-with, slot_at-with}
-use Rattle.switch_machine.specs.Calls.GiveBack.{body_of, first_kept, sealed_cells, sealed_circuit}
+use Rattle.circuit_model.specs.Batches.{body_of}
+use Rattle.switch_machine.specs.Calls.GiveBack.{first_kept, sealed_cells, sealed_circuit}
 use Rattle.switch_machine.specs.Calls.Settling.{more_queued, queued_on}
 use Rattle.switch_machine.specs.Machine.{kept_cells}
 use Rattle.switch_machine.specs.Stands.OneCircuit.{CircuitStands, relay_cells}

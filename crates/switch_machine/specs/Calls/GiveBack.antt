@@ -11,7 +11,8 @@ use Rattle.tr_io.specs.declared.names.ClaimNote.{ClaimNote}
 use Rattle.tr_io.specs.declared.names.Dir.{Dir}
 use Rattle.tr_io.specs.declared.names.Dir.TheVariants.{Forth, Back}
 use Rattle.switch_model.specs.Answers.GiveBack.{is_note, returned, done_by}
-use Rattle.switch_model.specs.History.Returns.{settling_reason, settled, Closing, Goes, Closes, Full, closing_at, forward_of}
+use Rattle.circuit_model.specs.Batches.{forward_of, body_of}
+use Rattle.switch_model.specs.History.Returns.{settling_reason, settled, Closing, Goes, Closes, Full, closing_at}
 use Rattle.switch_machine.specs.State.{KeptClaim, WayState, CircuitState, State, slot_at, with_slot}
 use Rattle.switch_machine.specs.Machine.{counted, way_of_circuit, kept_note, kept_cells}
 use Rattle.switch_machine.specs.Calls.Settling.{Settling, queued_on, settle_event, unsettled, with_settled}
@@ -76,9 +77,6 @@ abbrev pub settled_state : Rules → List Event → State → ℕ → CircuitSta
 settled_state rules ev s c x cells = with_settled s c (settled_home rules ev s x cells)
 
 -- Bodies that come home sealed enter leg 0, numbered from n on.
-abbrev pub body_of : CircuitCell → List ℕ
-body_of cell = cell.body
-
 abbrev pub sealed_cells : List ℕ → ℕ → List CircuitCell → List CircuitCell
 sealed_cells key n cells = all_sealed key n (map body_of cells)
 

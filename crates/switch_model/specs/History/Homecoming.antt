@@ -12,7 +12,7 @@ use Rattle.tr_io.specs.declared.step.Step.TheVariants.{GiveBack}
 use Rattle.switch_model.specs.History.Taken.{taken_forth, claimed_cells}
 use Rattle.switch_model.specs.History.Circuit.{events}
 use Rattle.switch_model.specs.Waiting.Queues.{circuit_log, sealed_count}
-use Rattle.switch_model.specs.History.Returns.{events_behind}
+use Rattle.circuit_model.specs.Batches.{events_behind}
 use Rattle.switch_model.specs.Waiting.Contents.{claimed_bodies}
 use Rattle.switch_model.specs.History.Relayed.{settled_forth}
 

@@ -3,7 +3,7 @@
 -- itself no event.
 use Rattle.std.specs.Prelude.{ℕ, ◌≡◌, ⊤, ◌+◌, ◌-◌, ◌&&◌, nat_le, List, [], ◌∷◌, length, Bool, if◌then◌else◌, Option, Some, None}
 use Rattle.circuit_model.specs.Events.{CircuitCell, Event}
-use Rattle.circuit_model.specs.declared.event.Event.TheVariants.{Forward}
+use Rattle.circuit_model.specs.Batches.{forward_of}
 use Rattle.circuit_model.specs.Rules.{Rules}
 use Rattle.circuit_model.specs.Packaged.{behind}
 use Rattle.circuit_model.specs.Words.{log, closes, packages_back}
@@ -18,10 +18,6 @@ held_back_after rules events left = 1 + length (behind (log rules events)) - lef
 -- Whether the direction takes no more.
 abbrev pub is_full_after : Rules → List Event → ℕ → Bool
 is_full_after rules events left = nat_le held_limit (held_back_after rules events left)
-
--- A cell from the client as an event.
-abbrev pub forward_of : CircuitCell → Event
-forward_of cell = Forward cell.command cell.body
 
 -- Why the next cell closes the circuit, if it does, and whether it is an event then.
 pub data Closing : Type 0 where
@@ -65,11 +61,6 @@ settling_reason rules left events [] = None
 settling_reason rules left events (cell ∷ cells) =
     reason_with (closing_at rules left events cell)
     (settling_reason rules left (forward_of cell ∷ events) cells)
-
--- The events with all of some cells behind them.
-abbrev pub events_behind : List Event → List CircuitCell → List Event
-events_behind events [] = events
-events_behind events (cell ∷ cells) = events_behind (forward_of cell ∷ events) cells
 
 -- None of the cells closes the circuit.
 abbrev pub AllGo : Rules → ℕ → List Event → List CircuitCell → Type 0
