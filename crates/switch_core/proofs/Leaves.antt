@@ -1,12 +1,13 @@
 -- What a cell that leaves makes of the switch's parts.
-use Rattle.std.proofs.Common.{◌≡◌, ◌<◌, ℕ, List, [], ◌∷◌, length, get_or, max, Option, Some, None, IfSome, IfNone, slice_set, refl, sym, ap, subst, ◌∙◌, arith, zero, suc}
+use Rattle.std.proofs.Common.{◌≡◌, ◌<◌, ◌≤◌, ◌+◌, ◌-◌, ◌==◌, ℕ, Bool, true, false, if◌then◌else◌, option_to_list, List, [], ◌∷◌, length, get_or, max, Option, Some, None, IfSome, IfNone, slice_set, refl, sym, ap, subst, ◌∙◌, arith, zero, suc}
 use Rattle.cell_codec.specs.declared.cell.Cell.{Cell}
-use Rattle.kdf_tor.specs.declared.LayerKeys.{LayerKeys}
+use Rattle.circuit_model.specs.Events.{CircuitCell}
+use Rattle.tor_spec.specs.CellCommands.{destroy_command}
 use Rattle.switch_model.specs.Names.{Leg}
-use Rattle.switch_machine.specs.State.{ChannelState, LegState, CircuitState, State, slot_at, with_slot}
+use Rattle.switch_machine.specs.State.{ChannelState, LegState, CircuitState, State, slot_at, with_slot, all_there}
 use Rattle.switch_machine.specs.Machine.{leg_at, leg_in}
-use Rattle.switch_machine.specs.Calls.NextCell.{ticked, first_cell, cell_of_leg, picked_leg, sent_first, with_leg, sent_from, lane_of, next_cell_result, next_cell_state}
-use Rattle.switch_machine.proofs.PlainLists.{all_there, length-all_there, with_slot-all_there}
+use Rattle.switch_machine.specs.Calls.NextCell.{ticked, first_cell, cell_of_leg, picked_leg, sent_first, circuit_sent, with_leg, sent_from, lane_of, next_cell_result, next_cell_state}
+use Rattle.switch_machine.proofs.PlainLists.{length-all_there, with_slot-all_there}
 use Rattle.switch_core.specs.Meaning.{state_of, circuit_of, FirstLeaves}
 use Rattle.switch_core.specs.Picking.{first_leg_of, FirstSent, DestroyLeaves}
 use Rattle.switch_core.proofs.Plain.{there}
@@ -46,9 +47,30 @@ inside (y ∷ slots) (suc n) x there = let rest : n < length slots = inside slot
 
 -- a leg's first cell
 
-pub first_sent : (keys : LayerKeys) (pad : Option (List ℕ)) (old new : LegState) (now : ℕ) → Some new ≡ sent_first now old old.queue → FirstSent now (circuit_of keys pad old) (circuit_of keys pad new)
+-- one cell at most waits on it
+pub at_most_one : {A : Type 0} (o : Option A) → length (option_to_list o) ≤ 1
+at_most_one None = omega arith
+at_most_one (Some x) = omega arith
+
+new-queue : (b : Bool) (old new : LegState) (cells : List CircuitCell) (count now : ℕ) → Some new ≡ (if b then None else Some (record old { queue = cells; count = count; counted_at = now })) → new.queue ≡ cells
+new-queue true old new cells count now e = absurd cc
+new-queue false old new cells count now e = cc
+
+circuit-same : (x : CircuitState) (m n : ℕ) (legs more : List (Option LegState)) → m ≡ n → legs ≡ more → ◌≡◌ {A = CircuitState} (record x { sent_count = m; legs = legs }) (record x { sent_count = n; legs = more })
+circuit-same x m n legs more e f = rw (e, f) refl
+
+sent-by : (old new : LegState) (now : ℕ) (cells : List CircuitCell) → length cells ≤ 1 → old.queue ≡ cells → Some new ≡ sent_first now old cells → circuit_of new ≡ circuit_sent now 0 (circuit_of old) old cells
 unfolding slot_at with_slot
-first_sent keys pad old new now e = record { found = old; first = refl; sent = ap (λ o. record (circuit_of keys pad old) { legs = o ∷ [] }) e }
+sent-by old new now [] single queued e = let same : new ≡ old = cc in ap circuit_of same
+sent-by old new now (cell ∷ []) single queued e =
+    let none : length new.queue ≡ 0 = ap length (new-queue (cell.command == destroy_command) old new [] _ now e) in
+    let one : length old.queue ≡ 1 = ap length queued in
+    circuit-same (circuit_of old) (1 - length new.queue) (1 - length old.queue + 1) (Some new ∷ []) (sent_first now old (cell ∷ []) ∷ []) (omega (arith, none, one)) (ap (λ o. o ∷ []) e)
+sent-by old new now (cell ∷ other ∷ cells) single queued e = absurd (omega (arith, single))
+
+pub first_sent : (old new : LegState) (now : ℕ) → length old.queue ≤ 1 → Some new ≡ sent_first now old old.queue → FirstSent now (circuit_of old) (circuit_of new)
+unfolding slot_at
+first_sent old new now single e = record { found = old; first = refl; sent = sent-by old new now old.queue single refl e }
 
 pub picked_sent : (s t : State) (now n : ℕ) (picked : Option Leg) (old new : CircuitState) → picked ≡ Some (first_leg_of n) → slot_at s.circuits n ≡ Some old → FirstSent now old new →
     t ≡ record s { circuits = with_slot s.circuits n (Some new) } → t ≡ sent_from s now picked

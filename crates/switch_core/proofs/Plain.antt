@@ -9,7 +9,8 @@ use Rattle.switch_machine.specs.State.{ChannelState, State, slot_at}
 use Rattle.switch_machine.specs.Machine.{counted}
 use Rattle.switch_machine.specs.Calls.OpenCircuit.{open_result_on, open_state_by, with_circuit}
 use Rattle.switch_core.specs.Meaning.{refused_on}
-pub use Rattle.switch_machine.proofs.PlainLists.{all_there, length-all_there, slot_at-all_there, with_slot-all_there, all_there-push, filled-all_there, list_any-all_there}
+pub use Rattle.switch_machine.specs.State.{all_there}
+pub use Rattle.switch_machine.proofs.PlainLists.{length-all_there, slot_at-all_there, with_slot-all_there, all_there-push, filled-all_there, list_any-all_there}
 
 pub ruleset plain_lists = (length-all_there, slot_at-all_there, with_slot-all_there, all_there-push, filled-all_there, list_any-all_there)
 
@@ -36,10 +37,10 @@ pub there : {A : Type 0} (xs : List A) (n : ℕ) (d : A) → n < length xs → s
 there xs n d here = slot_at-all_there xs n ∙ got xs n d here
 
 -- the state behind an opening, by its answer
-pub refused_state : (s : State) (chan id : ℕ) (reply : Cell) (keys : Option LayerKeys) (pad : Option (List ℕ)) (x : Option ChannelState) (why : OpenRefusal) → open_state_by s chan id reply keys pad x (Refused why) ≡ counted (refused_on s chan id why x)
-refused_state s chan id reply keys pad (Some channel) why = refl
-refused_state s chan id reply keys pad None why = refl
+pub refused_state : (s : State) (chan id : ℕ) (reply : Cell) (keys : Option LayerKeys) (x : Option ChannelState) (why : OpenRefusal) → open_state_by s chan id reply keys x (Refused why) ≡ counted (refused_on s chan id why x)
+refused_state s chan id reply keys (Some channel) why = refl
+refused_state s chan id reply keys None why = refl
 
-pub opened_state : (s : State) (chan id : ℕ) (reply : Cell) (keys : Option LayerKeys) (pad : Option (List ℕ)) (x : Option ChannelState) (n : CircNo) → Opened n ≡ open_result_on s chan id keys x → open_state_by s chan id reply keys pad x (Opened n) ≡ with_circuit s chan id reply keys pad
-opened_state s chan id reply keys pad (Some channel) n answer = refl
-opened_state s chan id reply keys pad None n answer = cc
+pub opened_state : (s : State) (chan id : ℕ) (reply : Cell) (keys : Option LayerKeys) (x : Option ChannelState) (n : CircNo) → Opened n ≡ open_result_on s chan id keys x → open_state_by s chan id reply keys x (Opened n) ≡ with_circuit s chan id reply keys
+opened_state s chan id reply keys (Some channel) n answer = refl
+opened_state s chan id reply keys None n answer = cc

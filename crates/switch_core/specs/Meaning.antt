@@ -1,17 +1,15 @@
 -- What the switch's plain lists mean as the state of the machine.
-use Rattle.std.specs.Prelude.{ℕ, ◌≡◌, [], ◌∷◌, List, Option, Some, None}
+use Rattle.std.specs.Prelude.{ℕ, ◌≡◌, ◌-◌, [], ◌∷◌, List, length, Option, Some, None}
 use Rattle.cell_codec.specs.declared.cell.Cell.{Cell}
-use Rattle.kdf_tor.specs.declared.LayerKeys.{LayerKeys}
 use Rattle.tr_io.specs.declared.names.Side.{Side}
 use Rattle.circuit_model.specs.Sent.{destroy}
 use Rattle.switch_model.specs.Answers.NextCell.{cell_at}
 use Rattle.switch_model.specs.Waiting.Lanes.{Destroy}
 use Rattle.switch_model.specs.Start.{Start}
-use Rattle.switch_machine.specs.State.{ChannelState, LegState, CircuitState, State, with_slot}
+use Rattle.switch_machine.specs.State.{ChannelState, LegState, CircuitState, State, with_slot, all_there}
 use Rattle.switch_machine.specs.Machine.{new_state}
 use Rattle.switch_machine.specs.Calls.OpenCircuit.{no_bodies, refusing}
 use Rattle.tr_io.specs.declared.answers.OpenRefusal.{OpenRefusal}
-use Rattle.switch_machine.proofs.PlainLists.{all_there}
 use Rattle.circ_relay.specs.declared.rules.Rules.{Rules as RuleList}
 use Rattle.circ_relay.specs.Values.{rules_of}
 
@@ -24,14 +22,17 @@ start_of name rules = record { name = name; rules = rules_of rules }
 abbrev pub channel_of : Side → List Destroy → ChannelState
 channel_of side lane = record { side = side; to = None; given = 0; lane = lane }
 
--- A circuit with its first leg alone.
-abbrev pub circuit_of : LayerKeys → Option (List ℕ) → LegState → CircuitState
-circuit_of keys pad leg = record {
-  relay = record { keys = keys; pad = pad };
+-- A circuit with its first leg alone. The answer to the opening is the one cell that is sent: it waits, or it
+-- left.
+abbrev pub circuit_of : LegState → CircuitState
+circuit_of leg = record {
+  sent_count = 1 - length leg.queue;
   legs = Some leg ∷ [];
   forth = no_bodies;
   back = no_bodies;
-  orders = [];
+  reach_orders = [];
+  carry_orders = [];
+  close_orders = [];
   dial = None;
 }
 

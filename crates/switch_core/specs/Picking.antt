@@ -7,7 +7,7 @@ use Rattle.switch_model.specs.Names.{Leg}
 use Rattle.switch_model.specs.Waiting.Lanes.{Destroy}
 use Rattle.switch_machine.specs.State.{ChannelState, LegState, CircuitState, State, slot_at, with_slot}
 use Rattle.switch_machine.specs.Machine.{leg_at}
-use Rattle.switch_machine.specs.Calls.NextCell.{cell_count_in, sent_first}
+use Rattle.switch_machine.specs.Calls.NextCell.{cell_count_in, circuit_sent}
 use Rattle.switch_core.specs.declared.pick.Waiting.{Waiting}
 
 -- The one with the lesser count; the earlier where the counts are equal.
@@ -37,7 +37,7 @@ pub record Picks (s : State) (given n : ℕ) (least : Option Waiting) (leg : Opt
 pub record FirstSent (now : ℕ) (old new : CircuitState) : Type 0 where
   pub found : LegState
   pub first : leg_at (Some old) 0 ≡ Some found
-  pub sent : new ≡ record old { legs = with_slot old.legs 0 (sent_first now found found.queue) }
+  pub sent : new ≡ circuit_sent now 0 old found found.queue
 
 -- The oldest DESTROY of a channel left, as this cell.
 pub record DestroyLeaves (old new : State) (chan : ℕ) (cell : Cell) : Type 0 where

@@ -1,4 +1,4 @@
-//! One circuit: what it was opened with, and its leg towards the previous hop.
+//! One circuit: its leg towards the previous hop.
 ghost use Rattle.std.specs.Prelude.{◌≡◌, IfSome, Some, length};
 ghost use Rattle.cell_codec.specs.Cells.{IsWellFormed};
 ghost use Rattle.switch_machine.specs.Machine.{leg_at};
@@ -8,7 +8,6 @@ ghost use Rattle.switch_core.specs.Picking.{FirstSent};
 
 use crate::leg::Leg;
 use cell_codec::Cell;
-use kdf_tor::LayerKeys;
 use std::marker::Model;
 use tr_io::names::ChanNo;
 
@@ -17,10 +16,6 @@ use tr_io::names::ChanNo;
 /// Contracts see it as the machine's.
 #[derive(Drop)]
 pub struct Circuit {
-    /// The circuit's keys.
-    pub keys: LayerKeys,
-    /// The key of the padding of what it packages, if there is one.
-    pub pad: Option<[u8; 16]>,
     /// The leg towards the previous hop.
     pub leg: Leg,
 }
@@ -31,7 +26,7 @@ impl Model for Circuit {
 
     ghost Value = { CircuitState };
 
-    ghost view = { λ c. circuit_of c.keys c.pad c.leg };
+    ghost view = { λ c. circuit_of c.leg };
 }
 
 #[tactic(auto, using(crate::proofs::Plain::or_false), unfolding(switch_machine::specs::State::slot_at))]

@@ -1,6 +1,6 @@
 //! The leg of a circuit towards the previous hop: its CircID on a channel, the reply that waits on
 //! it, and its decaying count of cells.
-ghost use Rattle.std.specs.Prelude.{◌≡◌, IfSome, Some, IsTrue, false};
+ghost use Rattle.std.specs.Prelude.{◌≡◌, ◌≤◌, IfSome, Some, IsTrue, false, length};
 ghost use Rattle.cell_codec.specs.Cells.{is_var, IsWellFormed};
 ghost use Rattle.switch_machine.specs.Machine.{has_port};
 ghost use Rattle.switch_machine.specs.Calls.NextCell.{waits_on, count_of, first_cell, sent_first};
@@ -100,9 +100,11 @@ impl Leg {
     }
 
     /// The first cell that waits leaves at this tick, and is charged.
+    #[tactic(auto, using(crate::proofs::Leaves::at_most_one))]
     pub fn send_first(&mut self, now: u64) -> Option<Cell>
         ensures cell { result ≡ first_cell (Some self.old) }
         ensures state { Some self.new ≡ sent_first now self.old self.old.queue }
+        ensures single { length self.old.queue ≤ 1 }
         ensures well_formed { IfSome result IsWellFormed }
     {
         let reply = self.reply.take()?;

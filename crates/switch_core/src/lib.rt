@@ -10,6 +10,7 @@ mod circuit;
 mod leg;
 mod parts;
 mod pick;
+mod relay;
 mod switch;
 #[cfg(test)]
 mod tests;

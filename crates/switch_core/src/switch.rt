@@ -1,5 +1,5 @@
 //! The switch: each call adds one step to every history that it stands for.
-ghost use Rattle.std.specs.Prelude.{◌≡◌, ◌+◌, ◌<◌, ◌≤◌, ◌^◌, ⊤, IfOk, IfSome, IsTrue, false};
+ghost use Rattle.std.specs.Prelude.{◌≡◌, ◌+◌, ◌<◌, ◌≤◌, ◌^◌, ⊤, [], IfOk, IfSome, IsTrue, false};
 ghost use Rattle.cell_codec.specs.Cells.{is_var, IsWellFormed};
 ghost use Rattle.tor_spec.specs.CellCommands.{opens_circuit};
 ghost use Rattle.tr_io.specs.declared.step.Step.TheVariants.{ChannelUp, OpenCircuit, NextCell};
@@ -9,9 +9,11 @@ ghost use Rattle.switch_machine.specs.Calls.ChannelUp.{channel_up_result};
 ghost use Rattle.switch_machine.specs.Calls.OpenCircuit.{open_result};
 ghost use Rattle.switch_machine.specs.Calls.NextCell.{next_cell_result};
 ghost use Rattle.switch_core.specs.Meaning.{start_of};
+ghost use Rattle.switch_core.specs.Started.{relays_with};
 
 use crate::parts::Parts;
-use cell_codec::Cell;
+use crate::relay::Relay;
+use cell_codec::{Cell, List};
 use circ_relay::Rules;
 use hop_handshake::Opening;
 use std::alloc::{AllocError, Global};
@@ -21,14 +23,17 @@ use tr_io::names::{ChanNo, Side};
 
 /// The switch of a relay.
 ///
-/// Contracts see what it was made with and the machine's state, which stands for some history of
-/// steps. Each call that doesn't answer `Memory` is one step: whatever history the switch stood
-/// for, it stands for it afterwards with this step, which has this answer, added.
+/// Contracts see what it was made with, the machine's state, which stands for some history of
+/// steps, and what each circuit was opened with. Each call that doesn't answer `Memory` is one step:
+/// whatever history the switch stood for, it stands for it afterwards with this step, which has this
+/// answer, added.
 #[derive(Drop)]
 pub struct Switch {
     name: u64,
     rules: Rules,
     parts: Parts,
+    /// By circuit number.
+    relays: List<Relay>,
 }
 
 impl Model for Switch {
@@ -38,7 +43,7 @@ impl Model for Switch {
 
     ghost Value = { Started };
 
-    ghost view = { λ s. record { start = start_of s.name s.rules; state = s.parts } };
+    ghost view = { λ s. record { start = start_of s.name s.rules; state = s.parts; relays = s.relays.items } };
 
     ghost invariant = { λ s. StandsForSome (start_of s.name s.rules) s.parts };
 }
@@ -53,11 +58,13 @@ impl Switch {
     pub fn new(alloc: Global, name: u64, rules: Rules) -> Result<Switch, AllocError>
         ensures start { IfOk result (λ s. s.start ≡ start_of name rules) }
         ensures state { IfOk result (λ s. s.state ≡ new_state) }
+        ensures relays { IfOk result (λ s. s.relays ≡ []) }
     {
         Ok(Switch {
             name,
             rules,
             parts: Parts::new(alloc)?,
+            relays: List::new(alloc),
         })
     }
 
@@ -76,6 +83,7 @@ impl Switch {
         ensures history { UpCase result (self.new.state ≡ self.old.state) (Adds self.old.start self.old.state self.new.state (ChannelUp slot side result)) }
         ensures steps { self.new.state.steps ≤ self.old.state.steps + 1 }
         ensures answer { UpCase result ⊤ (result ≡ channel_up_result self.old.state) }
+        ensures relays { self.new.relays ≡ self.old.relays }
     {
         self.parts.channel_up(side)
     }
@@ -91,8 +99,19 @@ impl Switch {
         ensures history { OpenCase result (self.new.state ≡ self.old.state) (Adds self.old.start self.old.state self.new.state (OpenCircuit chan id opening.now.reply opening.now.keys opening.now.pad result)) }
         ensures steps { self.new.state.steps ≤ self.old.state.steps + 1 }
         ensures answer { OpenCase result ⊤ (result ≡ open_result self.old.state chan.0 id opening.now.keys) }
+        ensures relays { self.new.relays ≡ relays_with result opening.now.keys opening.now.pad self.old.relays }
     {
-        self.parts.open_circuit(chan, id, opening)
+        if self.relays.reserve(1).is_err() {
+            return OpenAnswer::Memory;
+        }
+        let answer = self.parts.open_circuit(chan, id, opening);
+        if let OpenAnswer::Opened(_) = answer {
+            self.relays.push_reserved(Relay {
+                keys: opening.keys,
+                pad: opening.pad,
+            });
+        }
+        answer
     }
 
     /// The next cell that leaves on a channel, where this tick is given: the oldest DESTROY of its
@@ -103,6 +122,7 @@ impl Switch {
         ensures history { Adds self.old.start self.old.state self.new.state (NextCell chan tick result) }
         ensures steps { self.new.state.steps ≡ self.old.state.steps + 1 }
         ensures answer { result ≡ next_cell_result self.old.state chan.0 tick }
+        ensures relays { self.new.relays ≡ self.old.relays }
         ensures well_formed { IfSome result IsWellFormed }
     {
         self.parts.next_cell(chan, tick)

@@ -55,9 +55,9 @@ up_plays rules start old new slot side a answers more is other case written =
     let adds : Adds (tape_start rules) old new (Steps.ChannelUp slot side a) = subst (λ x. Adds x old new (Steps.ChannelUp slot side a)) is (up_second _ _ a other case) in
     record {
       stands = λ h stands. let after : Stands (tape_start rules) new (Steps.ChannelUp slot side a ∷ h) = adds.stands h stands in
-          subst (λ x. Stands (tape_start rules) new (Steps.ChannelUp slot side x ∷ h)) after.legal.0.1 after;
+          subst (λ x. Stands (tape_start rules) new (Steps.ChannelUp slot side x ∷ h)) after.steps.legal.0.1 after;
       answer = λ h stands. let after : Stands (tape_start rules) new (Steps.ChannelUp slot side a ∷ h) = adds.stands h stands in
-          written ∙ ap (λ x. answers ++ up_bytes x) after.legal.0.1;
+          written ∙ ap (λ x. answers ++ up_bytes x) after.steps.legal.0.1;
     }
 
 -- An opening by the byte of its command.
@@ -76,9 +76,9 @@ open_plays rules start old new chan y pad request opening a kind answers more is
     let adds : Adds (tape_start rules) old new (Steps.OpenCircuit chan request.id reply keys key a) = subst (λ o. Adds (tape_start rules) old new (Steps.OpenCircuit chan request.id o.reply o.keys o.pad a)) opens found in
     record {
       stands = λ h stands. let after : Stands (tape_start rules) new (Steps.OpenCircuit chan request.id reply keys key a ∷ h) = adds.stands h stands in
-          subst (λ x. Stands (tape_start rules) new (Steps.OpenCircuit chan request.id reply keys key x ∷ h)) after.legal.0.1 after;
+          subst (λ x. Stands (tape_start rules) new (Steps.OpenCircuit chan request.id reply keys key x ∷ h)) after.steps.legal.0.1 after;
       answer = λ h stands. let after : Stands (tape_start rules) new (Steps.OpenCircuit chan request.id reply keys key a ∷ h) = adds.stands h stands in
-          written ∙ ap (λ n. answers ++ open_bytes n a) as_kind ∙ ap (λ x. answers ++ open_bytes (opening_kind pad) x) after.legal.0.1;
+          written ∙ ap (λ n. answers ++ open_bytes n a) as_kind ∙ ap (λ x. answers ++ open_bytes (opening_kind pad) x) after.steps.legal.0.1;
     }
 
 pub next_plays : (rules : Rules) (start : Start) (old new : State) (chan : ChanNo) (tick : ℕ) (a : Option Cell) (answers more : List ℕ) → start ≡ tape_start rules →
@@ -88,9 +88,9 @@ next_plays rules start old new chan tick a answers more is adds_start written =
     let adds : Adds (tape_start rules) old new (Steps.NextCell chan tick a) = subst (λ x. Adds x old new (Steps.NextCell chan tick a)) is adds_start in
     record {
       stands = λ h stands. let after : Stands (tape_start rules) new (Steps.NextCell chan tick a ∷ h) = adds.stands h stands in
-          subst (λ x. Stands (tape_start rules) new (Steps.NextCell chan tick x ∷ h)) after.legal.0.1 after;
+          subst (λ x. Stands (tape_start rules) new (Steps.NextCell chan tick x ∷ h)) after.steps.legal.0.1 after;
       answer = λ h stands. let after : Stands (tape_start rules) new (Steps.NextCell chan tick a ∷ h) = adds.stands h stands in
-          written ∙ ap (λ x. answers ++ next_bytes x) after.legal.0.1;
+          written ∙ ap (λ x. answers ++ next_bytes x) after.steps.legal.0.1;
     }
 
 pub plays_as : (rules : Rules) (r q : Record) (old new : State) (answers more : List ℕ) → r ≡ q → PlaysOn rules q old new answers more → PlaysOn rules r old new answers more

@@ -154,7 +154,7 @@ first_records rules tape first rest records state ahead read stands = record {
   read = read;
   state = state;
   stands = stands;
-  legal = stands.legal;
-  sends = sent_is_prefix (tape_start rules) (steps_of rules records) stands.legal;
+  legal = stands.steps.legal;
+  sends = sent_is_prefix (tape_start rules) (steps_of rules records) stands.steps.legal;
   front = front_answers rules first records rest read;
 }

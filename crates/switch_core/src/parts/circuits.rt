@@ -26,7 +26,7 @@ impl Parts {
         requires steps { self.old.steps < 2 ^ 62 }
         requires fixed { is_var opening.now.reply.body ≡ false }
         requires command { IfSome opening.now.keys (λ _. IsTrue (opens_circuit opening.now.reply.command)) }
-        ensures state { OpenCase result (self.new ≡ self.old) (self.new ≡ open_state self.old chan.0 id opening.now.reply opening.now.keys opening.now.pad) }
+        ensures state { OpenCase result (self.new ≡ self.old) (self.new ≡ open_state self.old chan.0 id opening.now.reply opening.now.keys) }
         ensures answer { OpenCase result ⊤ (result ≡ open_result self.old chan.0 id opening.now.keys) }
     {
         let answer = self.open_answer(chan, id, &opening.keys);
@@ -110,15 +110,13 @@ impl Parts {
     fn add_circuit(&mut self, chan: ChanNo, id: u32, opening: &Opening) -> Result<(), AllocError>
         requires fixed { is_var opening.now.reply.body ≡ false }
         requires command { IfSome opening.now.keys (λ _. IsTrue (opens_circuit opening.now.reply.command)) }
-        ensures ok { OnOk result (counted self.new ≡ with_circuit self.old chan.0 id opening.now.reply opening.now.keys opening.now.pad) }
+        ensures ok { OnOk result (counted self.new ≡ with_circuit self.old chan.0 id opening.now.reply opening.now.keys) }
         ensures err { OnErr result (self.new ≡ self.old) }
     {
-        let Some(keys) = opening.keys else {
+        if opening.keys.is_none() {
             return Ok(());
-        };
+        }
         self.circuits.push(Circuit {
-            keys,
-            pad: opening.pad,
             leg: Leg::new(chan, id, &opening.reply),
         })?;
         Ok(())

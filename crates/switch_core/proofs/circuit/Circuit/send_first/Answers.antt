@@ -7,5 +7,5 @@ use Rattle.switch_core.proofs.circuit.Circuit.send_first.Goals as goal
 
 pub returns-clause-state : goal.returns-clause-state
 returns-clause-state c =
-    subst (λ (x : CircuitState). FirstSent c.args.now x (circuit_of c.self.inside.keys c.self.inside.pad c.send_first.new.self)) c.self.view_is
-    (first_sent c.self.inside.keys c.self.inside.pad c.self.inside.leg c.send_first.new.self c.args.now c.send_first.ensures.state)
+    subst (λ (x : CircuitState). FirstSent c.args.now x (circuit_of c.send_first.new.self)) c.self.view_is
+    (first_sent c.self.inside.leg c.send_first.new.self c.args.now c.send_first.ensures.single c.send_first.ensures.state)
