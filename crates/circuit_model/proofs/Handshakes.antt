@@ -1,7 +1,7 @@
 -- The handshake in an EXTEND2 is no longer than its payload.
-use Rattle.std.proofs.Common.{◌≡◌, ℕ, ◌+◌, ◌≤◌, ◌-◌, ◌++◌, ◌&&◌, replicate, zero, suc, List, [], ◌∷◌, length, take, drop, Bool, true, false, if◌then◌else◌, nat_le, Option, Some, None, option_map, option_and_then, refl, ap, arith, length-drop, length-take}
-use Rattle.std.specs.Int.{w16, to_be_bytes, from_be_bytes}
-use Rattle.tor_spec.specs.Extend.{Address, Extend, Specifier, is_specifier_length, specifier, put_before, specifiers, first_address, destination, handshake_reply, handshake_request, make_extend, request_behind, extend_request, handshake_reply_payload, handshake_request_payload}
+use Rattle.std.proofs.Common.{◌≡◌, ℕ, ◌+◌, ◌≤◌, ◌&&◌, zero, suc, List, [], ◌∷◌, length, take, drop, Bool, true, false, if◌then◌else◌, nat_le, Option, Some, None, option_map, option_and_then, refl, ap, arith, length-drop, length-take}
+use Rattle.std.specs.Int.{w16, from_be_bytes}
+use Rattle.tor_spec.specs.Extend.{Address, Extend, Specifier, is_specifier_length, specifier, put_before, specifiers, first_address, destination, handshake_reply, handshake_request, make_extend, request_behind, extend_request}
 
 -- What a result that is there came from.
 

@@ -8,7 +8,7 @@ use Rattle.circuit_model.specs.declared.places.Phase.TheVariants.{Reaching, Join
 use Rattle.circuit_model.specs.declared.places.Place.{Place as Declared}
 use Rattle.circuit_model.specs.Events.{Event}
 use Rattle.circuit_model.specs.declared.event.Event.TheVariants.{Connected, Freed}
-use Rattle.circuit_model.specs.Log.{Log, StreamKey, Order, collected}
+use Rattle.circuit_model.specs.Log.{Log, Order, collected}
 use Rattle.circuit_model.specs.declared.effects.Order.TheVariants.{Reach, Close}
 
 -- A place: the name of its stream, and where that is connected to.

@@ -39,7 +39,7 @@ use Rattle.tr_io.specs.declared.names.ClaimNote.{ClaimNote}
 use Rattle.tr_io.specs.declared.names.Dir.TheVariants.{Forth}
 use Rattle.tr_io.specs.declared.step.Step.{Step}
 
--- a legs-of-all function that is another function point by point
+-- the legs of the switch stay where those of the circuit that changes do
 pub legs-kept : (s : State) (c : ℕ) (x y : CircuitState) → slot_at s.circuits c ≡ Some x → y.legs ≡ x.legs → ◌≡◌ {A = Leg → Option LegState} (λ leg. leg_at (slot_at (with_slot s.circuits c (Some y)) leg.circ) leg.number) (leg_in s)
 legs-kept s c x y found same = fun_ext (λ leg. leg_in-kept s c x y found same leg)
 
