@@ -10,7 +10,7 @@ use Rattle.tr_io.specs.declared.names.CircNo.{CircNo}
 use Rattle.tr_io.specs.declared.names.ClaimNote.{ClaimNote}
 use Rattle.tr_io.specs.declared.names.Side.{Side}
 use Rattle.tr_io.specs.declared.step.Step.{Step}
-use Rattle.tr_io.specs.declared.step.Step.TheVariants.{ChannelUp, OpenCircuit, NextCell, TearDown, GiveBack, Abandon}
+use Rattle.tr_io.specs.declared.step.Step.TheVariants.{ChannelUp, OpenCircuit, NextCell, TearDown, GiveBack, Abandon, Claim}
 use Rattle.switch_model.specs.Start.{Start}
 use Rattle.switch_model.specs.History.Circuit.{events}
 use Rattle.switch_model.specs.Legal.{IsLegal}
@@ -30,6 +30,8 @@ use Rattle.switch_machine.proofs.NextCell.Kept.{next_cell_kept}
 use Rattle.switch_machine.proofs.TearDown.Kept.{tear_down_kept}
 use Rattle.switch_machine.proofs.GiveBack.Kept.{give_back_kept}
 use Rattle.switch_machine.proofs.Abandon.Kept.{abandon_kept}
+use Rattle.switch_machine.specs.Calls.Claim.{claim_result, claim_state}
+use Rattle.switch_machine.proofs.Claim.Kept.{claim_kept}
 
 -- a step is known by its answer, and the state's answer is that of the history
 with-up : (start : Start) (h : List Step) (slot : ℕ) (side : Side) (a : UpAnswer) (s : State) → IsLegal start (ChannelUp slot side a ∷ h) → Stands start s h → StandsForSomeState start (ChannelUp slot side a ∷ h)
@@ -69,6 +71,11 @@ with-abandoned start h note place a s legal st =
     let kept : Stands start t (Abandon note place (abandon_result start.name s note place) ∷ h) = abandon_kept start s h note place st in
     record { state = t; stands = subst (λ b. Stands start t (Abandon note place b ∷ h)) (kept.steps.legal.0.1 ∙ sym legal.0.1) kept }
 
+with-claim : (start : Start) (h : List Step) (worker : ℕ) (a : Option ClaimNote) (s : State) → IsLegal start (Claim worker a ∷ h) → Stands start s h → StandsForSomeState start (Claim worker a ∷ h)
+with-claim start h worker a s legal st =
+    let kept : Stands start (claim_state start.name s worker) (Claim worker (claim_result start.name s worker) ∷ h) = claim_kept start s h worker legal.0.0 st in
+    record { state = claim_state start.name s worker; stands = subst (λ b. Stands start (claim_state start.name s worker) (Claim worker b ∷ h)) (kept.steps.legal.0.1 ∙ sym legal.0.1) kept }
+
 pub built_stands : (start : Start) (h : List Step) → HasMachine h → IsLegal start h → StandsForSomeState start h
 built_stands start [] built legal = record { state = _; stands = stands_empty start }
 built_stands start (ChannelUp slot side a ∷ h) built legal =
@@ -89,4 +96,7 @@ built_stands start (GiveBack note place a ∷ h) built legal =
 built_stands start (Abandon note place a ∷ h) built legal =
     let some = built_stands start h built legal.1 in
     with-abandoned start h note place a some.state legal some.stands
+built_stands start (Claim worker a ∷ h) built legal =
+    let some = built_stands start h built legal.1 in
+    with-claim start h worker a some.state legal some.stands
 built_stands start (s ∷ h) built legal = absurd built

@@ -14,6 +14,9 @@ pub mod TearDown
 pub mod GiveBack
 pub mod Abandon
 pub mod Waiting
+pub mod OneWay
+pub mod SameLegs
+pub mod Claim
 pub mod Counting
 pub mod NextCell
 pub mod Laws

@@ -1,6 +1,6 @@
 //! Laws on the machine: whatever history a state stands for, each call's state stands for it with the
 //! step added.
-ghost use Rattle.std.specs.Prelude.{◌≡◌, ℕ, List, [], Option, true};
+ghost use Rattle.std.specs.Prelude.{◌≡◌, ℕ, List, [], Option, true, ◌<◌};
 ghost use Rattle.cell_codec.specs.declared.cell.Cell.{Cell};
 ghost use Rattle.kdf_tor.specs.declared.LayerKeys.{LayerKeys};
 ghost use Rattle.tr_io.specs.declared.names.ChanNo.{ChanNo};
@@ -8,7 +8,7 @@ ghost use Rattle.tr_io.specs.declared.names.CircNo.{CircNo};
 ghost use Rattle.tr_io.specs.declared.names.ClaimNote.{ClaimNote};
 ghost use Rattle.tr_io.specs.declared.names.Side.{Side};
 ghost use Rattle.tr_io.specs.declared.step.Step.{Step};
-ghost use Rattle.tr_io.specs.declared.step.Step.TheVariants.{ChannelUp, OpenCircuit, NextCell, TearDown, GiveBack, Abandon};
+ghost use Rattle.tr_io.specs.declared.step.Step.TheVariants.{ChannelUp, OpenCircuit, NextCell, TearDown, GiveBack, Abandon, Claim};
 ghost use Rattle.switch_model.specs.History.Circuit.{events};
 ghost use Rattle.switch_model.specs.Answers.TearDown.{tear_down_answer};
 ghost use Rattle.switch_model.specs.Answers.GiveBack.{give_back_answer};
@@ -29,6 +29,9 @@ ghost use Rattle.switch_model.specs.Answers.DialDone.{is_out};
 ghost use Rattle.switch_machine.specs.Calls.DialMemory.{dial_memory_state};
 ghost use Rattle.switch_model.specs.Legal.{IsLegal};
 ghost use Rattle.tr_io.specs.declared.dials.DialStep.{DialStep};
+ghost use Rattle.switch_model.specs.Limits.{worker_limit};
+ghost use Rattle.switch_model.specs.Answers.Claim.{claim_answer};
+ghost use Rattle.switch_machine.specs.Calls.Claim.{claim_result, claim_state};
 
 /// A new switch stands for the history without steps.
 pub fn a_new_switch_has_no_history()
@@ -88,6 +91,15 @@ pub fn abandon_is_one_step()
         AddsTo start h s t (Abandon note place (abandon_result start.name s note place)) }
     ensures answer { (start : Start) (s : State) (h : List Step) (note : ClaimNote) (place : Option ℕ) → Stands start s h →
         abandon_result start.name s note place ≡ abandon_answer start h note place }
+{}
+
+/// A claim, with a job or without one, is one step.
+#[tactic(auto, using(crate::proofs::Claim::Law::claim_adds, crate::proofs::Claim::Said::claim_said))]
+pub fn claim_is_one_step()
+    ensures adds { (start : Start) (s t : State) (worker : ℕ) → worker < worker_limit → t ≡ claim_state start.name s worker →
+        Adds start s t (Claim worker (claim_result start.name s worker)) }
+    ensures answer { (start : Start) (s : State) (h : List Step) (worker : ℕ) → Stands start s h →
+        claim_result start.name s worker ≡ claim_answer start h worker }
 {}
 
 /// dial_done of an order that is out, where memory is wanting, is no step: the switch stands for the same

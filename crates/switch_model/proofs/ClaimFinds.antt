@@ -29,7 +29,7 @@ dir-is Back Back same = refl
 dir-is Forth Back same = absurd cc
 dir-is Back Forth same = absurd cc
 
-ways-same : (a b : ℕ) (x y : Dir) → a ≡ b → x ≡ y → ◌≡◌ {A = Way} (record { circ = a; dir = x }) (record { circ = b; dir = y })
+pub ways-same : (a b : ℕ) (x y : Dir) → a ≡ b → x ≡ y → ◌≡◌ {A = Way} (record { circ = a; dir = x }) (record { circ = b; dir = y })
 ways-same a b x y same_circ same_direction = rw (same_circ, same_direction) refl
 
 pub way-is : (a b : Way) → same_way a b ≡ true → a ≡ b
