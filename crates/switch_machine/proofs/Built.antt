@@ -10,7 +10,7 @@ use Rattle.tr_io.specs.declared.names.CircNo.{CircNo}
 use Rattle.tr_io.specs.declared.names.ClaimNote.{ClaimNote}
 use Rattle.tr_io.specs.declared.names.Side.{Side}
 use Rattle.tr_io.specs.declared.step.Step.{Step}
-use Rattle.tr_io.specs.declared.step.Step.TheVariants.{ChannelUp, OpenCircuit, NextCell, TearDown, GiveBack, Abandon, Claim}
+use Rattle.tr_io.specs.declared.step.Step.TheVariants.{ChannelUp, OpenCircuit, NextCell, TearDown, GiveBack, Abandon, Claim, Take}
 use Rattle.switch_model.specs.Start.{Start}
 use Rattle.switch_model.specs.History.Circuit.{events}
 use Rattle.switch_model.specs.Legal.{IsLegal}
@@ -32,6 +32,9 @@ use Rattle.switch_machine.proofs.GiveBack.Kept.{give_back_kept}
 use Rattle.switch_machine.proofs.Abandon.Kept.{abandon_kept}
 use Rattle.switch_machine.specs.Calls.Claim.{claim_result, claim_state}
 use Rattle.switch_machine.proofs.Claim.Kept.{claim_kept}
+use Rattle.tr_io.specs.declared.answers.TakeAnswer.{TakeAnswer}
+use Rattle.switch_machine.specs.Calls.Take.{take_result, take_state}
+use Rattle.switch_machine.proofs.Take.Kept.{take_kept}
 
 -- a step is known by its answer, and the state's answer is that of the history
 with-up : (start : Start) (h : List Step) (slot : ℕ) (side : Side) (a : UpAnswer) (s : State) → IsLegal start (ChannelUp slot side a ∷ h) → Stands start s h → StandsForSomeState start (ChannelUp slot side a ∷ h)
@@ -76,6 +79,14 @@ with-claim start h worker a s legal st =
     let kept : Stands start (claim_state start.name s worker) (Claim worker (claim_result start.name s worker) ∷ h) = claim_kept start s h worker legal.0.0 st in
     record { state = claim_state start.name s worker; stands = subst (λ b. Stands start (claim_state start.name s worker) (Claim worker b ∷ h)) (kept.steps.legal.0.1 ∙ sym legal.0.1) kept }
 
+with-taken : (start : Start) (h : List Step) (chan : ChanNo) (cell : Cell) (a : TakeAnswer) (s : State) → IsLegal start (Take chan cell a ∷ h) → Stands start s h → StandsForSomeState start (Take chan cell a ∷ h)
+with-taken start h chan cell a s legal st =
+    let kept : Stands start (take_state start.rules (events start.rules h) s chan.0 cell) (Take chan cell (take_result start.rules (events start.rules h) s chan.0 cell) ∷ h) = take_kept start s h chan.0 cell legal.0.0 st in
+    record {
+      state = take_state start.rules (events start.rules h) s chan.0 cell;
+      stands = subst (λ b. Stands start (take_state start.rules (events start.rules h) s chan.0 cell) (Take chan cell b ∷ h)) (kept.steps.legal.0.1 ∙ sym legal.0.1) kept;
+    }
+
 pub built_stands : (start : Start) (h : List Step) → HasMachine h → IsLegal start h → StandsForSomeState start h
 built_stands start [] built legal = record { state = _; stands = stands_empty start }
 built_stands start (ChannelUp slot side a ∷ h) built legal =
@@ -99,4 +110,7 @@ built_stands start (Abandon note place a ∷ h) built legal =
 built_stands start (Claim worker a ∷ h) built legal =
     let some = built_stands start h built legal.1 in
     with-claim start h worker a some.state legal some.stands
+built_stands start (Take chan cell a ∷ h) built legal =
+    let some = built_stands start h built legal.1 in
+    with-taken start h chan cell a some.state legal some.stands
 built_stands start (s ∷ h) built legal = absurd built

@@ -17,6 +17,7 @@ pub mod Waiting
 pub mod OneWay
 pub mod SameLegs
 pub mod Claim
+pub mod Take
 pub mod Counting
 pub mod NextCell
 pub mod Laws

@@ -8,7 +8,7 @@ ghost use Rattle.tr_io.specs.declared.names.CircNo.{CircNo};
 ghost use Rattle.tr_io.specs.declared.names.ClaimNote.{ClaimNote};
 ghost use Rattle.tr_io.specs.declared.names.Side.{Side};
 ghost use Rattle.tr_io.specs.declared.step.Step.{Step};
-ghost use Rattle.tr_io.specs.declared.step.Step.TheVariants.{ChannelUp, OpenCircuit, NextCell, TearDown, GiveBack, Abandon, Claim};
+ghost use Rattle.tr_io.specs.declared.step.Step.TheVariants.{ChannelUp, OpenCircuit, NextCell, TearDown, GiveBack, Abandon, Claim, Take};
 ghost use Rattle.switch_model.specs.History.Circuit.{events};
 ghost use Rattle.switch_model.specs.Answers.TearDown.{tear_down_answer};
 ghost use Rattle.switch_model.specs.Answers.GiveBack.{give_back_answer};
@@ -32,6 +32,9 @@ ghost use Rattle.tr_io.specs.declared.dials.DialStep.{DialStep};
 ghost use Rattle.switch_model.specs.Limits.{worker_limit};
 ghost use Rattle.switch_model.specs.Answers.Claim.{claim_answer};
 ghost use Rattle.switch_machine.specs.Calls.Claim.{claim_result, claim_state};
+ghost use Rattle.cell_codec.specs.Cells.{IsWellFormed};
+ghost use Rattle.switch_model.specs.Answers.Take.{take_answer};
+ghost use Rattle.switch_machine.specs.Calls.Take.{take_result, take_state};
 
 /// A new switch stands for the history without steps.
 pub fn a_new_switch_has_no_history()
@@ -100,6 +103,17 @@ pub fn claim_is_one_step()
         Adds start s t (Claim worker (claim_result start.name s worker)) }
     ensures answer { (start : Start) (s : State) (h : List Step) (worker : ℕ) → Stands start s h →
         claim_result start.name s worker ≡ claim_answer start h worker }
+{}
+
+/// A cell that a channel brings, queued, passed over or closing its circuit, is one step of the history whose
+/// events it was given.
+#[tactic(auto, using(crate::proofs::Take::Law::take_adds, crate::proofs::Take::Said::take_said))]
+pub fn take_is_one_step()
+    ensures adds { (start : Start) (h : List Step) (s t : State) (chan : ChanNo) (cell : Cell) → IsWellFormed cell →
+        t ≡ take_state start.rules (events start.rules h) s chan.0 cell →
+        AddsTo start h s t (Take chan cell (take_result start.rules (events start.rules h) s chan.0 cell)) }
+    ensures answer { (start : Start) (s : State) (h : List Step) (chan : ℕ) (cell : Cell) → Stands start s h →
+        take_result start.rules (events start.rules h) s chan cell ≡ take_answer start.rules h chan cell }
 {}
 
 /// dial_done of an order that is out, where memory is wanting, is no step: the switch stands for the same
