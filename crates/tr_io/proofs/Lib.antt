@@ -1,2 +1,5 @@
 pub mod Flushed
 pub mod OutputLaws
+mod Reaching
+mod Taking
+pub mod PieceLaws

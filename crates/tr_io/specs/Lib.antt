@@ -4,3 +4,10 @@ pub mod Sinks
 pub mod Output
 pub mod Memory
 pub mod Statuses
+pub mod PortSteps
+pub mod Pieces
+pub mod Sessions
+pub mod MemorySlots
+pub mod Draws
+pub mod Outlets
+pub mod MemoryOutlets
