@@ -27,3 +27,7 @@ pub record IsDoneJob (done : DoneParts) : Type 0 where
   pub job : IsJob (record { note = done.note; cipher = done.start; bodies = done.input })
   pub layer : IsOfLayer done.start
   pub worked : IsWorked done.start done.input.items done.output.items done.end
+
+-- The note, the start state and the input of what was worked are those of the job.
+abbrev pub IsWorkOf : DoneParts → JobParts → Type 0
+IsWorkOf done job = (done.note ≡ job.note) × (done.start ≡ job.cipher) × (done.input ≡ job.bodies)

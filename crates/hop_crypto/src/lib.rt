@@ -14,6 +14,7 @@ mod cipher;
 mod job;
 mod opener;
 mod parts;
+mod port;
 mod ready;
 mod sealer;
 #[cfg(test)]
