@@ -1,0 +1,4 @@
+pub mod Sizes
+mod Pieces
+mod Rounds
+mod Running
