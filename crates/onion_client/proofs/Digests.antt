@@ -1,0 +1,46 @@
+-- The running digest takes the Digest field of a body as zero.
+use Rattle.std.proofs.Common.{◌≡◌, ℕ, [], ◌∷◌, ◌++◌, List, length, refl, ap, sym, ◌∙◌, arith}
+use Rattle.std.specs.List.{flat_map}
+use Rattle.std.proofs.lemmas.Grind.{flat_map-append}
+use Rattle.sha1.specs.Sha1.{sha1}
+use Rattle.crypto_spec.specs.RunningDigest.{zeroed, digest_message, running_digest}
+use Rattle.tor_spec.specs.RelayCell.{with_digest}
+use Rattle.run_digest.specs.HashState.{HashState, hash_state, StandsFor}
+use Rattle.hop_crypto.specs.OpenerState.{StreamPlace, OpenerState}
+use Rattle.circuit_model.specs.PathLayers.{PathHop}
+use Rattle.onion_client.specs.LayerState.{sealing_of, with_meant}
+
+-- with its Digest and without
+zeroed-digest : (body : List ℕ) (a b c d : ℕ) → length body ≡ 509 → zeroed body ≡ zeroed (with_digest body (a ∷ b ∷ c ∷ d ∷ []))
+unfolding with_digest
+zeroed-digest (m ∷ n ∷ o ∷ p ∷ q ∷ r ∷ s ∷ t ∷ u ∷ rest) a b c d long = refl
+zeroed-digest _ a b c d long = absurd (omega arith)
+
+message-same : (seed : List ℕ) (before : List (List ℕ)) (x y : List ℕ) → zeroed x ≡ zeroed y →
+    digest_message seed (before ++ x ∷ []) ≡ digest_message seed (before ++ y ∷ [])
+unfolding digest_message
+message-same seed before x y same =
+    let last : flat_map zeroed (x ∷ []) ≡ flat_map zeroed (y ∷ []) = ap (λ z. z ++ []) same in
+    ap (λ z. seed ++ z)
+    (flat_map-append zeroed before (x ∷ []) ∙ ap (λ z. flat_map zeroed before ++ z) last ∙ sym (flat_map-append zeroed before (y ∷ [])))
+
+-- a body that was given its Digest
+pub stands_with_digest : (state : HashState) (seed : List ℕ) (before : List (List ℕ)) (body sent : List ℕ) (a b c d : ℕ) →
+    length body ≡ 509 → sent ≡ with_digest body (a ∷ b ∷ c ∷ d ∷ []) →
+    StandsFor state seed (before ++ body ∷ []) → StandsFor state seed (before ++ sent ∷ [])
+stands_with_digest state seed before body sent a b c d long s e =
+    e ∙ ap hash_state (rw s (message-same seed before body (with_digest body (a ∷ b ∷ c ∷ d ∷ [])) (zeroed-digest body a b c d long)))
+
+pub digest_with_digest : (seed : List ℕ) (before : List (List ℕ)) (body sent : List ℕ) (a b c d : ℕ) →
+    length body ≡ 509 → sent ≡ with_digest body (a ∷ b ∷ c ∷ d ∷ []) →
+    running_digest seed (before ++ body ∷ []) ≡ running_digest seed (before ++ sent ∷ [])
+unfolding running_digest
+digest_with_digest seed before body sent a b c d long s =
+    rw s (ap sha1 (message-same seed before body (with_digest body (a ∷ b ∷ c ∷ d ∷ [])) (zeroed-digest body a b c d long)))
+
+-- A layer by its parts, with one more body that was meant for its hop.
+pub sealing_by_parts : (o : OpenerState) (hop : PathHop) (body : List ℕ) → o.stream ≡ (sealing_of hop).stream →
+    StandsFor o.digest hop.keys.df (hop.meant ++ body ∷ []) → o ≡ sealing_of (with_meant hop body)
+sealing_by_parts o hop body place digest =
+    let made : StreamPlace → HashState → OpenerState = λ s d. record { stream = s; digest = d } in
+    ap (λ (s : StreamPlace). made s o.digest) place ∙ ap (λ (d : HashState). made (sealing_of hop).stream d) digest

@@ -1,0 +1,5 @@
+pub mod Digests
+pub mod Layering
+pub mod Peeling
+pub mod Paths
+pub mod Room
