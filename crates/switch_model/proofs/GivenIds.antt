@@ -189,15 +189,15 @@ at-given-if : (P : Type 0) (b : Bool) (leg : Leg) (x : Option Leg) → (b ≡ tr
 at-given-if P true leg x here there is = here refl
 at-given-if P false leg x here there is = there is
 
-none-leg : (b : Bool) (x : Option Leg) → is_some (if b then None else x) ≡ true → is_some x ≡ true
-none-leg true x is = absurd cc
-none-leg false x is = is
+pub was-some : (b : Bool) (x : Option Leg) → is_some (if b then None else x) ≡ true → is_some x ≡ true
+was-some true x is = absurd cc
+was-some false x is = is
 
 opened-given : (start : Start) (h : List Step) (n : ChanNo) (i chan id : ℕ) → IsGiven h n.0 i → ((n.0 == chan) && (i == id)) ≡ true → IsGiven h chan id
 opened-given start h n i chan id given both =
     subst (λ x. IsGiven h chan x) (same-number i id (and-second (n.0 == chan) _ both)) (subst (λ x. IsGiven h x i) (same-number n.0 chan (and-first (n.0 == chan) _ both)) given)
 
-some-live : (x : Option Channel) → opened_by_us x ≡ true → is_some x ≡ true
+pub some-live : (x : Option Channel) → opened_by_us x ≡ true → is_some x ≡ true
 some-live (Some channel) ours = refl
 some-live None ours = absurd cc
 
@@ -230,7 +230,7 @@ at-given start (OpenCircuit n i reply keys pad (Opened c) ∷ h) legal chan id i
 at-given start (DialDone order outcome (DialAnswer.Up n) ∷ h) legal chan id is =
     at-given-if (IsGiven (DialDone order outcome (DialAnswer.Up n) ∷ h) chan id) ((n.0 == chan) && (next_given_id h chan == id)) _ (at h chan id) (linked-given start h order outcome n chan id legal)
     (λ was. given-stays start h (DialDone order outcome (DialAnswer.Up n)) chan id legal (at-given start h legal.1 chan id was)) is
-at-given start (NextCell n tick (Some cell) ∷ h) legal chan id is = given-stays start h (NextCell n tick (Some cell)) chan id legal (at-given start h legal.1 chan id (none-leg (is_destroy_for n cell chan id) (at h chan id) is))
-at-given start (Take n cell answer ∷ h) legal chan id is = given-stays start h (Take n cell answer) chan id legal (at-given start h legal.1 chan id (none-leg (is_destroy_for n cell chan id) (at h chan id) is))
-at-given start (ChannelDown n BackAnswer.Settled ∷ h) legal chan id is = given-stays start h (ChannelDown n BackAnswer.Settled) chan id legal (at-given start h legal.1 chan id (none-leg (n.0 == chan) (at h chan id) is))
+at-given start (NextCell n tick (Some cell) ∷ h) legal chan id is = given-stays start h (NextCell n tick (Some cell)) chan id legal (at-given start h legal.1 chan id (was-some (is_destroy_for n cell chan id) (at h chan id) is))
+at-given start (Take n cell answer ∷ h) legal chan id is = given-stays start h (Take n cell answer) chan id legal (at-given start h legal.1 chan id (was-some (is_destroy_for n cell chan id) (at h chan id) is))
+at-given start (ChannelDown n BackAnswer.Settled ∷ h) legal chan id is = given-stays start h (ChannelDown n BackAnswer.Settled) chan id legal (at-given start h legal.1 chan id (was-some (n.0 == chan) (at h chan id) is))
 at-given start (s ∷ h) legal chan id is = given-stays start h s chan id legal (at-given start h legal.1 chan id is)

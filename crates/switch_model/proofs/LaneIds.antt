@@ -69,7 +69,7 @@ refused-given start h (OpenCircuit n id reply keys pad (Refused why)) chan d leg
     given-stays start h (OpenCircuit n id reply keys pad (Refused why)) chan d.id legal (subst (λ x. IsGiven h chan x) (sym refused.same_id) (subst (λ x. IsGiven h x id) refused.channel given))
 refused-given start h s chan d legal refused = absurd refused
 
-leg-some : (c k : ℕ) (x : Option Leg) → is_leg c k x ≡ true → is_some x ≡ true
+pub leg-some : (c k : ℕ) (x : Option Leg) → is_leg c k x ≡ true → is_some x ≡ true
 leg-some c k (Some leg) is = refl
 leg-some c k None is = absurd cc
 
@@ -108,7 +108,7 @@ over-channel : (h : List Step) (b : Bool) (n chan id : ℕ) → (n == chan) ≡ 
 over-channel h true n chan id is ours given = above true (next_given_id h chan) id (given.below (subst (λ x. opened_by_us (channel_at h x) ≡ true) (same-number n chan is) ours))
 over-channel h false n chan id is ours given = refl
 
-link-untaken : (h : List Step) (outcome : DialOutcome) (n chan id : ℕ) → IsLinkedOver h outcome n → IsGiven h chan id → ((n == chan) && (next_given_id h chan == id)) ≡ false
+pub link-untaken : (h : List Step) (outcome : DialOutcome) (n chan id : ℕ) → IsLinkedOver h outcome n → IsGiven h chan id → ((n == chan) && (next_given_id h chan == id)) ≡ false
 link-untaken h (DialOutcome.Opened slot) n chan id linked given = new-channel (n == chan) n chan (channels h) id (next_given_id h chan) refl linked given.up
 link-untaken h (DialOutcome.Over over) n chan id linked given = over-channel h (n == chan) n chan id refl linked given
 link-untaken h DialOutcome.Failed n chan id linked given = absurd linked

@@ -31,3 +31,10 @@ pub mod LaneIds
 pub mod SentBegins
 pub mod SameEvents
 pub mod LegsAtRest
+pub mod NoDestroys
+pub mod DestroyLast
+pub mod EventsFit
+pub mod LinkCounts
+pub mod LegLives
+pub mod DestroySent
+pub mod AllSent

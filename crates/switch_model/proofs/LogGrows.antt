@@ -101,7 +101,7 @@ events-longer rules h (DialDone order outcome (DialAnswer.Full n)) c = longer-wi
 events-longer rules h s c = longer-none (opens c s) (events rules h c)
 
 -- what is sent on a leg
-hop-one : (l : Log) (k : ℕ) → one l (suc k) ≡ sent_to_hop l (suc k)
+pub hop-one : (l : Log) (k : ℕ) → one l (suc k) ≡ sent_to_hop l (suc k)
 hop-one l k = let positive : (suc k == 0) ≡ false = grind (arith, nat_tests) in rw positive refl
 
 one-more : (rules : Rules) (ev : List Event) (e : Event) → keys_in e ≡ None → (k : ℕ) → Begins (one (log rules ev) k) (one (log rules (e ∷ ev)) k)

@@ -81,10 +81,10 @@ made-or false m c k lc lk x none is here = here
 turned-zero : (k : ℕ) → (0 == k) ≡ (k == 0)
 turned-zero k = grind (arith, nat_tests)
 
-turned : (a b : ℕ) → (a == b) ≡ (b == a)
+pub turned : (a b : ℕ) → (a == b) ≡ (b == a)
 turned a b = grind (arith, nat_tests)
 
-link-same : (b : Bool) (h : List Step) (n c k : ℕ) → (n == c) ≡ b → ((n == c) && (hops h n + 1 == k)) ≡ ((n == c) && (k == hops h c + 1))
+pub link-same : (b : Bool) (h : List Step) (n c k : ℕ) → (n == c) ≡ b → ((n == c) && (hops h n + 1 == k)) ≡ ((n == c) && (k == hops h c + 1))
 link-same true h n c k is = let same = same-number n c is in rw (is, same) (turned (hops h c + 1) k)
 link-same false h n c k is = rw is refl
 

@@ -8,11 +8,13 @@ ghost use Rattle.tr_io.specs.declared.step.Step.{Step};
 ghost use Rattle.tr_io.specs.declared.step.Step.TheVariants.{NextCell};
 ghost use Rattle.switch_model.specs.Start.{Start};
 ghost use Rattle.switch_model.specs.Names.{is_leg, circuit_cell};
+ghost use Rattle.switch_model.specs.History.LegEnds.{is_ended_outside};
 ghost use Rattle.switch_model.specs.History.Legs.{at, holds_id};
 ghost use Rattle.switch_model.specs.History.Circuit.{is_live_circuit, sent, events};
 ghost use Rattle.switch_model.specs.History.Relayed.{AreComparable};
 ghost use Rattle.switch_model.specs.Waiting.Queues.{circuit_log, sealed_count, sendable, queue};
 ghost use Rattle.switch_model.specs.Waiting.Lanes.{Destroy, lane};
+ghost use Rattle.switch_model.specs.Waiting.Rest.{IsAtRest};
 ghost use Rattle.switch_model.specs.Legal.{IsLegal};
 
 /// What left on a leg before its circuit was torn down is the beginning of what the one-thread relay sends there
@@ -52,4 +54,12 @@ pub fn the_same_events_send_comparable_cells()
 pub fn at_rest_a_leg_has_sent_all()
     ensures { (start : Start) (h : List Step) (c k : ℕ) → IsLegal start h → is_live_circuit start.rules h c ≡ true → holds_id h c k ≡ true →
         queue start.rules h c k ≡ [] → sent start.rules h c k ≡ sendable (circuit_log start.rules h c) (sealed_count h c) k }
+{}
+
+/// At rest a circuit was sent all that the one-thread relay sends, on each leg that neither the peer nor its
+/// channel ended.
+#[tactic(auto, using(crate::proofs::AllSent::at_rest_all_sent))]
+pub fn at_rest_all_is_sent()
+    ensures { (start : Start) (h : List Step) (c k : ℕ) → IsLegal start h → IsAtRest start.rules h c → is_ended_outside h c k ≡ false →
+        sent start.rules h c k ≡ one (circuit_log start.rules h c) k }
 {}
