@@ -25,4 +25,3 @@ pub mod Again
 pub mod Built
 pub mod Low
 pub mod PlainLists
-pub mod AtRest

@@ -6,5 +6,4 @@
 //! right one, and the state behind the call stands for the history with that step added.
 #![tactic(auto)]
 
-pub mod circuits;
 pub mod machine;
