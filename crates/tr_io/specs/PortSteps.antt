@@ -34,10 +34,10 @@ pub record Adds (before steps after : List Step) : Type 0 where
   pub behind : after ≡ before ++ steps
   pub few : length after ≤ 2 ^ 62
 
--- A turn adds the steps of its answer. Where it was Spent, none is added.
-abbrev pub Turned : {A : Type 0} → (A → List Step) → List Step → Turn A → List Step → Type 0
-Turned steps before (Did a) after = Adds before (steps a) after
-Turned steps before Spent after = after ≡ before
+-- A call adds the steps of its answer. Where no step was left, none is added.
+abbrev pub CallAdds : {A : Type 0} → (A → List Step) → List Step → Turn A → List Step → Type 0
+CallAdds steps before (Did a) after = Adds before (steps a) after
+CallAdds steps before Spent after = after ≡ before
 
 -- What holds of the answer, where the turn was made.
 abbrev pub IfDid : {A : Type 0} → Turn A → (A → Type 0) → Type 0
@@ -88,11 +88,11 @@ IsEventStep (Events.Data bytes) (EventSteps.Data octets) = octets.bytes.items �
 IsEventStep (Events.Data bytes) event = ⊥
 IsEventStep (Events.Ended reason) event = event ≡ EventSteps.Ended reason
 
-abbrev pub EdgeInTurned : StreamKey → EdgeEvent → List Step → Turn EdgeAnswer → List Step → Type 0
-EdgeInTurned key event before (Did EdgeAnswer.Memory) after = Adds before [] after
-EdgeInTurned key event before (Did answer) after =
+abbrev pub EdgeInAdds : StreamKey → EdgeEvent → List Step → Turn EdgeAnswer → List Step → Type 0
+EdgeInAdds key event before (Did EdgeAnswer.Memory) after = Adds before [] after
+EdgeInAdds key event before (Did answer) after =
     (step : EventStep) × IsEventStep event step × Adds before (EdgeIn key step answer ∷ []) after
-EdgeInTurned key event before Spent after = after ≡ before
+EdgeInAdds key event before Spent after = after ≡ before
 
 -- The step keeps what was ordered.
 abbrev pub IsOrderStep : EdgeOrder → OrderStep → Type 0
@@ -106,10 +106,10 @@ KeepsOrder None step = step ≡ None
 KeepsOrder (Some order) None = ⊥
 KeepsOrder (Some order) (Some step) = IsOrderStep order step
 
-abbrev pub EdgeOutTurned : ℕ → List Step → Turn (Option EdgeOrder) → List Step → Type 0
-EdgeOutTurned slot before (Did order) after =
+abbrev pub EdgeOutAdds : ℕ → List Step → Turn (Option EdgeOrder) → List Step → Type 0
+EdgeOutAdds slot before (Did order) after =
     (step : Option OrderStep) × KeepsOrder order step × Adds before (EdgeOut slot step ∷ []) after
-EdgeOutTurned slot before Spent after = after ≡ before
+EdgeOutAdds slot before Spent after = after ≡ before
 
 -- The bytes of one DATA, where the edge reports some (tor-spec, "Relay cells").
 abbrev pub FitsCell : EdgeEvent → Type 0
