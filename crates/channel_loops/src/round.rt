@@ -21,6 +21,7 @@ pub(crate) fn round<K: SlotOut, P: CorePort, C: Clock>(
     requires { P.is_own port.now pass.old }
     ensures own { P.is_own port.now pass.new }
     ensures same { (line.new.session ≡ line.old.session) × (line.new.chan ≡ line.old.chan) }
+    ensures spent { result ≡ Some LoopEnd.Spent → P.is_spent pass.new }
     ensures slot { K.slot link.new ≡ K.slot link.old }
     ensures made { RoundMade [] line.old.chan line.old.session (record { steps = P.mine pass.old; written = K.written link.old; faults = K.faults link.old }) (record { steps = P.mine pass.new; written = K.written link.new; faults = K.faults link.new }) result }
     ensures counted { K.faults link.old ≤ K.faults link.new }
@@ -47,6 +48,7 @@ fn send_next<K: SlotOut, P: CorePort, C: Clock>(
     requires room { (line.old.bytes.items ≡ []) × (65542 ≤ vec_capacity line.old.bytes) }
     ensures own { P.is_own port.now pass.new }
     ensures same { (line.new.session ≡ line.old.session) × (line.new.chan ≡ line.old.chan) }
+    ensures spent { result ≡ Some LoopEnd.Spent → P.is_spent pass.new }
     ensures slot { K.slot link.new ≡ K.slot link.old }
     ensures made { RoundMade (Halted false ∷ []) line.old.chan line.old.session (record { steps = P.mine pass.old; written = K.written link.old; faults = K.faults link.old }) (record { steps = P.mine pass.new; written = K.written link.new; faults = K.faults link.new }) result }
     ensures counted { K.faults link.old ≤ K.faults link.new }

@@ -35,6 +35,7 @@ pub fn write_session<K: SlotOut, P: CorePort, C: Clock>(
 ) -> LoopEnd
     requires { P.is_own port.now pass.old }
     ensures own { P.is_own port.now pass.new }
+    ensures spent { result ≡ LoopEnd.Spent → P.is_spent pass.new }
     ensures slot { K.slot link.new ≡ K.slot link.old }
     ensures rounds { (steps : List Step) × (P.mine pass.new ≡ P.mine pass.old ++ steps) × IsWriterRun chan session (K.written link.old) (K.written link.new) (K.faults link.old) (K.faults link.new) result steps }
     ensures counted { K.faults link.old ≤ K.faults link.new }
@@ -56,6 +57,7 @@ fn write_rounds<K: SlotOut, P: CorePort, C: Clock>(
 ) -> LoopEnd
     requires { P.is_own port.now pass.old }
     ensures own { P.is_own port.now pass.new }
+    ensures spent { result ≡ LoopEnd.Spent → P.is_spent pass.new }
     ensures slot { K.slot link.new ≡ K.slot link.old }
     ensures rounds { (steps : List Step) × (P.mine pass.new ≡ P.mine pass.old ++ steps) × IsWriterRun line.old.chan line.old.session (K.written link.old) (K.written link.new) (K.faults link.old) (K.faults link.new) result steps }
     ensures counted { K.faults link.old ≤ K.faults link.new }

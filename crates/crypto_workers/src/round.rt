@@ -23,6 +23,7 @@ pub(crate) fn round<P: CorePort<Job = Job, Done = Done>, G: Gate>(
     requires own { P.is_own port.now pass.old }
     requires worker { worker < 64 }
     ensures own { P.is_own port.now pass.new }
+    ensures spent { result ≡ Some LoopEnd.Spent → P.is_spent pass.new }
     ensures steps { MatchOption result ((r : Round) × Adds (P.mine pass.old) (round_steps worker r) (P.mine pass.new)) (λ end. (steps : List Step) × (P.mine pass.new ≡ P.mine pass.old ++ steps) × IsLastPart worker end steps) }
 {
     match port.halted(pass) {
@@ -42,6 +43,7 @@ fn claim_and_work<P: CorePort<Job = Job, Done = Done>, G: Gate>(
     requires own { P.is_own port.now pass.old }
     requires worker { worker < 64 }
     ensures own { P.is_own port.now pass.new }
+    ensures spent { result ≡ Some LoopEnd.Spent → P.is_spent pass.new }
     ensures steps { MatchOption result ((r : Round) × Adds (P.mine pass.old) (claim_steps worker r) (P.mine pass.new)) (λ end. (steps : List Step) × (P.mine pass.new ≡ P.mine pass.old ++ steps) × IsLastClaim worker end steps) }
 {
     match port.claim(pass, worker) {
@@ -66,6 +68,7 @@ fn work_and_return<P: CorePort<Job = Job, Done = Done>, G: Gate>(
     requires own { P.is_own port.now pass.old }
     requires gave { P.gave pass.old job }
     ensures own { P.is_own port.now pass.new }
+    ensures spent { result ≡ Some LoopEnd.Spent → P.is_spent pass.new }
     ensures steps { MatchOption result ((a : BackAnswer) × Adds (P.mine pass.old) (GiveBack job.note None a ∷ []) (P.mine pass.new)) (λ end. (end ≡ LoopEnd.Spent) × (P.mine pass.new ≡ P.mine pass.old)) }
 {
     gate.pass(worker, 0);

@@ -27,6 +27,7 @@ pub fn worker_loop<P: CorePort<Job = Job, Done = Done>, G: Gate>(
     requires own { P.is_own port.now pass.old }
     requires worker { worker < 64 }
     ensures own { P.is_own port.now pass.new }
+    ensures spent { result ≡ LoopEnd.Spent → P.is_spent pass.new }
     ensures rounds { (steps : List Step) × (P.mine pass.new ≡ P.mine pass.old ++ steps) × IsWorkerRun worker result steps }
 {
     'rounds: loop {

@@ -44,6 +44,11 @@ abbrev pub IfDid : {A : Type 0} → Turn A → (A → Type 0) → Type 0
 IfDid (Did a) P = P a
 IfDid Spent P = ⊤
 
+-- What holds where no step was left.
+abbrev pub IfSpent : {A : Type 0} → Turn A → Type 0 → Type 0
+IfSpent (Did a) P = ⊤
+IfSpent Spent P = P
+
 -- The steps of each call, by its answer: one, with this answer. A call that wanted memory is none.
 
 abbrev pub up_steps : ℕ → Side → UpAnswer → List Step

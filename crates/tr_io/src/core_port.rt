@@ -4,7 +4,7 @@ ghost use Rattle.cell_codec.specs.Cells.{is_var, IsWellFormed};
 ghost use Rattle.tor_spec.specs.CellCommands.{opens_circuit};
 ghost use Rattle.tr_io.specs.declared.step.Step.{Step};
 ghost use Rattle.tr_io.specs.declared.step.Step.TheVariants as Made;
-ghost use Rattle.tr_io.specs.PortSteps.{CallAdds, IfDid, IfJob, EdgeInAdds, EdgeOutAdds, FitsCell, up_steps, open_steps, take_steps, claim_steps, drained_steps, dial_done_steps, dial_step_of};
+ghost use Rattle.tr_io.specs.PortSteps.{CallAdds, IfDid, IfSpent, IfJob, EdgeInAdds, EdgeOutAdds, FitsCell, up_steps, open_steps, take_steps, claim_steps, drained_steps, dial_done_steps, dial_step_of};
 
 use crate::answers::{
     BackAnswer, ClaimAnswer, DialAnswer, EdgeAnswer, OpenAnswer, TakeAnswer, UpAnswer,
@@ -43,16 +43,21 @@ pub trait CorePort {
     /// A claim with this pass gave the job.
     ghost gave: { Self.Pass → Self.Job → Type 0 };
 
+    /// The pass has seen that no step is left: the switch's history has 2^62 of them.
+    ghost is_spent: { Self.Pass → Type 0 };
+
     /// Brings a channel up at a slot.
     fn channel_up(&self, pass: &mut Self::Pass, slot: u32, side: Side) -> Turn<UpAnswer>
         requires { is_own self.now pass.old }
         ensures own { is_own self.now pass.new }
+        ensures spent { IfSpent result (is_spent pass.new) }
         ensures step { CallAdds (up_steps slot side) (mine pass.old) result (mine pass.new) };
 
     /// Brings a channel down.
     fn channel_down(&self, pass: &mut Self::Pass, chan: ChanNo) -> Turn<BackAnswer>
         requires { is_own self.now pass.old }
         ensures own { is_own self.now pass.new }
+        ensures spent { IfSpent result (is_spent pass.new) }
         ensures step { CallAdds (λ a. Made.ChannelDown chan a ∷ []) (mine pass.old) result (mine pass.new) };
 
     /// Opens a circuit at a CircID of a channel. The opening's reply is of fixed length and, where it has
@@ -68,6 +73,7 @@ pub trait CorePort {
         requires fixed { is_var (Self.Opening.reply opening.now).body ≡ false }
         requires command { IfSome (Self.Opening.keys opening.now) (λ _. IsTrue (opens_circuit (Self.Opening.reply opening.now).command)) }
         ensures own { is_own self.now pass.new }
+        ensures spent { IfSpent result (is_spent pass.new) }
         ensures step { CallAdds (open_steps chan id (Self.Opening.reply opening.now) (Self.Opening.keys opening.now) (Self.Opening.pad opening.now)) (mine pass.old) result (mine pass.new) };
 
     /// Takes in a cell, which is well formed.
@@ -75,6 +81,7 @@ pub trait CorePort {
         requires own { is_own self.now pass.old }
         requires cell { IsWellFormed cell.now }
         ensures own { is_own self.now pass.new }
+        ensures spent { IfSpent result (is_spent pass.new) }
         ensures step { CallAdds (take_steps chan cell.now) (mine pass.old) result (mine pass.new) };
 
     /// Claims a job for a worker, whose number is below 64.
@@ -82,6 +89,7 @@ pub trait CorePort {
         requires own { is_own self.now pass.old }
         requires worker { worker < 64 }
         ensures own { is_own self.now pass.new }
+        ensures spent { IfSpent result (is_spent pass.new) }
         ensures step { CallAdds (claim_steps Self.Job.note worker) (mine pass.old) result (mine pass.new) }
         ensures gave { IfDid result (IfJob (gave pass.new)) };
 
@@ -90,6 +98,7 @@ pub trait CorePort {
     fn give_back(&self, pass: &mut Self::Pass, done: Self::Done) -> Turn<BackAnswer>
         requires { is_own self.now pass.old }
         ensures own { is_own self.now pass.new }
+        ensures spent { IfSpent result (is_spent pass.new) }
         ensures step { (place : Option ℕ) × CallAdds (λ a. Made.GiveBack (Self.Done.note done) place a ∷ []) (mine pass.old) result (mine pass.new) }
         ensures same { (job : Self.Job) → gave pass.old job → Self.Done.is_of done job → CallAdds (λ a. Made.GiveBack (Self.Done.note done) None a ∷ []) (mine pass.old) result (mine pass.new) };
 
@@ -97,6 +106,7 @@ pub trait CorePort {
     fn abandon(&self, pass: &mut Self::Pass, job: Self::Job) -> Turn<BackAnswer>
         requires { is_own self.now pass.old }
         ensures own { is_own self.now pass.new }
+        ensures spent { IfSpent result (is_spent pass.new) }
         ensures step { (place : Option ℕ) × CallAdds (λ a. Made.Abandon (Self.Job.note job) place a ∷ []) (mine pass.old) result (mine pass.new) }
         ensures same { gave pass.old job → CallAdds (λ a. Made.Abandon (Self.Job.note job) None a ∷ []) (mine pass.old) result (mine pass.new) };
 
@@ -104,6 +114,7 @@ pub trait CorePort {
     fn next_cell(&self, pass: &mut Self::Pass, chan: ChanNo, tick: u64) -> Turn<Option<Cell>>
         requires { is_own self.now pass.old }
         ensures own { is_own self.now pass.new }
+        ensures spent { IfSpent result (is_spent pass.new) }
         ensures step { CallAdds (λ a. Made.NextCell chan tick a ∷ []) (mine pass.old) result (mine pass.new) }
         ensures well_formed { IfDid result (λ a. IfSome a IsWellFormed) };
 
@@ -112,24 +123,28 @@ pub trait CorePort {
         requires own { is_own self.now pass.old }
         requires event { FitsCell event.now }
         ensures own { is_own self.now pass.new }
+        ensures spent { IfSpent result (is_spent pass.new) }
         ensures step { EdgeInAdds key event.now (mine pass.old) result (mine pass.new) };
 
     /// The next order to the edge connection at a slot.
     fn edge_out(&self, pass: &mut Self::Pass, slot: u32) -> Turn<Option<EdgeOrder>>
         requires { is_own self.now pass.old }
         ensures own { is_own self.now pass.new }
+        ensures spent { IfSpent result (is_spent pass.new) }
         ensures step { EdgeOutAdds slot (mine pass.old) result (mine pass.new) };
 
     /// Reports that the bytes of one order were written.
     fn drained(&self, pass: &mut Self::Pass, key: StreamKey) -> Turn<EdgeAnswer>
         requires { is_own self.now pass.old }
         ensures own { is_own self.now pass.new }
+        ensures spent { IfSpent result (is_spent pass.new) }
         ensures step { CallAdds (drained_steps key) (mine pass.old) result (mine pass.new) };
 
     /// The next order to connect to a next hop.
     fn dial_order(&self, pass: &mut Self::Pass) -> Turn<Option<DialOrder>>
         requires { is_own self.now pass.old }
         ensures own { is_own self.now pass.new }
+        ensures spent { IfSpent result (is_spent pass.new) }
         ensures step { CallAdds (λ a. Made.DialOrder (option_map dial_step_of a) ∷ []) (mine pass.old) result (mine pass.new) };
 
     /// Reports what came of an order to connect.
@@ -141,30 +156,35 @@ pub trait CorePort {
     ) -> Turn<DialAnswer>
         requires { is_own self.now pass.old }
         ensures own { is_own self.now pass.new }
+        ensures spent { IfSpent result (is_spent pass.new) }
         ensures step { CallAdds (dial_done_steps (dial_step_of order) outcome) (mine pass.old) result (mine pass.new) };
 
     /// Tears a circuit down for this reason.
     fn tear_down(&self, pass: &mut Self::Pass, circ: CircNo, reason: u8) -> Turn<BackAnswer>
         requires { is_own self.now pass.old }
         ensures own { is_own self.now pass.new }
+        ensures spent { IfSpent result (is_spent pass.new) }
         ensures step { CallAdds (λ a. Made.TearDown circ reason a ∷ []) (mine pass.old) result (mine pass.new) };
 
     /// Whether a channel is live.
     fn live(&self, pass: &mut Self::Pass, chan: ChanNo) -> Turn<bool>
         requires { is_own self.now pass.old }
         ensures own { is_own self.now pass.new }
+        ensures spent { IfSpent result (is_spent pass.new) }
         ensures step { CallAdds (λ a. Made.Live chan a ∷ []) (mine pass.old) result (mine pass.new) };
 
     /// Records that one of so many accepting slots has ended.
     fn halt(&self, pass: &mut Self::Pass, of: u32) -> Turn<()>
         requires { is_own self.now pass.old }
         ensures own { is_own self.now pass.new }
+        ensures spent { IfSpent result (is_spent pass.new) }
         ensures step { CallAdds (λ _. Made.Halt of ∷ []) (mine pass.old) result (mine pass.new) };
 
     /// Whether all accepting slots have ended.
     fn halted(&self, pass: &mut Self::Pass) -> Turn<bool>
         requires { is_own self.now pass.old }
         ensures own { is_own self.now pass.new }
+        ensures spent { IfSpent result (is_spent pass.new) }
         ensures step { CallAdds (λ a. Made.Halted a ∷ []) (mine pass.old) result (mine pass.new) };
 
     /// Waits until others have made steps that may give this pass work; it may come back before. It is no

@@ -74,6 +74,8 @@ impl CorePort for PlayPort {
 
     ghost gave = { λ _ _. ⊤ };
 
+    ghost is_spent = { λ _. ⊤ };
+
     fn channel_up(&self, _pass: &mut PlayPass, _slot: u32, _side: Side) -> Turn<UpAnswer> {
         Turn::Spent
     }
