@@ -40,7 +40,7 @@ stands_empty start = record {
     fresh = λ c beyond. record { past = refl; left = λ serial. refl; numbers = λ dir. refl };
   };
   ids = record { used = λ chan id. tt; apart = λ chan. tt; no_leg = λ c k chan id beyond. refl };
-  legs = record { lie = λ leg. tt; last = λ leg. tt; whole = λ c k alive holds ends. cc };
+  legs = record { lie = λ leg. tt };
   dials = record { are_out = tt; once = tt; never = λ order beyond. refl };
   counts = record { counts = λ leg. tt; no_count = λ c k beyond. refl };
   slots = record { slots = λ slot. refl; halts = refl; least_halt = λ n. refl };

@@ -1,14 +1,10 @@
 -- A history with one more step, and parts of which one clause changes.
-use Rattle.std.proofs.Common.{◌≡◌, ℕ, ◌+◌, List, ◌∷◌, Bool, Option, arith}
-use Rattle.circuit_model.specs.Events.{CircuitCell}
+use Rattle.std.proofs.Common.{◌≡◌, ℕ, ◌+◌, List, ◌∷◌, arith}
 use Rattle.tr_io.specs.declared.step.Step.{Step}
 use Rattle.switch_model.specs.Start.{Start}
-use Rattle.switch_model.specs.Names.{Leg}
 use Rattle.switch_model.specs.Legal.{IsRightStep}
-use Rattle.switch_machine.specs.State.{ChannelState, LegState}
 use Rattle.switch_machine.specs.Stands.Steps.{StepsStand}
 use Rattle.switch_machine.specs.Stands.Numbers.{Numbers, NumbersStand}
-use Rattle.switch_machine.specs.Stands.Legs.{LiesOn, LegsStand}
 
 pub step-added : (start : Start) (n : ℕ) (h : List Step) (step : Step) → StepsStand start n h → IsRightStep start h step → StepsStand start (n + 1) (step ∷ h)
 step-added start n h step own right = record { legal = (right, own.legal); count_is = omega (arith, own.count_is) }
@@ -24,8 +20,3 @@ circuit-count n p a b same own =
 pub tick-given : (n p : Numbers) (a b : ℕ) → a ≡ b → NumbersStand n p → NumbersStand (record n { tick = a }) (record p { tick = b })
 tick-given n p a b same own =
     record { channels = own.channels; circuits = own.circuits; claims = own.claims; bodies = own.bodies; dial_orders = own.dial_orders; tick = same }
-
--- legs that lie on other channels
-pub lie-changed : (old new : List (Option ChannelState)) (legs : Leg → Option LegState) (live : ℕ → Bool) (has_id ended : ℕ → ℕ → Bool) (sent may_leave : ℕ → ℕ → List CircuitCell) →
-    ((leg : Leg) → LiesOn old (legs leg) → LiesOn new (legs leg)) → LegsStand old legs live has_id ended sent may_leave → LegsStand new legs live has_id ended sent may_leave
-lie-changed old new legs live has_id ended sent may_leave lies own = record { lie = λ leg. lies leg (own.lie leg); last = own.last; whole = own.whole }

@@ -17,7 +17,7 @@ use Rattle.switch_machine.specs.Stands.Channels.{ChannelPast, channel_past, Chan
 use Rattle.switch_machine.specs.Stands.{Stands}
 use Rattle.switch_machine.specs.Calls.ChannelUp.{new_channel, channel_up_result, channel_up_state}
 use Rattle.switch_model.proofs.Common.{self_eq, not_equal}
-use Rattle.switch_machine.proofs.OneStep.{step-added, channel-count, lie-changed}
+use Rattle.switch_machine.proofs.OneStep.{step-added, channel-count}
 use Rattle.switch_machine.proofs.Lying.{lies-push}
 use Rattle.switch_machine.proofs.Slots.{slot_at-push, slot_at-past, count_below-same}
 
@@ -72,7 +72,7 @@ up-by start s h slot side false is st =
       };
       circuits = st.circuits;
       ids = st.ids;
-      legs = lie-changed s.channels _ (leg_in s) _ _ _ _ _ (λ leg. lies-push s.channels (Some (new_channel side)) (leg_in s leg) refl) st.legs;
+      legs = record { lie = λ leg. lies-push s.channels (Some (new_channel side)) (leg_in s leg) refl (st.legs.lie leg) };
       dials = st.dials;
       counts = st.counts;
       slots = st.slots;

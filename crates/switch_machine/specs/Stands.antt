@@ -5,11 +5,9 @@ use Rattle.std.specs.Prelude.{List, length}
 use Rattle.tr_io.specs.declared.step.Step.{Step}
 use Rattle.switch_model.specs.Start.{Start}
 use Rattle.switch_model.specs.History.Legs.{at, hops, holds_id}
-use Rattle.switch_model.specs.History.LegEnds.{is_ended_outside}
-use Rattle.switch_model.specs.History.Circuit.{is_live_circuit, sent}
+use Rattle.switch_model.specs.History.Circuit.{is_live_circuit}
 use Rattle.switch_model.specs.History.Past.{past}
 use Rattle.switch_model.specs.History.EdgePast.{edge_past}
-use Rattle.switch_model.specs.Waiting.Queues.{circuit_log, sealed_count, sendable}
 use Rattle.switch_model.specs.Waiting.Lanes.{lane}
 use Rattle.switch_model.specs.Waiting.Orders.{bound, is_reached}
 use Rattle.switch_model.specs.Waiting.Dials.{dials_made, was_handed_out}
@@ -48,8 +46,7 @@ pub record Stands (start : Start) (s : State) (h : List Step) : Type 0 where
   pub channels : ChannelsStand s.channels (λ chan. channel_past start.rules h chan)
   pub circuits : CircuitsStand start.rules s.last_closes s.circuits (λ c. past start.rules h c) (λ c k. holds_id h c k) (λ c. edge_past start.rules h c)
   pub ids : CircIdsStand (leg_in s) (λ chan. lane start.rules h chan) (at h) (is_live_circuit start.rules h) (length s.circuits)
-  pub legs : LegsStand s.channels (leg_in s) (is_live_circuit start.rules h) (λ c k. holds_id h c k) (is_ended_outside h)
-      (sent start.rules h) (λ c k. sendable (circuit_log start.rules h c) (sealed_count h c) k)
+  pub legs : LegsStand s.channels (leg_in s)
   pub dials : DialsStand s.again (dial_in s) (length (dials_made start.rules h)) (was_handed_out h)
   pub counts : CountsStand (leg_in s) (cell_count start.rules h) (tick h) (length s.circuits)
   pub slots : SlotsStand s.slots s.halts s.least_halt (bound h) (halts h) (λ n. some_halt n h)

@@ -10,9 +10,8 @@ use Rattle.tr_io.specs.declared.names.Dir.TheVariants.{Back, Forth}
 use Rattle.tr_io.specs.declared.step.Step.{Step}
 use Rattle.tr_io.specs.declared.step.Step.TheVariants.{Claim}
 use Rattle.switch_model.specs.Answers.EdgeOut.{Ordered}
-use Rattle.switch_model.specs.History.Circuit.{is_live_circuit, sent}
+use Rattle.switch_model.specs.History.Circuit.{is_live_circuit}
 use Rattle.switch_model.specs.History.EdgePast.{edge_past}
-use Rattle.switch_model.specs.History.LegEnds.{is_ended_outside}
 use Rattle.switch_model.specs.History.Legs.{at, holds_id}
 use Rattle.switch_model.specs.History.Past.{past}
 use Rattle.switch_model.specs.Legal.{IsRightStep}
@@ -22,7 +21,6 @@ use Rattle.switch_model.specs.Start.{Start}
 use Rattle.switch_model.specs.Waiting.Counts.{cell_count, tick}
 use Rattle.switch_model.specs.Waiting.Dials.{dials_made, was_handed_out}
 use Rattle.switch_model.specs.Waiting.Lanes.{lane}
-use Rattle.switch_model.specs.Waiting.Queues.{circuit_log, sealed_count, sendable}
 use Rattle.switch_machine.specs.Calls.Claim.{Offer, claim_note, claim_result, claim_result_of, claim_state, claim_state_by, claimed_way, first_number, note_at, offered, offered_by, soonest, way_at, with_way}
 use Rattle.switch_machine.specs.Machine.{counted, dial_in, kept_cells, leg_in, way_of_circuit}
 use Rattle.switch_machine.specs.Stands.{Stands}
@@ -34,10 +32,9 @@ use Rattle.switch_model.proofs.Others.{other_pasts}
 use Rattle.switch_machine.proofs.Claim.BodyNumbers.{self-way}
 use Rattle.switch_machine.proofs.Claim.FirstBody.{IsBest, soonest-best}
 use Rattle.switch_machine.proofs.Claim.Said.{claim_said}
-use Rattle.switch_machine.proofs.GiveBack.ForthKept.{legs-kept}
 use Rattle.switch_machine.proofs.OneCircuit.{circuit-changed, circuit-own}
 use Rattle.switch_machine.proofs.OneStep.{step-added}
-use Rattle.switch_machine.proofs.SameLegs.{all-dials-kept, counts-same, dials-same, ids-same, legs-same}
+use Rattle.switch_machine.proofs.SameLegs.{legs-kept, all-dials-kept, counts-same, dials-same, ids-same, legs-same}
 use Rattle.switch_machine.proofs.Slots.{length-with}
 
 map-cut : {A B : Type 0} (f : A → B) (k : ℕ) (xs : List A) → map f (take k xs) ++ map f (drop k xs) ≡ map f xs
@@ -94,7 +91,6 @@ circuit-claimed rules closes h worker c n Forth x own circ dir home first few = 
   linked = own.linked;
   hops = own.hops;
   legs = own.legs;
-  client_leg = own.client_leg;
   forth = rw (own-way n c Forth circ dir) (way-claimed c Forth x.forth _ _ _ _ _ n own.forth home circ dir first few);
   back = rw (other-way n c Back Forth dir refl) own.back;
   orders = own.orders;
@@ -109,7 +105,6 @@ circuit-claimed rules closes h worker c n Back x own circ dir home first few = r
   linked = own.linked;
   hops = own.hops;
   legs = own.legs;
-  client_leg = own.client_leg;
   forth = rw (other-way n c Forth Back dir refl) own.forth;
   back = rw (own-way n c Back circ dir) (way-claimed c Back x.back _ _ _ _ _ n own.back home circ dir first few);
   orders = own.orders;
@@ -184,7 +179,7 @@ claim-out start s h worker n st of right =
           (λ d other fresh. rw (other_pasts rules h step d (rw other refl)) fresh)
           (circuit-claimed rules s.last_closes h worker c n n.dir x own refl refl of.home of.first of.few) st.circuits;
       ids = ids-same (leg_in t) (leg_in s) (λ m. lane rules h m) (at h) (is_live_circuit rules h) (length t.circuits) (length s.circuits) same_legs many st.ids;
-      legs = legs-same s.channels (leg_in t) (leg_in s) (is_live_circuit rules h) (λ d k. holds_id h d k) (is_ended_outside h) (sent rules h) (λ d k. sendable (circuit_log rules h d) (sealed_count h d) k) same_legs st.legs;
+      legs = legs-same s.channels (leg_in t) (leg_in s) same_legs st.legs;
       dials = dials-same s.again (dial_in t) (dial_in s) (length (dials_made rules h)) (was_handed_out h) same_dials st.dials;
       counts = counts-same (leg_in t) (leg_in s) (cell_count rules h) (tick h) (length t.circuits) (length s.circuits) same_legs many st.counts;
       slots = st.slots;

@@ -1,14 +1,12 @@
 -- give_back of sealed bodies keeps what a state stands for.
-use Rattle.std.proofs.Common.{◌≡◌, ℕ, ◌+◌, ◌≤◌, ◌<◌, true, List, [], ◌∷◌, ◌++◌, length, map, Option, Some, None, option_map, refl, sym, ◌∙◌, ap, subst, arith, inl, inr, zero, suc}
+use Rattle.std.proofs.Common.{◌≡◌, ℕ, ◌≤◌, ◌<◌, true, List, [], ◌∷◌, length, Option, Some, None, option_map, refl, sym, ◌∙◌, ap, subst, arith, inl, inr}
 use Rattle.std.proofs.Math.Seq.{drop-length}
 use Rattle.std.proofs.lemmas.Bool.Decides.{eqb_tells}
 use Rattle.std.proofs.lemmas.List.{append-nil}
-use Rattle.std.specs.List.{AllByRecursion}
 use Rattle.circuit_model.specs.Events.{CircuitCell}
 use Rattle.circuit_model.specs.Opened.{born_keys}
 use Rattle.circuit_model.specs.Packaged.{behind}
 use Rattle.circuit_model.specs.Rules.{Rules}
-use Rattle.circuit_model.specs.Sent.{all_sealed}
 use Rattle.circuit_model.specs.Words.{log}
 use Rattle.switch_machine.proofs.Dials.{again-kept}
 use Rattle.switch_machine.proofs.GiveBack.Returned.{all-new, back_of, new-none, returning}
@@ -17,8 +15,6 @@ use Rattle.switch_machine.proofs.OneCircuit.{circuit-changed, circuit-own, dial_
 use Rattle.switch_machine.proofs.OneStep.{step-added}
 use Rattle.switch_machine.proofs.OtherEdges.{other_edges}
 use Rattle.switch_machine.proofs.Slots.{length-with, slot_at-inside, slot_at-with}
-use Rattle.switch_machine.proofs.Unlinked.{whole-unlinked}
-use Rattle.circuit_model.specs.Batches.{body_of}
 use Rattle.switch_machine.specs.Calls.GiveBack.{first_kept, sealed_cells, sealed_circuit, sealed_state}
 use Rattle.switch_machine.specs.Calls.Settling.{more_queued, queued_on}
 use Rattle.switch_machine.specs.Machine.{dial_in, has_port, kept_cells, leg_at, leg_in}
@@ -26,7 +22,7 @@ use Rattle.switch_machine.specs.Stands.{Stands}
 use Rattle.switch_machine.specs.Stands.CircIds.{IsUsed}
 use Rattle.switch_machine.specs.Stands.Circuits.{CircuitsStand}
 use Rattle.switch_machine.specs.Stands.Counts.{CountAt}
-use Rattle.switch_machine.specs.Stands.Legs.{EndsWithDestroy, IsNoDestroy, LiesOn}
+use Rattle.switch_machine.specs.Stands.Legs.{LiesOn}
 use Rattle.switch_machine.specs.Stands.OneCircuit.{CircuitStands}
 use Rattle.switch_machine.specs.State.{ChannelState, CircuitState, KeptClaim, LegState, State, slot_at, with_slot}
 use Rattle.switch_model.proofs.Common.{self_eq}
@@ -35,7 +31,6 @@ use Rattle.switch_model.specs.Answers.GiveBack.{give_back_answer}
 use Rattle.switch_model.specs.Answers.Take.{queued}
 use Rattle.switch_model.specs.History.Circuit.{events}
 use Rattle.switch_model.specs.History.EdgePast.{edge_past}
-use Rattle.switch_model.specs.History.LegEnds.{is_ended_outside}
 use Rattle.switch_model.specs.History.Legs.{at, holds_id}
 use Rattle.switch_model.specs.History.Past.{past}
 use Rattle.switch_model.specs.Names.{Leg}
@@ -99,20 +94,6 @@ lies-stay : (slots : List (Option ChannelState)) (cells : List CircuitCell) → 
 lies-stay slots cells None own = own
 lies-stay slots cells (Some leg) own = own
 
--- sealed cells are RELAY cells
-all-both : (P : CircuitCell → Type 0) (xs ys : List CircuitCell) → AllByRecursion P xs → AllByRecursion P ys → AllByRecursion P (xs ++ ys)
-all-both P [] ys f g = g
-all-both P (x ∷ xs) ys f g = (f.0, all-both P xs ys f.1 g)
-
-no-destroys : (key : List ℕ) (n : ℕ) (bodies : List (List ℕ)) → AllByRecursion IsNoDestroy (all_sealed key n bodies)
-no-destroys key n [] = tt
-no-destroys key n (body ∷ bodies) = (refl, no-destroys key (n + 1) bodies)
-
-last-stays : (key : List ℕ) (n k : ℕ) (bodies : List (List ℕ)) → k ≡ 0 → Stays (EndsWithDestroy k) (all_sealed key n bodies)
-last-stays key n zero bodies first None own = own
-last-stays key n zero bodies first (Some leg) own = all-both IsNoDestroy leg.queue (all_sealed key n bodies) own (no-destroys key n bodies)
-last-stays key n (suc k) bodies first leg own = absurd (omega (arith, first))
-
 used-alike : (legs more : Leg → Option LegState) (waits : List Destroy) (chan id : ℕ) (x : Option Leg) → ((leg : Leg) → has_port chan id (legs leg) ≡ true → has_port chan id (more leg) ≡ true) → IsUsed legs waits chan id x → IsUsed more waits chan id x
 used-alike legs more waits chan id None same used = tt
 used-alike legs more waits chan id (Some leg) same (inl has) = inl (same leg has)
@@ -157,8 +138,6 @@ back-kept start s h n x k st found back out its said =
       };
       legs = record {
         lie = λ leg. legs-fact (LiesOn s.channels) s c x new cells leg found refl some_legs (λ first. lies-stay s.channels cells) (st.legs.lie leg);
-        last = λ leg. legs-fact (EndsWithDestroy leg.number) s c x new cells leg found refl some_legs (λ first. last-stays key (first_kept x.back.kept) leg.number (map body_of (kept_cells x.back.kept)) first) (st.legs.last leg);
-        whole = whole-unlinked rules s.last_closes t.circuits (λ d. past rules (step ∷ h) d) (λ d j. holds_id (step ∷ h) d j) (is_ended_outside (step ∷ h)) (λ d. edge_past rules (step ∷ h) d) st.not_yet.unlinked circuits_now;
       };
       dials = record {
         are_out = again-kept (dial_in s) (dial_in t) s.again (λ d handed_out. rw (dial_in-kept s c x new found refl d) handed_out) st.dials.are_out;

@@ -1,35 +1,29 @@
 -- give_back of forward bodies one of which closes: the circuit is torn down behind them.
-use Rattle.std.proofs.Common.{◌≡◌, ℕ, ◌==◌, true, false, List, ◌∷◌, length, drop, Option, Some, None, refl, sym, ◌∙◌, subst, arith}
+use Rattle.std.proofs.Common.{◌≡◌, ℕ, ◌==◌, true, false, List, ◌∷◌, length, drop, Some, None, refl, sym, ◌∙◌, subst, arith}
 use Rattle.std.proofs.lemmas.List.{length-append}
 use Rattle.circuit_model.specs.Words.{log}
 use Rattle.switch_machine.proofs.Dials.{dials-changed}
 use Rattle.switch_machine.proofs.GiveBack.Batch.{batch-events}
-use Rattle.switch_machine.proofs.GiveBack.ForthKept.{legs-kept}
 use Rattle.switch_machine.proofs.GiveBack.Returned.{batch-returned, claimed_forth, returning}
 use Rattle.switch_machine.proofs.OneCircuit.{circuit-own}
 use Rattle.switch_machine.proofs.OtherEdges.{other_edges}
+use Rattle.switch_machine.proofs.SameLegs.{counts-same, ids-same, legs-kept, legs-same}
 use Rattle.switch_machine.proofs.Slots.{length-with, slot_at-inside, slot_at-with}
 use Rattle.switch_machine.proofs.TearDown.By.{dead-by, leg-named-by, torn-by}
-use Rattle.switch_machine.proofs.Unlinked.{whole-at}
 use Rattle.switch_machine.specs.Calls.GiveBack.{closed_state, home_way, settle_all, settled_state}
 use Rattle.switch_machine.specs.Calls.TearDown.{torn_state}
 use Rattle.switch_machine.specs.Machine.{dial_in, leg_in}
 use Rattle.switch_machine.specs.Stands.{Stands}
-use Rattle.switch_machine.specs.Stands.CircIds.{CircIdsStand}
-use Rattle.switch_machine.specs.Stands.Counts.{CountsStand}
-use Rattle.switch_machine.specs.Stands.Legs.{EndsWithDestroy, LiesOn}
 use Rattle.switch_machine.specs.Stands.OneCircuit.{CircuitAt, CircuitStands}
-use Rattle.switch_machine.specs.State.{CircuitState, KeptClaim, LegState, State, slot_at}
+use Rattle.switch_machine.specs.State.{CircuitState, KeptClaim, State, slot_at}
 use Rattle.switch_model.proofs.Common.{not_equal, self_eq}
 use Rattle.switch_model.proofs.Others.{other_pasts}
 use Rattle.switch_model.specs.Answers.GiveBack.{give_back_answer}
 use Rattle.switch_model.specs.History.Circuit.{events, is_live_circuit}
 use Rattle.switch_model.specs.History.EdgePast.{edge_past}
-use Rattle.switch_model.specs.History.LegEnds.{is_ended_outside}
 use Rattle.switch_model.specs.History.Legs.{at, holds_id}
 use Rattle.switch_model.specs.History.Past.{past}
 use Rattle.switch_model.specs.History.Returns.{settled}
-use Rattle.switch_model.specs.Names.{Leg}
 use Rattle.switch_model.specs.Start.{Start}
 use Rattle.switch_model.specs.Waiting.Counts.{cell_count, tick}
 use Rattle.switch_model.specs.Waiting.Dials.{asked, dials_made, numbered, was_handed_out}
@@ -82,17 +76,13 @@ closing-kept start s h n reason x k st found forth out its said =
       fresh = λ d beyond.
           let other = not_equal c d (λ same. absurd (omega (arith, beyond, size, inside, same))) in
           rw (other_pasts rules h step d (rw other refl), other_edges rules h step d (rw other refl) refl) (st.circuits.fresh d (omega (arith, beyond, size)));
-      ids = subst (λ (f : Leg → Option LegState). CircIdsStand f (λ chan. lane rules h chan) (at h) (is_live_circuit rules h) (length t.circuits)) (sym legs_same)
-          (subst (λ m. CircIdsStand (leg_in s) (λ chan. lane rules h chan) (at h) (is_live_circuit rules h) m) (sym size) st.ids);
-      lie = subst (λ (f : Leg → Option LegState). (leg : Leg) → LiesOn s.channels (f leg)) (sym legs_same) st.legs.lie;
-      last = subst (λ (f : Leg → Option LegState). (leg : Leg) → EndsWithDestroy leg.number (f leg)) (sym legs_same) st.legs.last;
-      whole = λ d j other. whole-at rules s.last_closes (slot_at t.circuits d) d (past rules (step ∷ h) d) (λ i. holds_id (step ∷ h) d i) (edge_past rules (step ∷ h) d) j (is_ended_outside (step ∷ h) d j) (st.not_yet.unlinked d) (others d other);
+      ids = ids-same (leg_in t) (leg_in s) (λ m. lane rules h m) (at h) (is_live_circuit rules h) (length t.circuits) (length s.circuits) legs_same size st.ids;
+      legs_stand = legs-same s.channels (leg_in t) (leg_in s) legs_same st.legs;
       dials = dials-changed s.again (dial_in s) (dial_in t) c (length (dials_made rules h)) (length (dials_made rules (step ∷ h))) (was_handed_out h) (was_handed_out (step ∷ h)) z.circuit.dial
           (rw (slot_at-with s.circuits c (Some new) c inside, self_eq c) refl)
           (λ d other. rw (slot_at-with s.circuits c (Some new) d inside, other) refl)
           (λ order beyond. st.dials.never order (omega (arith, beyond, length-append (dials_made rules h) (numbered (length (dials_made rules h)) c (drop (length (asked (log rules (events rules h c)))) (asked (log rules (events rules (step ∷ h) c)))))))) st.dials;
-      counts = subst (λ (f : Leg → Option LegState). CountsStand f (cell_count rules h) (tick h) (length t.circuits)) (sym legs_same)
-          (subst (λ m. CountsStand (leg_in s) (cell_count rules h) (tick h) m) (sym size) st.counts);
+      counts = counts-same (leg_in t) (leg_in s) (cell_count rules h) (tick h) (length t.circuits) (length s.circuits) legs_same size st.counts;
       slots = st.slots;
       not_yet = st.not_yet;
       found = rw (slot_at-with s.circuits c (Some new) c inside, self_eq c) refl;

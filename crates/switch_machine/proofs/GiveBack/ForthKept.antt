@@ -1,35 +1,29 @@
 -- give_back of forward bodies that settle keeps what a state stands for.
-use Rattle.std.proofs.Common.{◌≡◌, ℕ, List, ◌∷◌, length, drop, Option, Some, None, refl, sym, ◌∙◌, subst, arith}
-use Rattle.std.proofs.Math.Path.{fun_ext}
+use Rattle.std.proofs.Common.{◌≡◌, List, ◌∷◌, length, drop, Some, None, refl, ◌∙◌, arith}
 use Rattle.std.proofs.lemmas.List.{length-append}
 use Rattle.circuit_model.specs.Words.{log}
 use Rattle.switch_machine.proofs.Dials.{dials-changed}
 use Rattle.switch_machine.proofs.GiveBack.Returned.{batch-returned, claimed_forth, returning}
 use Rattle.switch_machine.proofs.GiveBack.Settled.{circuit-settled}
-use Rattle.switch_machine.proofs.OneCircuit.{circuit-changed, circuit-own, leg_in-kept}
+use Rattle.switch_machine.proofs.OneCircuit.{circuit-changed, circuit-own}
 use Rattle.switch_machine.proofs.OneStep.{step-added}
 use Rattle.switch_machine.proofs.OtherEdges.{other_edges}
+use Rattle.switch_machine.proofs.SameLegs.{counts-same, ids-same, legs-kept, legs-same}
 use Rattle.switch_machine.proofs.Slots.{length-with, slot_at-inside, slot_at-with}
-use Rattle.switch_machine.proofs.Unlinked.{whole-unlinked}
 use Rattle.switch_machine.specs.Calls.GiveBack.{home_way, settle_all, settled_state}
-use Rattle.switch_machine.specs.Machine.{dial_in, leg_at, leg_in}
+use Rattle.switch_machine.specs.Machine.{dial_in, leg_in}
 use Rattle.switch_machine.specs.Stands.{Stands}
-use Rattle.switch_machine.specs.Stands.CircIds.{CircIdsStand}
 use Rattle.switch_machine.specs.Stands.Circuits.{CircuitsStand}
-use Rattle.switch_machine.specs.Stands.Counts.{CountsStand}
-use Rattle.switch_machine.specs.Stands.Legs.{EndsWithDestroy, LiesOn}
 use Rattle.switch_machine.specs.Stands.OneCircuit.{CircuitStands}
-use Rattle.switch_machine.specs.State.{CircuitState, KeptClaim, LegState, State, slot_at, with_slot}
+use Rattle.switch_machine.specs.State.{CircuitState, KeptClaim, State, slot_at}
 use Rattle.switch_model.proofs.Common.{self_eq}
 use Rattle.switch_model.proofs.Others.{other_pasts}
 use Rattle.switch_model.specs.Answers.GiveBack.{give_back_answer}
 use Rattle.switch_model.specs.History.Circuit.{events, is_live_circuit}
 use Rattle.switch_model.specs.History.EdgePast.{edge_past}
-use Rattle.switch_model.specs.History.LegEnds.{is_ended_outside}
 use Rattle.switch_model.specs.History.Legs.{at, holds_id}
 use Rattle.switch_model.specs.History.Past.{past}
 use Rattle.switch_model.specs.History.Returns.{settling_reason}
-use Rattle.switch_model.specs.Names.{Leg}
 use Rattle.switch_model.specs.Start.{Start}
 use Rattle.switch_model.specs.Waiting.Counts.{cell_count, tick}
 use Rattle.switch_model.specs.Waiting.Dials.{asked, dials_made, numbered, was_handed_out}
@@ -38,10 +32,6 @@ use Rattle.tr_io.specs.declared.answers.BackAnswer.TheVariants.{Settled}
 use Rattle.tr_io.specs.declared.names.ClaimNote.{ClaimNote}
 use Rattle.tr_io.specs.declared.names.Dir.TheVariants.{Forth}
 use Rattle.tr_io.specs.declared.step.Step.{Step}
-
--- the legs of the switch stay where those of the circuit that changes do
-pub legs-kept : (s : State) (c : ℕ) (x y : CircuitState) → slot_at s.circuits c ≡ Some x → y.legs ≡ x.legs → ◌≡◌ {A = Leg → Option LegState} (λ leg. leg_at (slot_at (with_slot s.circuits c (Some y)) leg.circ) leg.number) (leg_in s)
-legs-kept s c x y found same = fun_ext (λ leg. leg_in-kept s c x y found same leg)
 
 abbrev settling : ClaimNote → Step
 settling n = returning n Settled
@@ -79,19 +69,13 @@ forth-kept start s h n x k st found forth out its none said =
       };
       channels = st.channels;
       circuits = circuits_now;
-      ids = subst (λ (f : Leg → Option LegState). CircIdsStand f (λ chan. lane rules h chan) (at h) (is_live_circuit rules h) (length t.circuits)) (sym legs_same)
-          (subst (λ m. CircIdsStand (leg_in s) (λ chan. lane rules h chan) (at h) (is_live_circuit rules h) m) (sym size) st.ids);
-      legs = record {
-        lie = subst (λ (f : Leg → Option LegState). (leg : Leg) → LiesOn s.channels (f leg)) (sym legs_same) st.legs.lie;
-        last = subst (λ (f : Leg → Option LegState). (leg : Leg) → EndsWithDestroy leg.number (f leg)) (sym legs_same) st.legs.last;
-        whole = whole-unlinked rules s.last_closes t.circuits (λ d. past rules (step ∷ h) d) (λ d j. holds_id (step ∷ h) d j) (is_ended_outside (step ∷ h)) (λ d. edge_past rules (step ∷ h) d) st.not_yet.unlinked circuits_now;
-      };
+      ids = ids-same (leg_in t) (leg_in s) (λ m. lane rules h m) (at h) (is_live_circuit rules h) (length t.circuits) (length s.circuits) legs_same size st.ids;
+      legs = legs-same s.channels (leg_in t) (leg_in s) legs_same st.legs;
       dials = dials-changed s.again (dial_in s) (dial_in t) c (length (dials_made rules h)) (length (dials_made rules (step ∷ h))) (was_handed_out h) (was_handed_out (step ∷ h)) z.circuit.dial
           (rw (slot_at-with s.circuits c (Some new) c (slot_at-inside s.circuits c x found), self_eq c) refl)
           (λ d other. rw (slot_at-with s.circuits c (Some new) d (slot_at-inside s.circuits c x found), other) refl)
           (λ order beyond. st.dials.never order (omega (arith, beyond, length-append (dials_made rules h) (numbered (length (dials_made rules h)) c (drop (length (asked (log rules (events rules h c)))) (asked (log rules (events rules (step ∷ h) c)))))))) st.dials;
-      counts = subst (λ (f : Leg → Option LegState). CountsStand f (cell_count rules h) (tick h) (length t.circuits)) (sym legs_same)
-          (subst (λ m. CountsStand (leg_in s) (cell_count rules h) (tick h) m) (sym size) st.counts);
+      counts = counts-same (leg_in t) (leg_in s) (cell_count rules h) (tick h) (length t.circuits) (length s.circuits) legs_same size st.counts;
       slots = st.slots;
       not_yet = st.not_yet;
     }

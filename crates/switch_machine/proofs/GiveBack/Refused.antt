@@ -48,7 +48,6 @@ pub record Refused (start : Start) (s : State) (h : List Step) (step : Step) : T
   pub numbers : NumbersStand (numbers_in s) (numbers_past start.rules (step ∷ h))
   pub past_is : (d : ℕ) → past start.rules (step ∷ h) d ≡ past start.rules h d
   pub edge_is : (d : ℕ) → edge_past start.rules (step ∷ h) d ≡ edge_past start.rules h d
-  pub events_are : (d : ℕ) → events start.rules (step ∷ h) d ≡ events start.rules h d
   pub never : (order : ℕ) → length (dials_made start.rules (step ∷ h)) ≤ order → was_handed_out (step ∷ h) order ≡ false
 
 gone-leaves : (start : Start) (s : State) (h : List Step) (n : ClaimNote) (place : Option ℕ) → Stands start s h → Refused start s h (GiveBack n place BackAnswer.Gone)
@@ -61,7 +60,6 @@ gone-leaves start s h n place st =
       numbers = record { channels = st.numbers.channels; circuits = st.numbers.circuits; claims = st.numbers.claims; bodies = st.numbers.bodies ∙ ap length (sym born_same); dial_orders = st.numbers.dial_orders ∙ ap length (sym dials_same); tick = st.numbers.tick };
       past_is = λ d. rw (events-refused rules h n place a d refl) (ap (λ f. record (past rules h d) { kept = f }) (kept-refused h n place a d refl));
       edge_is = λ d. rw (born_same, dials_same, events-refused rules h n place a d refl) refl;
-      events_are = λ d. events-refused rules h n place a d refl;
       never = λ order beyond. st.dials.never order (subst (λ m. length m ≤ order) dials_same beyond);
     }
 
@@ -75,7 +73,6 @@ stranger-leaves start s h n place why st =
       numbers = record { channels = st.numbers.channels; circuits = st.numbers.circuits; claims = st.numbers.claims; bodies = st.numbers.bodies ∙ ap length (sym born_same); dial_orders = st.numbers.dial_orders ∙ ap length (sym dials_same); tick = st.numbers.tick };
       past_is = λ d. rw (events-refused rules h n place a d refl) (ap (λ f. record (past rules h d) { kept = f }) (kept-refused h n place a d refl));
       edge_is = λ d. rw (born_same, dials_same, events-refused rules h n place a d refl) refl;
-      events_are = λ d. events-refused rules h n place a d refl;
       never = λ order beyond. st.dials.never order (subst (λ m. length m ≤ order) dials_same beyond);
     }
 
@@ -88,7 +85,7 @@ gone-kept start s h n place st said =
       channels = st.channels;
       circuits = record { circuit = λ d. rw (leaves.past_is d, leaves.edge_is d) (st.circuits.circuit d); fresh = λ d beyond. rw (leaves.past_is d, leaves.edge_is d) (st.circuits.fresh d beyond) };
       ids = st.ids;
-      legs = record { lie = st.legs.lie; last = st.legs.last; whole = λ d k. rw (leaves.events_are d) (st.legs.whole d k) };
+      legs = st.legs;
       dials = record { are_out = st.dials.are_out; once = st.dials.once; never = leaves.never };
       counts = st.counts;
       slots = st.slots;
@@ -105,7 +102,7 @@ stranger-kept start s h n place why st said =
       channels = st.channels;
       circuits = record { circuit = λ d. rw (leaves.past_is d, leaves.edge_is d) (st.circuits.circuit d); fresh = λ d beyond. rw (leaves.past_is d, leaves.edge_is d) (st.circuits.fresh d beyond) };
       ids = st.ids;
-      legs = record { lie = st.legs.lie; last = st.legs.last; whole = λ d k. rw (leaves.events_are d) (st.legs.whole d k) };
+      legs = st.legs;
       dials = record { are_out = st.dials.are_out; once = st.dials.once; never = leaves.never };
       counts = st.counts;
       slots = st.slots;

@@ -177,7 +177,6 @@ circuit-sealed rules closes h n x k back out its own edge_same events_same =
       linked = own.linked;
       hops = length-with x.legs 0 _ ∙ own.hops;
       legs = λ j. subst (λ cs. LegBy (slot_at (queued_on x.legs 0 cs) j) (p.sent j) (sendable l (p.sealed_count + n.count) j) (p.port j) (holds_id h c j)) (sym put) (legs j);
-      client_leg = own.client_leg;
       forth = rw (other-way n c Forth Back back refl) own.forth;
       back = rw (own-way n c Back refl back, ← count, ← seals.home) (way-home c Back x.back _ _ _ _ _ k own.back out);
       orders = own.orders;

@@ -61,7 +61,6 @@ circuit-settled rules closes h n y k forth out its before numbered none own behi
       linked = behind_it.core.linked;
       hops = behind_it.core.hops;
       legs = behind_it.core.legs;
-      client_leg = own.client_leg;
       forth = rw (own-way n c Forth refl forth, came, forth_numbers) (way-home c Forth y.circuit.forth _ _ _ _ _ k own.forth out);
       back = rw (other-way n c Back Forth forth refl, back_numbers) behind_it.core.back;
       orders = subst (λ e. OrdersStand (settle_all rules y k.cells).circuit.reach_orders (settle_all rules y k.cells).circuit.carry_orders (settle_all rules y k.cells).circuit.close_orders (log rules e)) behind_it.events_are behind_it.orders;

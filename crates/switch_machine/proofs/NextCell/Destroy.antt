@@ -30,7 +30,7 @@ use Rattle.switch_model.proofs.Common.{self_eq, not_equal, and-first, and-second
 use Rattle.switch_machine.proofs.Slots.{length-with, slot_at-inside}
 use Rattle.switch_machine.proofs.OneStep.{step-added, channel-count, tick-given}
 use Rattle.switch_machine.proofs.OneChannel.{channel-own, channel-changed}
-use Rattle.switch_machine.proofs.Lying.{IsWhole, lies-with}
+use Rattle.switch_machine.proofs.Lying.{lies-with}
 use Rattle.switch_machine.proofs.Counting.{count-later, halved-none}
 
 -- nothing leaves
@@ -109,13 +109,6 @@ circuit-on rules closes h chan given cell d (Some x) none own =
     rw (past-on rules h chan given cell d none)
     (subst (λ f. CircuitStands rules closes x d (past rules h d) f (edge_past rules h d)) (sym (fun_ext (λ k. holds-on h chan given cell d k (no_leg k)))) own)
 
--- a leg that the cell doesn't name
-pub whole-on : (rules : Rules) (h : List Step) (chan given : ℕ) (cell : Cell) (d k : ℕ) → (is_leg d k (at h chan cell.circ) && is_live_circuit rules h d) ≡ false →
-    IsWhole rules h d k → IsWhole rules (NextCell (chan_no chan) given (Some cell) ∷ h) d k
-whole-on rules h chan given cell d k none whole alive lost ends =
-    let no_leg : is_leg d k (at h chan cell.circ) ≡ false = not-live _ (rw alive at none) in
-    rw none (whole alive (sym (holds-on h chan given cell d k no_leg) ∙ lost) ends)
-
 -- the lane has one fewer
 pub used-less : (legs : Leg → Option LegState) (waits less : List Destroy) (m i : ℕ) (b : Bool) (x : Option Leg) →
     (b ≡ false → list_any (λ d. d.id == i) waits ≡ true → list_any (λ d. d.id == i) less ≡ true) → IsUsed legs waits m i x → IsUsed legs less m i (if b then None else x)
@@ -165,11 +158,7 @@ destroy-left start s h chan given channel d waits st found first said =
         ];
         no_leg = λ c k m i beyond. leg-fewer c k (is_destroy_for (chan_no chan) cell m i) (at h m i) (st.ids.no_leg c k m i beyond);
       };
-      legs = record {
-        lie = λ leg. lies-with s.channels chan (record channel { lane = waits }) (leg_in s leg) inside (st.legs.lie leg);
-        last = st.legs.last;
-        whole = λ c k. whole-on rules h chan given cell c k (none c k) (st.legs.whole c k);
-      };
+      legs = record { lie = λ leg. lies-with s.channels chan (record channel { lane = waits }) (leg_in s leg) inside (st.legs.lie leg) };
       dials = st.dials;
       counts = record {
         counts = λ leg. rw (none leg.circ leg.number) (count-later (leg_in s leg) (cell_count rules h leg.circ leg.number) (tick h) given (st.counts.counts leg));

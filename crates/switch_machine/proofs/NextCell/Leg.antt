@@ -1,16 +1,15 @@
 -- next_cell that gives the first cell of a leg keeps what a state stands for.
-use Rattle.std.proofs.Common.{◌≡◌, ℕ, ◌==◌, ◌&&◌, Bool, true, false, if◌then◌else◌, List, [], ◌∷◌, ◌++◌, Option, Some, None, length, zero, suc, refl, sym, ap, ◌∙◌, subst, inl, inr, append_assoc, arith}
+use Rattle.std.proofs.Common.{◌≡◌, ℕ, ◌==◌, ◌&&◌, Bool, true, false, if◌then◌else◌, List, [], ◌∷◌, ◌++◌, Option, Some, None, length, zero, suc, refl, sym, ◌∙◌, subst, inl, inr, append_assoc, arith}
 use Rattle.std.proofs.Math.Dec.{eqb-suc-zero}
 use Rattle.std.proofs.lemmas.Bool.Decides.{eqb_tells}
 use Rattle.std.proofs.lemmas.Grind.{common_steps}
-use Rattle.std.proofs.lemmas.List.{append-nil}
 use Rattle.cell_codec.specs.declared.cell.Cell.{Cell}
 use Rattle.circuit_model.specs.Events.{CircuitCell}
 use Rattle.circuit_model.specs.Rules.{Rules}
 use Rattle.tr_io.specs.declared.step.Step.{Step}
 use Rattle.tr_io.specs.declared.step.Step.TheVariants.{NextCell}
 use Rattle.switch_model.specs.Names.{Leg, is_leg, chan_no}
-use Rattle.switch_model.specs.History.Legs.{at, holds_id, port}
+use Rattle.switch_model.specs.History.Legs.{at, holds_id}
 use Rattle.switch_model.specs.History.Circuit.{is_live_circuit, sent}
 use Rattle.switch_model.specs.Waiting.Queues.{circuit_log, sealed_count, sendable}
 use Rattle.switch_model.specs.Waiting.Counts.{charged}
@@ -24,7 +23,6 @@ use Rattle.switch_machine.specs.Stands.OneLeg.{LegAt, LegStands}
 use Rattle.switch_machine.specs.Stands.OneCircuit.{CircuitStands}
 use Rattle.switch_model.proofs.Common.{self_eq, not_equal, and-first, and-second, same-number}
 use Rattle.switch_machine.proofs.Slots.{slot_at-with, length-with, slot_at-inside}
-use Rattle.switch_machine.specs.Stands.Legs.{MayWait}
 use Rattle.switch_machine.proofs.NextCell.Destroy.{holds-on}
 
 -- which leg a CircID names
@@ -84,19 +82,13 @@ count-sent : (rules : Rules) (h : List Step) (chan given c k count : ℕ) (cell 
 count-sent rules h chan given c zero count cell named alive same = rw (named, alive, same) (grind (arith, common_steps))
 count-sent rules h chan given c (suc k) count cell named alive same = rw (leg-named c (suc k) c 0 (at h chan cell.circ) named, self_eq c, eqb-suc-zero k) same
 
-client-sent : (h : List Step) (given c k : ℕ) (leg : LegState) (cell : CircuitCell) (cells : List CircuitCell) → is_leg c k (at h leg.chan leg.id) ≡ true → port h c k ≡ Some (record { chan = leg.chan; id = leg.id }) → MayWait k (cell ∷ cells) →
-    holds_id h c 0 ≡ true → holds_id (NextCell (chan_no leg.chan) given (Some (cell_at leg.id cell)) ∷ h) c 0 ≡ true
-client-sent h given c zero leg cell cells named lies waits own = rw (lies, self_eq leg.chan, self_eq leg.id, waits.0) named
-client-sent h given c (suc k) leg cell cells named lies waits own =
-    holds-on h leg.chan given (cell_at leg.id cell) c 0 (leg-named c (suc k) c 0 (at h leg.chan leg.id) named ∙ rw (self_eq c, eqb-suc-zero k) refl) ∙ own
-
 pub circuit-sent : (rules : Rules) (closes : List Ordered) (h : List Step) (given now : ℕ) (c k : ℕ) (x : CircuitState) (leg : LegState) (cell : CircuitCell) (cells : List CircuitCell) →
-    slot_at x.legs k ≡ Some leg → leg.queue ≡ cell ∷ cells → is_leg c k (at h leg.chan leg.id) ≡ true → MayWait k (cell ∷ cells) →
+    slot_at x.legs k ≡ Some leg → leg.queue ≡ cell ∷ cells → is_leg c k (at h leg.chan leg.id) ≡ true →
     CircuitStands rules closes x c (past rules h c) (λ j. holds_id h c j) (edge_past rules h c) →
     CircuitStands rules closes (circuit_sent now k x leg (cell ∷ cells)) c
     (past rules (NextCell (chan_no leg.chan) given (Some (cell_at leg.id cell)) ∷ h) c) (λ j. holds_id (NextCell (chan_no leg.chan) given (Some (cell_at leg.id cell)) ∷ h) c j)
     (edge_past rules (NextCell (chan_no leg.chan) given (Some (cell_at leg.id cell)) ∷ h) c)
-circuit-sent rules closes h given now c k x leg cell cells found queued named waits own =
+circuit-sent rules closes h given now c k x leg cell cells found queued named own =
     let step = NextCell (chan_no leg.chan) given (Some (cell_at leg.id cell)) in
     let inside = slot_at-inside x.legs k leg found in
     let leg_own : LegStands rules leg k (past rules h c) (holds_id h c k) = subst (λ y. LegAt rules y k (past rules h c) (holds_id h c k)) found (own.legs k) in
@@ -114,22 +106,9 @@ circuit-sent rules closes h given now c k x leg cell cells found queued named wa
         | inr (is_it, other) ↦ rw (slot_at-with x.legs k (sent_first now leg (cell ∷ cells)) j inside, is_it)
             (leg-other rules h leg.chan given (cell_at leg.id cell) c j (slot_at x.legs j) (leg-named c k c j (at h leg.chan leg.id) named ∙ rw (self_eq c, not_equal k j other) refl) (own.legs j))
       ];
-      client_leg = client-sent h given c k leg cell cells named leg_own.port waits own.client_leg;
       forth = own.forth;
       back = own.back;
       orders = own.orders;
       no_left = own.no_left;
       dial = own.dial;
     }
-
--- a leg whose DESTROY left was sent all
-pub whole-kept : (rules : Rules) (h : List Step) (given : ℕ) (c k : ℕ) (leg : LegState) (cell : CircuitCell) (cells : List CircuitCell) (b : Bool) → (cell.command == 4) ≡ b →
-    is_live_circuit rules h c ≡ true → leg.queue ≡ cell ∷ cells → is_leg c k (at h leg.chan leg.id) ≡ true → LegStands rules leg k (past rules h c) (holds_id h c k) → (b ≡ true → cells ≡ []) →
-    holds_id (NextCell (chan_no leg.chan) given (Some (cell_at leg.id cell)) ∷ h) c k ≡ false →
-    sent rules (NextCell (chan_no leg.chan) given (Some (cell_at leg.id cell)) ∷ h) c k ≡ sendable (circuit_log rules (NextCell (chan_no leg.chan) given (Some (cell_at leg.id cell)) ∷ h) c) (sealed_count (NextCell (chan_no leg.chan) given (Some (cell_at leg.id cell)) ∷ h) c) k
-whole-kept rules h given c k leg cell cells true is_destroy alive queued named own none lost =
-    sym (append-nil _) ∙ ap (λ l. sent rules (NextCell (chan_no leg.chan) given (Some (cell_at leg.id cell)) ∷ h) c k ++ l) (sym (none refl)) ∙ sent-one rules h given c k leg cell cells alive queued named own
-whole-kept rules h given c k leg cell cells false is_destroy alive queued named own none lost =
-    let holds : holds_id (NextCell (chan_no leg.chan) given (Some (cell_at leg.id cell)) ∷ h) c k ≡ true = rw (own.port, self_eq leg.chan, self_eq leg.id, is_destroy) named in
-    let both : true ≡ false = sym holds ∙ lost in
-    cc

@@ -1,5 +1,5 @@
 -- next_cell that gives the first cell of a leg keeps what a state stands for: all circuits together.
-use Rattle.std.proofs.Common.{◌≡◌, ℕ, ◌-◌, ◌≤◌, ◌==◌, ◌&&◌, Bool, true, false, if◌then◌else◌, max, List, [], ◌∷◌, length, drop, Option, Some, None, refl, sym, ◌∙◌, ap, subst, arith, inl, inr}
+use Rattle.std.proofs.Common.{◌≡◌, ℕ, ◌-◌, ◌≤◌, ◌==◌, ◌&&◌, Bool, true, false, if◌then◌else◌, max, List, [], ◌∷◌, length, drop, Option, Some, None, refl, ◌∙◌, ap, subst, arith, inl, inr}
 use Rattle.std.proofs.lemmas.Bool.Decides.{nat_tests, eqb_tells}
 use Rattle.circuit_model.specs.Events.{CircuitCell}
 use Rattle.tr_io.specs.declared.step.Step.{Step}
@@ -7,8 +7,7 @@ use Rattle.tr_io.specs.declared.step.Step.TheVariants.{NextCell}
 use Rattle.switch_model.specs.Start.{Start}
 use Rattle.switch_model.specs.Names.{Leg, is_leg, chan_no}
 use Rattle.switch_model.specs.History.Legs.{at, is_destroy_for, holds_id}
-use Rattle.switch_model.specs.History.Circuit.{is_live_circuit, sent}
-use Rattle.switch_model.specs.Waiting.Queues.{circuit_log, sealed_count, sendable}
+use Rattle.switch_model.specs.History.Circuit.{is_live_circuit}
 use Rattle.switch_model.specs.Waiting.Lanes.{Destroy, lane}
 use Rattle.switch_model.specs.Waiting.Counts.{tick, cell_count, halved, charged}
 use Rattle.switch_model.specs.History.Past.{past}
@@ -17,22 +16,21 @@ use Rattle.switch_model.specs.Answers.NextCell.{cell_at, next_cell_answer}
 use Rattle.switch_machine.specs.State.{ChannelState, LegState, CircuitState, State, slot_at, with_slot}
 use Rattle.switch_machine.specs.Machine.{has_port, leg_at, leg_in, dial_in}
 use Rattle.switch_machine.specs.Stands.Numbers.{numbers_in, numbers_past}
-use Rattle.switch_machine.specs.Stands.OneLeg.{LegAt, LegStands}
 use Rattle.switch_machine.specs.Stands.CircIds.{IsUsed}
-use Rattle.switch_machine.specs.Stands.Legs.{LiesOn, MayWait, EndsWithDestroy}
+use Rattle.switch_machine.specs.Stands.Legs.{LiesOn}
 use Rattle.switch_machine.specs.Stands.Counts.{CountAt, CountStands}
 use Rattle.switch_machine.specs.Stands.{Stands}
 use Rattle.switch_machine.specs.Calls.NextCell.{count_of, ticked, sent_first, sent_after, circuit_sent}
-use Rattle.switch_model.proofs.Common.{self_eq, not_equal, and-first, and-second, same-number}
+use Rattle.switch_model.proofs.Common.{not_equal, and-first, and-second, same-number}
 use Rattle.switch_machine.proofs.OneStep.{step-added, circuit-count, tick-given}
 use Rattle.switch_machine.proofs.OneCircuit.{circuit-own, circuit-changed, dial_in-kept}
 use Rattle.switch_machine.proofs.Dials.{again-kept}
-use Rattle.switch_machine.proofs.Lying.{IsWhole, lies-first, last-first, behind-first, none-behind}
+use Rattle.switch_machine.proofs.Lying.{lies-first}
 use Rattle.switch_machine.proofs.Slots.{slot_at-with, length-with, slot_at-inside}
 use Rattle.switch_machine.proofs.Ids.{leg-has_id}
 use Rattle.switch_machine.proofs.Counting.{count-later, later-by, halved-none, halved-never}
-use Rattle.switch_machine.proofs.NextCell.Destroy.{leg-fewer, all-apart, circuit-on, past-on, whole-on}
-use Rattle.switch_machine.proofs.NextCell.Leg.{leg-named, circuit-sent, whole-kept}
+use Rattle.switch_machine.proofs.NextCell.Destroy.{leg-fewer, all-apart, circuit-on, past-on}
+use Rattle.switch_machine.proofs.NextCell.Leg.{leg-named, circuit-sent}
 
 -- the state after the leg's first cell left
 abbrev pub sent_state : State → ℕ → ℕ → ℕ → CircuitState → LegState → List CircuitCell → State
@@ -80,16 +78,11 @@ used-sent s t waits m i false None keeps used = tt
 used-sent s t waits m i false (Some other) keeps (inl has) = inl (keeps other refl has)
 used-sent s t waits m i false (Some other) keeps (inr waiting) = inr waiting
 
--- the leg lies where it lay, and what waits ends as before
+-- the leg lies where it lay
 pub lies-sent : (slots : List (Option ChannelState)) (b : Bool) (now : ℕ) (leg : LegState) (z : Option LegState) (cell : CircuitCell) (cells : List CircuitCell) → LiesOn slots (Some leg) → LiesOn slots z →
     LiesOn slots (if b then sent_first now leg (cell ∷ cells) else z)
 lies-sent slots true now leg z cell cells own other = lies-first slots now leg cell cells (cell.command == 4) refl own
 lies-sent slots false now leg z cell cells own other = other
-
-last-sent : (j : ℕ) (b : Bool) (now : ℕ) (leg : LegState) (z : Option LegState) (cell : CircuitCell) (cells : List CircuitCell) → EndsWithDestroy j z → (b ≡ true → MayWait j (cell ∷ cells)) →
-    EndsWithDestroy j (if b then sent_first now leg (cell ∷ cells) else z)
-last-sent j true now leg z cell cells other own = last-first j now leg cell cells (cell.command == 4) refl (behind-first j cell cells (own refl))
-last-sent j false now leg z cell cells other own = other
 
 -- the lane of the leg's channel was empty
 drop-none : (b : Bool) (waits : List Destroy) → (b ≡ true → waits ≡ []) → (if b then drop 1 waits else waits) ≡ waits
@@ -132,14 +125,6 @@ leg-left start s h given c k x leg cell cells st found_circuit found_leg queued 
     let same_lane : (n : ℕ) → lane rules (step ∷ h) n ≡ lane rules h n = λ n. drop-none (leg.chan == n) (lane rules h n) (λ here. subst (λ a. lane rules h a ≡ []) (same-number leg.chan n here) no_destroy) in
     let is_it : Leg → Bool = λ other. (other.circ == c) && (other.number == k) in
     let leg_of : (other : Leg) → leg_in t other ≡ (if is_it other then y else leg_in s other) = leg_in-sent s c k (sent_after k x.sent_count) x y leg found_circuit found_leg in
-    let queue_may : MayWait k (cell ∷ cells) = subst (MayWait k) queued (subst (EndsWithDestroy k) found (st.legs.last (record { circ = c; number = k }))) in
-    let leg_own : LegStands rules leg k (past rules h c) (holds_id h c k) = subst (λ z. LegAt rules z k (past rules h c) (holds_id h c k)) found_leg (own.legs k) in
-    let whole-here : (j : ℕ) → IsWhole rules (step ∷ h) c j = λ j. elim (eqb_tells j k) [
-      | inl (is, same) ↦ λ alive lost ends. subst (λ i. sent rules (step ∷ h) c i ≡ sendable (circuit_log rules (step ∷ h) c) (sealed_count (step ∷ h) c) i) (sym same)
-          (whole-kept rules h given c k leg cell cells (cell.command == 4) refl own.live queued named leg_own (none-behind k cell cells queue_may) (subst (λ i. holds_id (step ∷ h) c i ≡ false) same lost))
-      | inr (is, other) ↦ whole-on rules h leg.chan given (cell_at leg.id cell) c j (rw (others c j, self_eq c, not_equal k j other) refl) (st.legs.whole c j)
-    ] in
-    let whole-of : (d j : ℕ) → d ≡ c → IsWhole rules (step ∷ h) d j = λ d j same. subst (λ e. IsWhole rules (step ∷ h) e j) (sym same) (whole-here j) in
     record {
       steps = step-added start s.steps h step st.steps (tt, said);
       numbers = tick-given (record (numbers_in s) { circuits = length t.circuits }) (numbers_past rules h) _ _ (ap (λ n. max n given) st.numbers.tick)
@@ -149,7 +134,7 @@ leg-left start s h given c k x leg cell cells st found_circuit found_leg queued 
           (λ d. edge_past rules h d) (λ d. edge_past rules (step ∷ h) d) c x (Some (circuit_sent now k x leg (cell ∷ cells))) found_circuit
           (λ d other. circuit-on rules s.last_closes h leg.chan given (cell_at leg.id cell) d (slot_at s.circuits d) (none d other))
           (λ d other fresh. rw (past-on rules h leg.chan given (cell_at leg.id cell) d (none d other)) fresh)
-          (circuit-sent rules s.last_closes h given now c k x leg cell cells found_leg queued named queue_may own) st.circuits;
+          (circuit-sent rules s.last_closes h given now c k x leg cell cells found_leg queued named own) st.circuits;
       ids = record {
         used = λ m i. rw (same_lane m) (used-sent s t (lane rules h m) m i (is_destroy_for (chan_no leg.chan) (cell_at leg.id cell) m i) (at h m i)
             (λ other unlike has. rw (leg_of other) (port-by m i (is_it other) y (leg_in s other)
@@ -157,15 +142,7 @@ leg-left start s h given c k x leg cell cells st found_circuit found_leg queued 
         apart = λ m. rw (same_lane m) (all-apart rules h leg.chan given (cell_at leg.id cell) m (lane rules h m) (st.ids.apart m));
         no_leg = λ d j m i beyond. leg-fewer d j (is_destroy_for (chan_no leg.chan) (cell_at leg.id cell) m i) (at h m i) (st.ids.no_leg d j m i (omega (arith, beyond, many)));
       };
-      legs = record {
-        lie = λ other. rw (leg_of other) (lies-sent s.channels (is_it other) now leg (leg_in s other) cell cells (subst (λ z. LiesOn s.channels z) found (st.legs.lie (record { circ = c; number = k }))) (st.legs.lie other));
-        last = λ other. rw (leg_of other) (last-sent other.number (is_it other) now leg (leg_in s other) cell cells (st.legs.last other)
-            (λ it. subst (λ j. MayWait j (cell ∷ cells)) (sym (same-number other.number k (and-second (other.circ == c) _ it))) queue_may));
-        whole = λ d j. elim (eqb_tells d c) [
-          | inl (is, same) ↦ whole-of d j same
-          | inr (is, other) ↦ whole-on rules h leg.chan given (cell_at leg.id cell) d j (none d (not_equal c d other) j) (st.legs.whole d j)
-        ];
-      };
+      legs = record { lie = λ other. rw (leg_of other) (lies-sent s.channels (is_it other) now leg (leg_in s other) cell cells (subst (λ z. LiesOn s.channels z) found (st.legs.lie (record { circ = c; number = k }))) (st.legs.lie other)) };
       dials = record {
         are_out = again-kept (dial_in s) (dial_in t) s.again (λ d out. rw (dial_in-kept s c x (circuit_sent now k x leg (cell ∷ cells)) found_circuit refl d) out) st.dials.are_out;
         once = st.dials.once;

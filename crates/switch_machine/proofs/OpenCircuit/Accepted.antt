@@ -7,7 +7,6 @@ use Rattle.std.proofs.lemmas.Grind.{common_steps}
 use Rattle.std.proofs.lemmas.Bool.Decides.{nat_tests, eqb_tells}
 use Rattle.cell_codec.specs.declared.cell.Cell.{Cell}
 use Rattle.kdf_tor.specs.declared.LayerKeys.{LayerKeys}
-use Rattle.tor_spec.specs.CellCommands.{opens_circuit}
 use Rattle.tr_io.specs.declared.step.Step.{Step}
 use Rattle.switch_model.specs.Start.{Start}
 use Rattle.switch_model.specs.Names.{Leg, is_leg}
@@ -23,16 +22,15 @@ use Rattle.switch_machine.specs.Machine.{leg_at, leg_in, has_port, dial_at, dial
 use Rattle.switch_machine.specs.Stands.Numbers.{numbers_in, numbers_past}
 use Rattle.switch_machine.specs.Stands.OneCircuit.{CircuitAt, left_at}
 use Rattle.switch_machine.specs.Stands.CircIds.{IsUsed, IsApart}
-use Rattle.switch_machine.specs.Stands.Legs.{LiesOn, EndsWithDestroy}
+use Rattle.switch_machine.specs.Stands.Legs.{LiesOn}
 use Rattle.switch_machine.specs.Stands.Counts.{CountAt}
 use Rattle.switch_machine.specs.Stands.{Stands}
 use Rattle.switch_machine.specs.Calls.OpenCircuit.{new_circuit, with_circuit}
 use Rattle.switch_model.proofs.Common.{self_eq, not_equal, or-first, or-second, same-number}
 use Rattle.switch_machine.proofs.OneStep.{step-added, circuit-count}
 use Rattle.switch_machine.proofs.Dials.{again-kept}
-use Rattle.switch_machine.proofs.Lying.{IsWhole}
 use Rattle.switch_machine.proofs.Slots.{slot_at-push, slot_at-past}
-use Rattle.switch_machine.proofs.OpenCircuit.Past.{opening, past-other, edge-other, holds-other, circuit-opened, whole-new, whole-other}
+use Rattle.switch_machine.proofs.OpenCircuit.Past.{opening, past-other, edge-other, holds-other, circuit-opened}
 
 -- a number that no circuit had leaves no orders
 no-left : (start : Start) (s : State) (h : List Step) → Stands start s h → (n serial : ℕ) → n ≡ length s.circuits → left_at s.last_closes n serial ≡ []
@@ -106,8 +104,7 @@ apart-all start s h st chan id reply keys pad m (d ∷ waits) unlike apart = (
   apart-all start s h st chan id reply keys pad m waits (λ same. or-second _ _ (unlike same)) apart.1,
 )
 
--- the new circuit's legs: they were sent nothing, the first lies on the live channel, and the reply alone,
--- which is no DESTROY, waits on it
+-- the new circuit's legs: they were sent nothing, and the first lies on the live channel
 count-new : (chan id : ℕ) (reply : Cell) (k n now : ℕ) → n ≡ 0 → CountAt (slot_at (new_circuit chan id reply).legs k) n now
 unfolding slot_at
 count-new chan id reply zero n now none = record { since = omega arith; count = none ∙ sym (zero-div (2 ^ (now - 0))) }
@@ -118,28 +115,11 @@ unfolding slot_at
 lies-new slots chan id reply zero on_live = on_live
 lies-new slots chan id reply (suc k) on_live = tt
 
-opens-no-destroy : (command : ℕ) → opens_circuit command ≡ true → (command == 4) ≡ false
-opens-no-destroy command opens = grind (arith, nat_tests)
-
-last-new : (chan id : ℕ) (reply : Cell) (k : ℕ) → opens_circuit reply.command ≡ true → EndsWithDestroy k (slot_at (new_circuit chan id reply).legs k)
-unfolding slot_at
-last-new chan id reply zero opens = (opens-no-destroy reply.command opens, tt)
-last-new chan id reply (suc k) opens = tt
-
 -- a circuit that dials nothing
 dial-pushed : (s : State) (x : CircuitState) (c : ℕ) → is_handed_out (dial_in s c) ≡ true → is_handed_out (dial_at (slot_at (s.circuits ++ Some x ∷ []) c)) ≡ true
 dial-pushed s x c out = elim (eqb_tells c (length s.circuits)) [
   | inl (is, same) ↦ let none : slot_at s.circuits c ≡ None = slot_at-past s.circuits c (omega arith) in let no : false ≡ true = rw none at out in absurd cc
   | inr (is, other) ↦ rw (slot_at-push s.circuits (Some x) c, is) out
-]
-
--- legs of the other circuits, and the new one's
-whole-opened : (start : Start) (s : State) (h : List Step) (chan id : ℕ) (reply : Cell) (keys : LayerKeys) (pad : Option (List ℕ)) → Stands start s h → at h chan id ≡ None →
-    (c k : ℕ) → IsWhole start.rules (opening chan id reply keys pad (length s.circuits) ∷ h) c k
-whole-opened start s h chan id reply keys pad st free c k = elim (eqb_tells c (length s.circuits)) [
-  | inl (is, same) ↦ subst (λ n. IsWhole start.rules (opening chan id reply keys pad (length s.circuits) ∷ h) n k) (sym same)
-      (whole-new start.rules h chan id reply keys pad (length s.circuits) (st.circuits.fresh (length s.circuits) (omega arith)).past k)
-  | inr (is, other) ↦ whole-other start.rules h chan id reply keys pad (length s.circuits) c k free (not_equal (length s.circuits) c other) (st.legs.whole c k)
 ]
 
 pub opened-kept : (start : Start) (s : State) (h : List Step) (chan id : ℕ) (reply : Cell) (keys : LayerKeys) (pad : Option (List ℕ)) → Stands start s h →
@@ -177,11 +157,7 @@ opened-kept start s h chan id reply keys pad st answered on_live free unlike =
             let past_end : n + 1 ≤ c = grind (arith, common_steps) in
             leg-no n k ((chan == m) && (id == i)) (at h m i) c (not_equal n c (λ same. absurd (omega arith))) (st.ids.no_leg c k m i (omega arith));
       };
-      legs = record {
-        lie = λ leg. leg-pushed (LiesOn s.channels) s new leg (λ same. lies-new s.channels chan id reply leg.number on_live) (st.legs.lie leg);
-        last = λ leg. leg-pushed (EndsWithDestroy leg.number) s new leg (λ same. last-new chan id reply leg.number answered.0.command) (st.legs.last leg);
-        whole = whole-opened start s h chan id reply keys pad st free;
-      };
+      legs = record { lie = λ leg. leg-pushed (LiesOn s.channels) s new leg (λ same. lies-new s.channels chan id reply leg.number on_live) (st.legs.lie leg) };
       dials = record { are_out = again-kept (dial_in s) (dial_in t) s.again (dial-pushed s new) st.dials.are_out; once = st.dials.once; never = st.dials.never };
       counts = record {
         counts = λ leg. leg-pushed (λ y. CountAt y (cell_count rules h leg.circ leg.number) (tick h)) s new leg

@@ -1,6 +1,5 @@
 -- What an opening adds to the history of its circuit, and leaves of the others.
 use Rattle.std.proofs.Common.{◌≡◌, ℕ, ◌==◌, ◌&&◌, Bool, true, false, if◌then◌else◌, List, [], ◌∷◌, Option, Some, None, refl, sym, ◌∙◌, ap, subst, zero, suc, arith}
-use Rattle.std.proofs.lemmas.Bool.Decides.{nat_tests}
 use Rattle.std.proofs.Math.Dec.{eqb-suc-zero}
 use Rattle.cell_codec.specs.declared.cell.Cell.{Cell}
 use Rattle.circuit_model.specs.Effects.{open_effects}
@@ -15,7 +14,6 @@ use Rattle.tr_io.specs.declared.step.Step.{Step}
 use Rattle.tr_io.specs.declared.step.Step.TheVariants.{OpenCircuit}
 use Rattle.switch_model.specs.Names.{Leg, is_leg, chan_no, circ_no, circuit_cell}
 use Rattle.switch_model.specs.History.Legs.{Port, port, at, holds_id, holds_port}
-use Rattle.switch_model.specs.History.Circuit.{events}
 use Rattle.switch_model.specs.Waiting.Queues.{sendable}
 use Rattle.switch_model.specs.History.Past.{Past, past}
 use Rattle.switch_model.specs.History.EdgePast.{edge_past}
@@ -26,7 +24,6 @@ use Rattle.switch_machine.specs.Stands.OneLeg.{LegAt}
 use Rattle.switch_machine.specs.Stands.OneCircuit.{CircuitStands, IsFresh, no_past, left_at}
 use Rattle.switch_model.proofs.Common.{self_eq, and-first, and-second, same-number}
 use Rattle.switch_model.proofs.Others.{other_pasts}
-use Rattle.switch_machine.proofs.Lying.{IsWhole}
 
 abbrev pub opening : ℕ → ℕ → Cell → LayerKeys → Option (List ℕ) → ℕ → Step
 opening chan id reply keys pad n = OpenCircuit (chan_no chan) id reply (Some keys) pad (Opened (circ_no n))
@@ -79,11 +76,6 @@ holds-other h chan id reply keys pad n d k free other = rw other (holds-by h cha
 
 -- the new circuit stands for its past
 
-events-opened : (rules : Rules) (h : List Step) (chan id : ℕ) (reply : Cell) (keys : LayerKeys) (pad : Option (List ℕ)) (n : ℕ) → past rules h n ≡ no_past →
-    events rules (opening chan id reply keys pad n ∷ h) n ≡ born_event reply keys pad ∷ []
-events-opened rules h chan id reply keys pad n fresh =
-    ap (λ (p : Past). p.events) (past-opened rules h chan id reply keys pad n ∙ ap (λ p. opened_past p chan id reply keys pad) fresh)
-
 -- the first leg
 holds-first : (h : List Step) (chan id : ℕ) (reply : Cell) (keys : LayerKeys) (pad : Option (List ℕ)) (n : ℕ) → holds_id (opening chan id reply keys pad n ∷ h) n 0 ≡ true
 holds-first h chan id reply keys pad n = simp (self_eq n, self_eq chan, self_eq id)
@@ -116,7 +108,6 @@ new-circuit rules closes h chan id reply keys pad n fresh none = record {
   linked = refl;
   hops = refl;
   legs = new-legs rules h chan id reply keys pad n fresh.past;
-  client_leg = holds-first h chan id reply keys pad n;
   forth = record { claimed = refl; out = refl; kept = refl; noted = tt; cells = refl; claimed_numbers = []; claimed_all = refl; numbers = sym (fresh.numbers Forth) };
   back = record { claimed = refl; out = refl; kept = refl; noted = tt; cells = refl; claimed_numbers = []; claimed_all = refl; numbers = sym (fresh.numbers Back) };
   orders = record { reach_orders = λ serial. refl; carry_orders = λ serial. refl; close_orders = λ serial. refl };
@@ -132,21 +123,3 @@ circuit-opened rules closes h chan id reply keys pad n fresh none =
     subst (λ p. CircuitStands rules closes (new_circuit chan id reply) n p (λ k. holds_id (step ∷ h) n k) (edge_past rules (step ∷ h) n))
     (sym (past-opened rules h chan id reply keys pad n ∙ ap (λ p. opened_past p chan id reply keys pad) fresh.past))
     (new-circuit rules closes h chan id reply keys pad n fresh none)
-
-eqb-zero-suc : (k : ℕ) → (0 == suc k) ≡ false
-eqb-zero-suc k = grind (arith, nat_tests)
-
--- what was sent on its legs, and on those of the others
-pub whole-new : (rules : Rules) (h : List Step) (chan id : ℕ) (reply : Cell) (keys : LayerKeys) (pad : Option (List ℕ)) (n : ℕ) → past rules h n ≡ no_past → (k : ℕ) →
-    IsWhole rules (opening chan id reply keys pad n ∷ h) n k
-unfolding open_effects
-whole-new rules h chan id reply keys pad n fresh zero alive lost ends =
-    let both : true ≡ false = sym (holds-first h chan id reply keys pad n) ∙ lost in
-    cc
-whole-new rules h chan id reply keys pad n fresh (suc k) alive lost ends =
-    rw (events-opened rules h chan id reply keys pad n fresh, ap (λ (p : Past). p.sent (suc k)) fresh, eqb-suc-zero k, eqb-zero-suc k) refl
-
-pub whole-other : (rules : Rules) (h : List Step) (chan id : ℕ) (reply : Cell) (keys : LayerKeys) (pad : Option (List ℕ)) (n d k : ℕ) → at h chan id ≡ None → (n == d) ≡ false →
-    IsWhole rules h d k → IsWhole rules (opening chan id reply keys pad n ∷ h) d k
-whole-other rules h chan id reply keys pad n d k free other whole alive lost ends =
-    rw other (whole (rw other at alive) (sym (holds-other h chan id reply keys pad n d k free other) ∙ lost) ends)

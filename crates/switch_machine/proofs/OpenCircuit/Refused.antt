@@ -24,7 +24,7 @@ use Rattle.switch_machine.specs.Stands.CircIds.{IsUsed, IsApart}
 use Rattle.switch_machine.specs.Stands.{Stands}
 use Rattle.switch_machine.specs.Calls.OpenCircuit.{refusing, open_state_by}
 use Rattle.switch_model.proofs.Common.{self_eq, not_equal}
-use Rattle.switch_machine.proofs.OneStep.{step-added, channel-count, lie-changed}
+use Rattle.switch_machine.proofs.OneStep.{step-added, channel-count}
 use Rattle.switch_machine.proofs.OneChannel.{channel-own, channel-changed}
 use Rattle.switch_machine.proofs.Lying.{lies-with}
 use Rattle.switch_machine.proofs.Slots.{length-with, slot_at-inside}
@@ -94,7 +94,7 @@ refused-kept start s h chan id reply keys pad why channel st found answered free
         ];
         no_leg = st.ids.no_leg;
       };
-      legs = lie-changed s.channels _ (leg_in s) _ _ _ _ _ (λ leg. lies-with s.channels chan (refusing id why channel) (leg_in s leg) inside) st.legs;
+      legs = record { lie = λ leg. lies-with s.channels chan (refusing id why channel) (leg_in s leg) inside (st.legs.lie leg) };
       dials = st.dials;
       counts = st.counts;
       slots = st.slots;

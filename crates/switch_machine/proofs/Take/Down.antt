@@ -28,7 +28,7 @@ use Rattle.switch_machine.specs.Calls.TearDown.{torn_state}
 use Rattle.switch_machine.specs.Machine.{dial_in, has_port, leg_in}
 use Rattle.switch_machine.specs.Stands.{Stands}
 use Rattle.switch_machine.specs.Stands.CircIds.{CircIdsStand, IsApart}
-use Rattle.switch_machine.specs.Stands.Legs.{EndsWithDestroy, LiesOn}
+use Rattle.switch_machine.specs.Stands.Legs.{LiesOn}
 use Rattle.switch_machine.specs.Stands.OneLeg.{LegAt, LegBy}
 use Rattle.switch_machine.specs.State.{ChannelState, CircuitState, LegState, State, slot_at}
 use Rattle.switch_model.proofs.Common.{and-false, and-first, and-second, not_equal, same-number, self_eq}
@@ -39,7 +39,7 @@ use Rattle.switch_machine.proofs.SameLegs.{all-dials-kept, dials-same}
 use Rattle.switch_machine.proofs.Slots.{length-with, slot_at-inside, slot_at-with}
 use Rattle.switch_machine.proofs.Take.FoundLeg.{at-found}
 use Rattle.switch_machine.proofs.Take.Frames.{born-same, edge-taken, events-first}
-use Rattle.switch_machine.proofs.Take.Frees.{circuit-taken, freed-is, frees, ids-freed, leg-taken, whole-taken}
+use Rattle.switch_machine.proofs.Take.Frees.{circuit-taken, freed-is, frees, ids-freed, leg-taken}
 use Rattle.switch_machine.proofs.TearDown.By.{dead-by, leg-named-by, torn-by}
 use Rattle.switch_machine.proofs.TearDown.Torn.{count-if, leg-begins}
 
@@ -129,10 +129,6 @@ lies-if : (slots : List (Option ChannelState)) (b : Bool) (z : Option LegState) 
 lies-if slots true z lies = tt
 lies-if slots false z lies = lies
 
-last-if : (k : ℕ) (b : Bool) (z : Option LegState) → EndsWithDestroy k z → EndsWithDestroy k (if b then None else z)
-last-if k true z ends = tt
-last-if k false z ends = ends
-
 freed-of : (m i : ℕ) (chan : ℕ) (cell : Cell) (l : LegState) → l.chan ≡ chan → l.id ≡ cell.circ → (cell.command == 4) ≡ true → has_port m i (Some l) ≡ true → frees chan cell m i ≡ true
 freed-of m i chan cell l on_channel on_id is has =
     let same_channel : chan ≡ m = sym on_channel ∙ same-number l.chan m (and-first (l.chan == m) _ has) in
@@ -210,9 +206,7 @@ down-kept start s h chan c r cell x l st found first on_channel on_id here right
           rw (same_past d other, same_edge d) (st.circuits.fresh d (omega (arith, beyond, many)));
       ids = subst (λ n. CircIdsStand (leg_in t) lanes (at (step ∷ h)) (is_live_circuit rules h) n) (sym many)
           (ids-freed (leg_in s) (leg_in t) (λ m. lane rules h m) (at h) (is_live_circuit rules h) (length s.circuits) (frees chan cell) (port-stays s chan c cell x l found first on_channel on_id) st.ids);
-      lie = λ leg. rw (leg_in-before s c cell x l found first leg) (lies-if s.channels ((leg.circ == c) && loses cell leg.number) (leg_in s leg) (st.legs.lie leg));
-      last = λ leg. rw (leg_in-before s c cell x l found first leg) (last-if leg.number ((leg.circ == c) && loses cell leg.number) (leg_in s leg) (st.legs.last leg));
-      whole = λ d k other. whole-taken rules h chan cell (Down (circ_no c) r) d k (same_events d) (st.legs.whole d k);
+      legs_stand = record { lie = λ leg. rw (leg_in-before s c cell x l found first leg) (lies-if s.channels ((leg.circ == c) && loses cell leg.number) (leg_in s leg) (st.legs.lie leg)) };
       dials = dials-same s.again (dial_in t) (dial_in s) (length (dials_made rules h)) (was_handed_out h) (all-dials-kept s c x y found (dial-by x (cell.command == 4))) st.dials;
       counts = record {
         counts = λ leg. rw (leg_in-before s c cell x l found first leg) (count-if ((leg.circ == c) && loses cell leg.number) (leg_in s leg) (cell_count rules h leg.circ leg.number) (tick h) (st.counts.counts leg));

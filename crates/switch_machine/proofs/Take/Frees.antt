@@ -1,31 +1,26 @@
 -- A cell that is taken frees a CircID where it is the peer's DESTROY for it: its leg loses the CircID, and our
 -- DESTROY for it goes.
-use Rattle.std.proofs.Common.{◌&&◌, ◌==◌, ◌||◌, ◌∙◌, ◌∷◌, ◌≡◌, Bool, List, None, Option, Some, [], ap, false, if◌then◌else◌, inl, inr, not, refl, subst, sym, true, ℕ}
+use Rattle.std.proofs.Common.{◌&&◌, ◌==◌, ◌||◌, ◌∙◌, ◌∷◌, ◌≡◌, Bool, List, None, Option, Some, [], false, if◌then◌else◌, inl, inr, not, refl, subst, sym, true, ℕ}
 use Rattle.std.specs.List.{AllByRecursion, filter, list_any}
 use Rattle.cell_codec.specs.declared.cell.Cell.{Cell}
 use Rattle.circuit_model.specs.Events.{CircuitCell}
 use Rattle.circuit_model.specs.Rules.{Rules}
-use Rattle.circuit_model.specs.Words.{log}
 use Rattle.tr_io.specs.declared.answers.TakeAnswer.{TakeAnswer}
 use Rattle.tr_io.specs.declared.step.Step.{Step}
 use Rattle.tr_io.specs.declared.step.Step.TheVariants.{Take}
 use Rattle.switch_model.specs.Answers.EdgeOut.{Ordered}
-use Rattle.switch_model.specs.History.Circuit.{events, sent}
+use Rattle.switch_model.specs.History.Circuit.{sent}
 use Rattle.switch_model.specs.History.EdgePast.{edge_past}
-use Rattle.switch_model.specs.History.LegEnds.{is_ended_outside}
 use Rattle.switch_model.specs.History.Legs.{Port, at, holds_id, holds_port, is_destroy_for, port}
 use Rattle.switch_model.specs.History.Past.{past}
-use Rattle.switch_model.specs.Names.{Leg, chan_no, is_leg}
+use Rattle.switch_model.specs.Names.{Leg, chan_no}
 use Rattle.switch_model.specs.Waiting.Lanes.{Destroy}
-use Rattle.switch_model.specs.Waiting.Queues.{sealed_count, sendable}
 use Rattle.switch_machine.specs.Machine.{has_port, leg_at}
 use Rattle.switch_machine.specs.Stands.CircIds.{CircIdsStand, IsApart, IsUsed}
 use Rattle.switch_machine.specs.Stands.OneCircuit.{CircuitAt}
 use Rattle.switch_machine.specs.Stands.OneLeg.{LegBy}
 use Rattle.switch_machine.specs.State.{CircuitState, LegState, slot_at}
 use Rattle.switch_model.proofs.Common.{and-first, and-second, same-number}
-use Rattle.switch_model.proofs.Ways.{was-live}
-use Rattle.switch_machine.proofs.Lying.{IsWhole}
 use Rattle.switch_machine.proofs.NextCell.Destroy.{leg-fewer, leg-less}
 
 -- whether the step frees CircID i of channel m
@@ -112,50 +107,12 @@ pub holds-on : (h : List Step) (chan : ℕ) (cell : Cell) (a : TakeAnswer) (d j 
     holds_id (Take (chan_no chan) cell a ∷ h) d j ≡ holds_id h d j
 holds-on h chan cell a d j place lies free = rw (lies, free) refl
 
--- a leg that loses it is ended by the peer
-
-ended-at : (h : List Step) (chan : ℕ) (cell : Cell) (a : TakeAnswer) (d j m i : ℕ) (b : Bool) → frees chan cell m i ≡ b → is_leg d j (at h m i) ≡ true → is_leg d j (if b then None else at h m i) ≡ false →
-    is_ended_outside (Take (chan_no chan) cell a ∷ h) d j ≡ true
-ended-at h chan cell a d j m i true is named lost =
-    let it = freed-is chan cell m i is in
-    let there : is_leg d j (at h chan cell.circ) ≡ true = subst (λ n. is_leg d j (at h n cell.circ) ≡ true) (sym it.on_channel) (subst (λ n. is_leg d j (at h m n) ≡ true) (sym it.on_id) named) in
-    rw (there, it.by_destroy) refl
-ended-at h chan cell a d j m i false is named lost = let both : true ≡ false = sym named ∙ lost in absurd cc
-
-ended-by : (h : List Step) (chan : ℕ) (cell : Cell) (a : TakeAnswer) (d j : ℕ) (p : Option Port) → holds_port h d j p ≡ true → holds_port (Take (chan_no chan) cell a ∷ h) d j p ≡ false →
-    is_ended_outside (Take (chan_no chan) cell a ∷ h) d j ≡ true
-ended-by h chan cell a d j None had lost = absurd cc
-ended-by h chan cell a d j (Some place) had lost = ended-at h chan cell a d j place.chan place.id (frees chan cell place.chan place.id) refl had lost
-
-ended-before : (b e : Bool) → (if b then true else e) ≡ false → e ≡ false
-ended-before true e ends = cc
-ended-before false e ends = ends
-
-whole-by : (rules : Rules) (h : List Step) (chan : ℕ) (cell : Cell) (a : TakeAnswer) (d j : ℕ) (had : Bool) → holds_id h d j ≡ had → events rules (Take (chan_no chan) cell a ∷ h) d ≡ events rules h d →
-    IsWhole rules h d j → IsWhole rules (Take (chan_no chan) cell a ∷ h) d j
-whole-by rules h chan cell a d j true is same own = λ alive lost ends.
-    let ended : is_ended_outside (Take (chan_no chan) cell a ∷ h) d j ≡ true = ended-by h chan cell a d j (port h d j) is lost in
-    let both : true ≡ false = sym ended ∙ ends in absurd cc
-whole-by rules h chan cell a d j false is same own = λ alive lost ends.
-    own (was-live rules h (Take (chan_no chan) cell a) d refl alive) is (ended-before (is_leg d j (at h chan cell.circ) && (cell.command == 4)) (is_ended_outside h d j) ends)
-    ∙ ap (λ ev. sendable (log rules ev) (sealed_count h d) j) (sym same)
-
-pub whole-taken : (rules : Rules) (h : List Step) (chan : ℕ) (cell : Cell) (a : TakeAnswer) (d j : ℕ) → events rules (Take (chan_no chan) cell a ∷ h) d ≡ events rules h d →
-    IsWhole rules h d j → IsWhole rules (Take (chan_no chan) cell a ∷ h) d j
-whole-taken rules h chan cell a d j same own = whole-by rules h chan cell a d j (holds_id h d j) refl same own
-
 -- a leg whose CircID is not freed
 
 pub leg-taken : (h : List Step) (chan : ℕ) (cell : Cell) (a : TakeAnswer) (d j : ℕ) (y : Option LegState) (sent may_leave : List CircuitCell) → ((l : LegState) → y ≡ Some l → frees chan cell l.chan l.id ≡ false) →
     LegBy y sent may_leave (port h d j) (holds_id h d j) → LegBy y sent may_leave (port h d j) (holds_id (Take (chan_no chan) cell a ∷ h) d j)
 leg-taken h chan cell a d j None sent may_leave free own = record { holds = holds-lost h chan cell a d j own.holds; begins = own.begins }
 leg-taken h chan cell a d j (Some l) sent may_leave free own = record { holds = holds-on h chan cell a d j (record { chan = l.chan; id = l.id }) own.port (free l refl) ∙ own.holds; port = own.port; cells = own.cells }
-
--- the leg towards the client among them
-pub client-taken : (h : List Step) (chan : ℕ) (cell : Cell) (a : TakeAnswer) (d : ℕ) (y : Option LegState) (sent may_leave : List CircuitCell) → ((l : LegState) → y ≡ Some l → frees chan cell l.chan l.id ≡ false) →
-    LegBy y sent may_leave (port h d 0) (holds_id h d 0) → holds_id h d 0 ≡ true → holds_id (Take (chan_no chan) cell a ∷ h) d 0 ≡ true
-client-taken h chan cell a d None sent may_leave free own has = let both : true ≡ false = sym has ∙ own.holds in absurd cc
-client-taken h chan cell a d (Some l) sent may_leave free own has = holds-on h chan cell a d 0 (record { chan = l.chan; id = l.id }) own.port (free l refl) ∙ has
 
 -- the same for a circuit whose past is the same
 pub circuit-taken : (rules : Rules) (closes : List Ordered) (h : List Step) (chan : ℕ) (cell : Cell) (a : TakeAnswer) (d : ℕ) (x : Option CircuitState) → ((k : ℕ) (l : LegState) → leg_at x k ≡ Some l → frees chan cell l.chan l.id ≡ false) →
@@ -171,7 +128,6 @@ circuit-taken rules closes h chan cell a d (Some x) free same_past same_edge own
   linked = own.linked;
   hops = own.hops;
   legs = λ k. leg-taken h chan cell a d k (slot_at x.legs k) _ _ (free k) (own.legs k);
-  client_leg = client-taken h chan cell a d (slot_at x.legs 0) _ _ (free 0) (own.legs 0) own.client_leg;
   forth = own.forth;
   back = own.back;
   orders = own.orders;

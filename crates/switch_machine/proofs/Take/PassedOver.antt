@@ -30,7 +30,7 @@ use Rattle.switch_machine.proofs.OneChannel.{channel-changed, channel-own}
 use Rattle.switch_machine.proofs.OneStep.{step-added}
 use Rattle.switch_machine.proofs.Slots.{length-with, slot_at-inside}
 use Rattle.switch_machine.proofs.Take.Frames.{born-same, edge-taken, events-passed}
-use Rattle.switch_machine.proofs.Take.Frees.{circuit-taken, freed-is, frees, ids-freed, lane-stays, whole-taken}
+use Rattle.switch_machine.proofs.Take.Frees.{circuit-taken, freed-is, frees, ids-freed, lane-stays}
 
 past-passed : (rules : Rules) (h : List Step) (chan : ℕ) (cell : Cell) (why : Why) (d : ℕ) → past rules (Take (chan_no chan) cell (PassedOver why) ∷ h) d ≡ past rules h d
 past-passed rules h chan cell why d = ap (λ ev. record (past rules h d) { events = ev }) (events-passed rules h chan cell why d)
@@ -81,11 +81,7 @@ passed-with start s h chan cell why slots st right none stand size lies =
         fresh = λ d beyond. rw (past-passed rules h chan cell why d, edge-passed rules h chan cell why d) (st.circuits.fresh d beyond);
       };
       ids = ids-freed (leg_in s) (leg_in s) (λ m. lane rules h m) (at h) (is_live_circuit rules h) (length s.circuits) (frees chan cell) (λ leg m i free has. has) st.ids;
-      legs = record {
-        lie = λ leg. lies leg (st.legs.lie leg);
-        last = st.legs.last;
-        whole = λ d j. whole-taken rules h chan cell (PassedOver why) d j (events-passed rules h chan cell why d) (st.legs.whole d j);
-      };
+      legs = record { lie = λ leg. lies leg (st.legs.lie leg) };
       dials = st.dials;
       counts = st.counts;
       slots = st.slots;

@@ -11,9 +11,8 @@ use Rattle.tr_io.specs.declared.names.Dir.TheVariants.{Back, Forth}
 use Rattle.tr_io.specs.declared.step.Step.{Step}
 use Rattle.tr_io.specs.declared.step.Step.TheVariants.{Take}
 use Rattle.switch_model.specs.Answers.EdgeOut.{Ordered}
-use Rattle.switch_model.specs.History.Circuit.{is_live_circuit, sent}
+use Rattle.switch_model.specs.History.Circuit.{is_live_circuit}
 use Rattle.switch_model.specs.History.EdgePast.{edge_past}
-use Rattle.switch_model.specs.History.LegEnds.{is_ended_outside}
 use Rattle.switch_model.specs.History.Legs.{at, holds_id}
 use Rattle.switch_model.specs.History.Past.{Past, past}
 use Rattle.switch_model.specs.History.Taken.{taken_forth}
@@ -24,7 +23,6 @@ use Rattle.switch_model.specs.Waiting.Claims.{born_bodies}
 use Rattle.switch_model.specs.Waiting.Counts.{cell_count, tick}
 use Rattle.switch_model.specs.Waiting.Dials.{dials_made, was_handed_out}
 use Rattle.switch_model.specs.Waiting.Lanes.{lane}
-use Rattle.switch_model.specs.Waiting.Queues.{circuit_log, sealed_count, sendable}
 use Rattle.switch_machine.specs.Calls.Take.{forth_waits, queued_forth_state}
 use Rattle.switch_machine.specs.Machine.{dial_in, leg_in}
 use Rattle.switch_machine.specs.Stands.{Stands}
@@ -32,16 +30,14 @@ use Rattle.switch_machine.specs.Stands.OneCircuit.{CircuitStands}
 use Rattle.switch_machine.specs.State.{CircuitState, State, slot_at}
 use Rattle.switch_model.proofs.Common.{self_eq}
 use Rattle.switch_model.proofs.Others.{other_pasts}
-use Rattle.switch_machine.proofs.GiveBack.ForthKept.{legs-kept}
 use Rattle.switch_machine.proofs.GiveBack.Returned.{new-none}
 use Rattle.switch_machine.proofs.OneCircuit.{circuit-changed, circuit-own}
 use Rattle.switch_machine.proofs.OneStep.{step-added}
 use Rattle.switch_machine.proofs.OtherEdges.{other_edges}
-use Rattle.switch_machine.proofs.SameLegs.{all-dials-kept, counts-same, dials-same, ids-same, legs-same}
+use Rattle.switch_machine.proofs.SameLegs.{legs-kept, all-dials-kept, counts-same, dials-same, ids-same, legs-same}
 use Rattle.switch_machine.proofs.Settling.Core.{way-queued}
 use Rattle.switch_machine.proofs.Slots.{length-with}
-use Rattle.switch_machine.proofs.Take.Frames.{events-first}
-use Rattle.switch_machine.proofs.Take.Frees.{circuit-taken, client-taken, frees, frees-none, ids-freed, lane-stays, leg-taken, whole-taken}
+use Rattle.switch_machine.proofs.Take.Frees.{circuit-taken, frees, frees-none, ids-freed, lane-stays, leg-taken}
 
 abbrev queueing : ℕ → Cell → Step
 queueing chan cell = Take (chan_no chan) cell Queued
@@ -84,7 +80,6 @@ circuit-queued rules closes h chan c n cell x here other same own =
       linked = own.linked;
       hops = own.hops;
       legs = λ k. leg-taken h chan cell Queued c k (slot_at x.legs k) _ _ (λ l found. frees-none chan cell other l.chan l.id) (own.legs k);
-      client_leg = client-taken h chan cell Queued c (slot_at x.legs 0) _ _ (λ l found. frees-none chan cell other l.chan l.id) (own.legs 0) own.client_leg;
       forth = rw (born, self_eq c, ← same) (way-queued c Forth x.forth _ _ _ _ _ n (circuit_cell cell) own.forth);
       back = rw (born, self_eq c) own.back;
       orders = own.orders;
@@ -123,8 +118,7 @@ queued-forth start s h chan c cell x st found here other right =
           (circuit-queued rules s.last_closes h chan c s.bodies cell x here other st.numbers.bodies own) st.circuits;
       ids = ids-same (leg_in t) (leg_in s) (λ m. filter (λ e. not (frees chan cell m e.id)) (lane rules h m)) (λ m i. if frees chan cell m i then None else at h m i) (is_live_circuit rules h) (length t.circuits) (length s.circuits) same_legs many
           (ids-freed (leg_in s) (leg_in s) (λ m. lane rules h m) (at h) (is_live_circuit rules h) (length s.circuits) (frees chan cell) (λ leg m i free has. has) st.ids);
-      legs = legs-same s.channels (leg_in t) (leg_in s) (is_live_circuit rules h) (λ d k. holds_id (step ∷ h) d k) (is_ended_outside (step ∷ h)) (sent rules h) (λ d k. sendable (circuit_log rules (step ∷ h) d) (sealed_count h d) k) same_legs
-          (record { lie = st.legs.lie; last = st.legs.last; whole = λ d j. whole-taken rules h chan cell Queued d j (events-first rules h chan cell Queued c d here) (st.legs.whole d j) });
+      legs = legs-same s.channels (leg_in t) (leg_in s) same_legs st.legs;
       dials = dials-same s.again (dial_in t) (dial_in s) (length (dials_made rules h)) (was_handed_out h) same_dials st.dials;
       counts = counts-same (leg_in t) (leg_in s) (cell_count rules h) (tick h) (length t.circuits) (length s.circuits) same_legs many st.counts;
       slots = st.slots;

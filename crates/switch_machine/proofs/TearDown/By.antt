@@ -28,7 +28,7 @@ use Rattle.switch_machine.specs.Stands.Channels.{channel_past, ChannelsStand}
 use Rattle.switch_machine.specs.Stands.OneLeg.{LegBy}
 use Rattle.switch_machine.specs.Stands.OneCircuit.{left_at, CircuitAt, IsFresh}
 use Rattle.switch_machine.specs.Stands.CircIds.{CircIdsStand}
-use Rattle.switch_machine.specs.Stands.Legs.{LiesOn, EndsWithDestroy}
+use Rattle.switch_machine.specs.Stands.Legs.{LiesOn, LegsStand}
 use Rattle.switch_machine.specs.Stands.Dials.{DialsStand}
 use Rattle.switch_machine.specs.Stands.Counts.{CountsStand}
 use Rattle.switch_machine.specs.Stands.Slots.{SlotsStand}
@@ -36,7 +36,6 @@ use Rattle.switch_machine.specs.Stands.NotYet.{NotYetStand}
 use Rattle.switch_machine.specs.Stands.{Stands}
 use Rattle.switch_model.proofs.Common.{self_eq, not_equal}
 use Rattle.switch_machine.proofs.Slots.{slot_at-with, length-with, slot_at-inside}
-use Rattle.switch_machine.proofs.Lying.{IsWhole}
 use Rattle.switch_machine.proofs.Dials.{dials-changed}
 use Rattle.switch_machine.proofs.NextCell.Sent.{turned}
 use Rattle.switch_machine.proofs.TearDown.Torn.{leg-begins, old-leg, gone-leg, gone-dial, port-inside, none-put, destroys-said, length-lanes, lies-lanes, channels-torn, TornIds, ids-torn, counts-torn, put-waits, put-theirs}
@@ -51,9 +50,7 @@ pub record ToTear (start : Start) (s : State) (h : List Step) (step : Step) (c r
   pub others : (d : ℕ) → (c == d) ≡ false → CircuitAt start.rules s.last_closes (slot_at s.circuits d) d (past start.rules (step ∷ h) d) (λ k. holds_id (step ∷ h) d k) (edge_past start.rules (step ∷ h) d)
   pub fresh : (d : ℕ) → length s.circuits ≤ d → IsFresh (past start.rules (step ∷ h) d) (edge_past start.rules (step ∷ h) d)
   pub ids : CircIdsStand (leg_in s) lanes (at (step ∷ h)) (is_live_circuit start.rules h) (length s.circuits)
-  pub lie : (leg : Leg) → LiesOn s.channels (leg_in s leg)
-  pub last : (leg : Leg) → EndsWithDestroy leg.number (leg_in s leg)
-  pub whole : (d k : ℕ) → (c == d) ≡ false → IsWhole start.rules (step ∷ h) d k
+  pub legs_stand : LegsStand s.channels (leg_in s)
   pub dials : DialsStand s.again (dial_in s) (length (dials_made start.rules (step ∷ h))) (was_handed_out (step ∷ h))
   pub counts : CountsStand (leg_in s) (cell_count start.rules (step ∷ h)) (tick (step ∷ h)) (length s.circuits)
   pub slots : SlotsStand s.slots s.halts s.least_halt (bound (step ∷ h)) (halts (step ∷ h)) (λ n. some_halt n (step ∷ h))
@@ -76,10 +73,6 @@ dead-by c d reason l false is = rw (turned d c, is) refl
 lie-torn : (slots : List (Option ChannelState)) (put : ℕ → List Destroy) (b : Bool) (y : Option LegState) → LiesOn slots y → LiesOn (with_lanes put 0 slots) (if b then None else y)
 lie-torn slots put true y lies = tt
 lie-torn slots put false y lies = lies-lanes slots put y lies
-
-last-torn : (k : ℕ) (b : Bool) (y : Option LegState) → EndsWithDestroy k y → EndsWithDestroy k (if b then None else y)
-last-torn k true y last = tt
-last-torn k false y last = last
 
 off-channel : (slots : List (Option ChannelState)) (y : LegState) (n : ℕ) → LiesOn slots (Some y) → slot_at slots n ≡ None → (y.chan == n) ≡ false
 off-channel slots y n lies none = not_equal y.chan n (λ same. let no : false ≡ true = rw (← same, none) at lies in absurd cc)
@@ -116,7 +109,7 @@ torn-by start old s h step c reason x lanes st to =
       };
       channels = channels-torn s.channels (λ n. record { channel = channel_at (step ∷ h) n; given = given_ids (step ∷ h) n; lane = lanes n }) (λ n. channel_past rules (step ∷ h) n) put (λ n. rw (lane_is n) refl)
           (λ n none. none-put x.legs n _ reason (λ k y has. let found_leg : leg_in s (record { circ = c; number = k }) ≡ Some y = rw to.found has in
-          off-channel s.channels y n (subst (λ z. LiesOn s.channels z) found_leg (to.lie (record { circ = c; number = k }))) none) (length x.legs)) to.channels;
+          off-channel s.channels y n (subst (λ z. LiesOn s.channels z) found_leg (to.legs_stand.lie (record { circ = c; number = k }))) none) (length x.legs)) to.channels;
       circuits = record {
         circuit = λ d. elim (eqb_tells d c) [
           | inl (is, same) ↦ rw (slot_at-with s.circuits c None d inside, is)
@@ -129,14 +122,7 @@ torn-by start old s h step c reason x lanes st to =
       ids = subst (λ m. CircIdsStand (leg_in t) (λ n. lane rules (step ∷ h) n) (at (step ∷ h)) (is_live_circuit rules (step ∷ h)) m) (sym many)
           (subst (λ f. CircIdsStand (leg_in t) f (at (step ∷ h)) (is_live_circuit rules (step ∷ h)) (length s.circuits)) (sym (fun_ext lane_is))
           (ids-torn (leg_in s) (leg_in t) lanes put (at (step ∷ h)) (is_live_circuit rules h) (is_live_circuit rules (step ∷ h)) (length s.circuits) c torn to.ids));
-      legs = record {
-        lie = λ leg. rw (gone leg) (lie-torn s.channels put (leg.circ == c) (leg_in s leg) (to.lie leg));
-        last = λ leg. rw (gone leg) (last-torn leg.number (leg.circ == c) (leg_in s leg) (to.last leg));
-        whole = λ d k. elim (eqb_tells d c) [
-          | inl (is, same) ↦ λ alive lost ends. let both : false ≡ true = sym (subst (λ e. is_live_circuit rules (step ∷ h) e ≡ false) (sym same) dead_c) ∙ alive in absurd cc
-          | inr (is, other) ↦ to.whole d k (not_equal c d other)
-        ];
-      };
+      legs = record { lie = λ leg. rw (gone leg) (lie-torn s.channels put (leg.circ == c) (leg_in s leg) (to.legs_stand.lie leg)) };
       dials = dials-changed s.again (dial_in s) (dial_in t) c _ (length (dials_made rules (step ∷ h))) _ (was_handed_out (step ∷ h)) None
           (gone-dial s c x to.found c ∙ rw (self_eq c) refl) (λ d other. gone-dial s c x to.found d ∙ rw other refl) to.dials.never to.dials;
       counts = subst (λ m. CountsStand (leg_in t) (cell_count rules (step ∷ h)) (tick (step ∷ h)) m) (sym many)

@@ -5,7 +5,6 @@ use Rattle.switch_machine.proofs.OneStep.{step-added}
 use Rattle.switch_machine.proofs.OtherEdges.{other_edges}
 use Rattle.switch_machine.proofs.Slots.{slot_at-inside}
 use Rattle.switch_machine.proofs.TearDown.By.{dead-by, leg-named-by, torn-by}
-use Rattle.switch_machine.proofs.Unlinked.{whole-at}
 use Rattle.switch_machine.specs.Calls.TearDown.{tear_down_result, tear_down_result_of, tear_down_state, tear_down_state_of, torn_state}
 use Rattle.switch_machine.specs.Machine.{counted}
 use Rattle.switch_machine.specs.Stands.{Stands}
@@ -15,7 +14,6 @@ use Rattle.switch_model.proofs.Common.{not_equal}
 use Rattle.switch_model.proofs.Others.{other_pasts}
 use Rattle.switch_model.specs.History.Circuit.{events, is_live_circuit}
 use Rattle.switch_model.specs.History.EdgePast.{edge_past}
-use Rattle.switch_model.specs.History.LegEnds.{is_ended_outside}
 use Rattle.switch_model.specs.History.Legs.{holds_id}
 use Rattle.switch_model.specs.History.Past.{past}
 use Rattle.switch_model.specs.Names.{circ_no}
@@ -47,10 +45,7 @@ torn-kept start s h c reason x st found =
           let other = not_equal c d (λ same. absurd (omega (arith, beyond, inside, same))) in
           rw (other_pasts rules h step d (rw other refl), other_edges rules h step d (rw other refl) refl) (st.circuits.fresh d beyond);
       ids = st.ids;
-      lie = st.legs.lie;
-      last = st.legs.last;
-      whole = λ d k other. whole-at rules s.last_closes (slot_at s.circuits d) d (past rules (step ∷ h) d) (λ j. holds_id (step ∷ h) d j) (edge_past rules (step ∷ h) d) k (is_ended_outside (step ∷ h) d k) (st.not_yet.unlinked d)
-          (rw (other_pasts rules h step d (rw other refl), other_edges rules h step d (rw other refl) refl) (st.circuits.circuit d));
+      legs_stand = st.legs;
       dials = st.dials;
       counts = st.counts;
       slots = st.slots;

@@ -64,8 +64,6 @@ pub record CircuitStands (rules : Rules) (closes : List Ordered) (x : CircuitSta
   pub linked : leg_count (log rules p.events) ≡ p.hops
   pub hops : length x.legs ≡ p.hops + 1
   pub legs : (k : ℕ) → LegAt rules (slot_at x.legs k) k p (has_id k)
-  -- its leg towards the client has its CircID
-  pub client_leg : has_id 0 ≡ true
   pub forth :
       WayStands c Forth x.forth (settled_forth (log rules p.events)) p.taken_forth (p.claimed Forth) (p.kept Forth) (e.numbers Forth)
   pub back :
