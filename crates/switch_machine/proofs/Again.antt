@@ -2,7 +2,6 @@
 use Rattle.std.specs.Prelude.{⊤}
 use Rattle.std.proofs.Common.{◌≡◌, ℕ, ◌+◌, ◌≤◌, ◌==◌, ◌&&◌, ◌⊎◌, Bool, true, false, if◌then◌else◌, List, [], ◌∷◌, ◌++◌, length, Option, Some, None, refl, sym, ◌∙◌, ap, subst, arith, inl, inr}
 use Rattle.std.specs.List.{AllByRecursion, list_any, filter}
-use Rattle.std.proofs.lemmas.Bool.Decides.{nat_tests}
 use Rattle.tor_spec.specs.Extend.{Address}
 use Rattle.circuit_model.specs.NextHop.{next_hop}
 use Rattle.circuit_model.specs.Rules.{Rules}
@@ -24,6 +23,7 @@ use Rattle.switch_machine.specs.Calls.DialMemory.{dial_memory_state}
 use Rattle.switch_machine.specs.Stands.Dials.{AreOnce}
 use Rattle.switch_machine.specs.Stands.OneCircuit.{last_of, CircuitAt}
 use Rattle.switch_machine.specs.Stands.{Stands}
+use Rattle.switch_model.proofs.Ported.{turned}
 use Rattle.switch_model.proofs.Common.{self_eq, or-first, or-second, and-first, and-second, same-number}
 
 -- The dial orders that were made are numbered in turn.
@@ -137,13 +137,10 @@ among-last : (n : ℕ) (xs : List ℕ) (x : ℕ) → is_among n xs ≡ false →
 among-last n [] x none other = rw other refl
 among-last n (y ∷ xs) x none other = rw (or-first (y == n) _ none) (among-last n xs x (or-second (y == n) _ none) other)
 
-unlike : (a b : ℕ) → (a == b) ≡ false → (b == a) ≡ false
-unlike a b other = grind (arith, nat_tests)
-
 once-last : (xs : List ℕ) (x : ℕ) → AreOnce xs → is_among x xs ≡ false → AreOnce (xs ++ x ∷ [])
 once-last [] x once none = (refl, tt)
 once-last (y ∷ xs) x once none = (
-  among-last y xs x once.0 (unlike y x (or-first (y == x) _ none)),
+  among-last y xs x once.0 (turned x y ∙ (or-first (y == x) _ none)),
   once-last xs x once.1 (or-second (y == x) _ none),
 )
 

@@ -22,7 +22,6 @@ use Rattle.switch_machine.specs.Stands.{Stands}
 use Rattle.switch_machine.specs.Calls.ChannelUp.{channel_up_result, channel_up_state}
 use Rattle.switch_machine.specs.Calls.OpenCircuit.{open_result, open_state_by, open_state}
 use Rattle.switch_machine.specs.Calls.NextCell.{ticked, picked_leg, with_leg, sent_from, next_state_on, lane_of, next_cell_result, next_cell_state}
-use Rattle.switch_model.specs.Waiting.Queues.{circuit_log, sendable}
 use Rattle.switch_machine.specs.Adds.{Adds, StandsForSome, StandsFor}
 use Rattle.switch_machine.proofs.Up.{channel_up_kept}
 use Rattle.switch_machine.proofs.OpenCircuit.Kept.{open_kept}
@@ -36,10 +35,10 @@ stands_empty start = record {
   numbers = record { channels = refl; circuits = refl; claims = refl; bodies = refl; dial_orders = refl; tick = refl };
   channels = record { channel = λ chan. record { channel = refl; lane = refl }; no_channel = λ chan beyond. refl };
   circuits = record {
-    circuit = λ c. record { live = refl; begins = λ k. record { rest = sendable (circuit_log start.rules [] c) 0 k; cells = refl }; left = λ serial. refl };
+    circuit = λ c. record { live = refl; left = λ serial. refl };
     fresh = λ c beyond. record { past = refl; left = λ serial. refl; numbers = λ dir. refl };
   };
-  ids = record { used = λ chan id. tt; apart = λ chan. tt; no_leg = λ c k chan id beyond. refl };
+  ids = record { used = λ chan id. tt };
   legs = record { lie = λ leg. tt };
   dials = record { are_out = tt; once = tt; never = λ order beyond. refl };
   counts = record { counts = λ leg. tt; no_count = λ c k beyond. refl };

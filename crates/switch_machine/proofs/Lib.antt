@@ -8,8 +8,8 @@ pub mod OneCircuit
 pub mod Up
 pub mod OpenCircuit
 pub mod OtherEdges
+pub mod NewBodies
 pub mod Settling
-pub mod Unlinked
 pub mod TearDown
 pub mod GiveBack
 pub mod Abandon

@@ -19,9 +19,8 @@ pub all-dials-kept : (s : State) (c : ℕ) (x y : CircuitState) → slot_at s.ci
     ◌≡◌ {A = ℕ → Option DialState} (λ d. dial_at (slot_at (with_slot s.circuits c (Some y)) d)) (dial_in s)
 all-dials-kept s c x y found same = fun_ext (dial_in-kept s c x y found same)
 
-pub ids-same : (f g : Leg → Option LegState) (lanes : ℕ → List Destroy) (at_id : ℕ → ℕ → Option Leg) (live : ℕ → Bool) (m n : ℕ) → f ≡ g → m ≡ n →
-    CircIdsStand g lanes at_id live n → CircIdsStand f lanes at_id live m
-ids-same f g lanes at_id live m n same size own = rw (same, size) own
+pub ids-same : (f g : Leg → Option LegState) (lanes : ℕ → List Destroy) (at_id : ℕ → ℕ → Option Leg) → f ≡ g → CircIdsStand g lanes at_id → CircIdsStand f lanes at_id
+ids-same f g lanes at_id same own = rw same own
 
 pub legs-same : (slots : List (Option ChannelState)) (f g : Leg → Option LegState) → f ≡ g → LegsStand slots g → LegsStand slots f
 legs-same slots f g same own = rw same own

@@ -25,7 +25,7 @@ queue_of (Some leg) = leg.queue
 queue_of None = []
 
 queue-leg : (rules : Rules) (h : List Step) (c k : ℕ) (y : Option LegState) → is_live_circuit rules h c ≡ true → LegAt rules y k (past rules h c) (holds_id h c k) → queue rules h c k ≡ queue_of y
-queue-leg rules h c k None alive at = rw (alive, at.holds) refl
+queue-leg rules h c k None alive at = rw (alive, at) refl
 queue-leg rules h c k (Some leg) alive at = rw (alive, at.holds, ← at.cells) (drop-front (sent rules h c k) leg.queue)
 
 queue-by : (start : Start) (s : State) (h : List Step) (c k : ℕ) (x : Option CircuitState) →

@@ -5,7 +5,6 @@ use Rattle.std.specs.Prelude.{List, length}
 use Rattle.tr_io.specs.declared.step.Step.{Step}
 use Rattle.switch_model.specs.Start.{Start}
 use Rattle.switch_model.specs.History.Legs.{at, hops, holds_id}
-use Rattle.switch_model.specs.History.Circuit.{is_live_circuit}
 use Rattle.switch_model.specs.History.Past.{past}
 use Rattle.switch_model.specs.History.EdgePast.{edge_past}
 use Rattle.switch_model.specs.Waiting.Lanes.{lane}
@@ -45,7 +44,7 @@ pub record Stands (start : Start) (s : State) (h : List Step) : Type 0 where
   pub numbers : NumbersStand (numbers_in s) (numbers_past start.rules h)
   pub channels : ChannelsStand s.channels (λ chan. channel_past start.rules h chan)
   pub circuits : CircuitsStand start.rules s.last_closes s.circuits (λ c. past start.rules h c) (λ c k. holds_id h c k) (λ c. edge_past start.rules h c)
-  pub ids : CircIdsStand (leg_in s) (λ chan. lane start.rules h chan) (at h) (is_live_circuit start.rules h) (length s.circuits)
+  pub ids : CircIdsStand (leg_in s) (λ chan. lane start.rules h chan) (at h)
   pub legs : LegsStand s.channels (leg_in s)
   pub dials : DialsStand s.again (dial_in s) (length (dials_made start.rules h)) (was_handed_out h)
   pub counts : CountsStand (leg_in s) (cell_count start.rules h) (tick h) (length s.circuits)

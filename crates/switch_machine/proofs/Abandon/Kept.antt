@@ -1,5 +1,5 @@
 -- abandon keeps what a state stands for.
-use Rattle.std.proofs.Common.{◌≡◌, ℕ, ◌==◌, true, false, List, ◌∷◌, Option, Some, None, refl, ◌∙◌, arith}
+use Rattle.std.proofs.Common.{◌≡◌, ℕ, true, false, List, ◌∷◌, Option, Some, None, refl, ◌∙◌, arith}
 use Rattle.circuit_model.specs.Events.{Event}
 use Rattle.circuit_model.specs.Rules.{Rules}
 use Rattle.switch_machine.proofs.Abandon.Said.{abandon_said}
@@ -8,14 +8,14 @@ use Rattle.switch_machine.proofs.OneCircuit.{circuit-own}
 use Rattle.switch_machine.proofs.OneStep.{step-added}
 use Rattle.switch_machine.proofs.OtherEdges.{other_edges}
 use Rattle.switch_machine.proofs.Slots.{slot_at-inside}
-use Rattle.switch_machine.proofs.TearDown.By.{dead-by, leg-named-by, torn-by}
+use Rattle.switch_machine.proofs.TearDown.By.{torn-by}
 use Rattle.switch_machine.specs.Calls.Abandon.{abandon_result, abandon_state, abandon_state_of}
 use Rattle.switch_machine.specs.Calls.TearDown.{torn_state}
 use Rattle.switch_machine.specs.Machine.{counted}
 use Rattle.switch_machine.specs.Stands.{Stands}
 use Rattle.switch_machine.specs.Stands.OneCircuit.{CircuitStands}
 use Rattle.switch_machine.specs.State.{CircuitState, State, slot_at}
-use Rattle.switch_model.proofs.Common.{not_equal}
+use Rattle.switch_model.proofs.Common.{not_equal, self_eq}
 use Rattle.switch_model.proofs.Others.{other_pasts}
 use Rattle.switch_model.specs.Answers.Abandon.{abandon_answer}
 use Rattle.switch_model.specs.History.Circuit.{events, is_accepted_return, is_live_circuit}
@@ -61,9 +61,8 @@ torn-kept start s h n place reason x st found said =
       found = found;
       legs = own.legs;
       left = λ serial. own.no_left serial ∙ rw (st.not_yet.unreached c serial) refl;
-      has_ids = λ j leg has. leg-named-by h c j leg (slot_at x.legs j) _ _ has (own.legs j);
       lane = λ m. rw (alive, own.hops) refl;
-      dead = λ d. dead-by c d reason (is_live_circuit rules h d) (c == d) refl;
+      dead = rw (self_eq c) refl;
     })
 
 -- a refusal changes nothing

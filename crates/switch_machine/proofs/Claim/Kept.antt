@@ -10,7 +10,6 @@ use Rattle.tr_io.specs.declared.names.Dir.TheVariants.{Back, Forth}
 use Rattle.tr_io.specs.declared.step.Step.{Step}
 use Rattle.tr_io.specs.declared.step.Step.TheVariants.{Claim}
 use Rattle.switch_model.specs.Answers.EdgeOut.{Ordered}
-use Rattle.switch_model.specs.History.Circuit.{is_live_circuit}
 use Rattle.switch_model.specs.History.EdgePast.{edge_past}
 use Rattle.switch_model.specs.History.Legs.{at, holds_id}
 use Rattle.switch_model.specs.History.Past.{past}
@@ -178,7 +177,7 @@ claim-out start s h worker n st of right =
           (λ d other old. rw (other_pasts rules h step d (rw other refl)) old)
           (λ d other fresh. rw (other_pasts rules h step d (rw other refl)) fresh)
           (circuit-claimed rules s.last_closes h worker c n n.dir x own refl refl of.home of.first of.few) st.circuits;
-      ids = ids-same (leg_in t) (leg_in s) (λ m. lane rules h m) (at h) (is_live_circuit rules h) (length t.circuits) (length s.circuits) same_legs many st.ids;
+      ids = ids-same (leg_in t) (leg_in s) (λ m. lane rules h m) (at h) same_legs st.ids;
       legs = legs-same s.channels (leg_in t) (leg_in s) same_legs st.legs;
       dials = dials-same s.again (dial_in t) (dial_in s) (length (dials_made rules h)) (was_handed_out h) same_dials st.dials;
       counts = counts-same (leg_in t) (leg_in s) (cell_count rules h) (tick h) (length t.circuits) (length s.circuits) same_legs many st.counts;

@@ -9,7 +9,8 @@ use Rattle.circuit_model.specs.Packaged.{behind}
 use Rattle.circuit_model.specs.Rules.{Rules}
 use Rattle.circuit_model.specs.Words.{log}
 use Rattle.switch_machine.proofs.Dials.{again-kept}
-use Rattle.switch_machine.proofs.GiveBack.Returned.{all-new, back_of, new-none, returning}
+use Rattle.switch_machine.proofs.GiveBack.Returned.{back_of, returning}
+use Rattle.switch_machine.proofs.NewBodies.{all-new, new-none}
 use Rattle.switch_machine.proofs.GiveBack.Sealed.{circuit-sealed}
 use Rattle.switch_machine.proofs.OneCircuit.{circuit-changed, circuit-own, dial_in-kept}
 use Rattle.switch_machine.proofs.OneStep.{step-added}
@@ -133,8 +134,6 @@ back-kept start s h n x k st found back out its said =
       circuits = circuits_now;
       ids = record {
         used = λ chan id. used-alike (leg_in s) (leg_in t) (lane rules h chan) chan id (at h chan id) (λ leg. legs-fact (λ y. has_port chan id y ≡ true) s c x new cells leg found refl some_legs (λ first. port-stays chan id cells)) (st.ids.used chan id);
-        apart = st.ids.apart;
-        no_leg = λ d j chan id beyond. st.ids.no_leg d j chan id (omega (arith, beyond, size));
       };
       legs = record {
         lie = λ leg. legs-fact (LiesOn s.channels) s c x new cells leg found refl some_legs (λ first. lies-stay s.channels cells) (st.legs.lie leg);

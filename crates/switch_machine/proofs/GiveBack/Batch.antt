@@ -3,6 +3,7 @@ use Rattle.std.proofs.Common.{◌≡◌, ℕ, ◌+◌, ◌≤◌, Bool, false, L
 use Rattle.std.proofs.lemmas.List.{append-nil, length-append}
 use Rattle.circuit_model.specs.Events.{CircuitCell, Event}
 use Rattle.circuit_model.specs.Log.{Log, pushed}
+use Rattle.circuit_model.specs.NextHop.{leg_count}
 use Rattle.circuit_model.specs.Packaged.{behind}
 use Rattle.circuit_model.specs.Rules.{Rules}
 use Rattle.circuit_model.specs.Words.{entry_after, log}
@@ -122,3 +123,8 @@ batch-events rules [] y = refl
 batch-events rules (cell ∷ cells) y =
     relay-by y (settle_one rules cell y) (settle_all rules (settle_one rules cell y) cells) (closing_at rules y.circuit.sent_count y.events cell) (forward_of cell) y.events
     (settled rules y.circuit.sent_count (forward_of cell ∷ y.events) cells) refl refl (batch-events rules cells (settle_one rules cell y))
+
+-- those of a circuit without next hops leave its legs
+pub legs-unlinked : (rules : Rules) (cells : List CircuitCell) (y : Settling) → leg_count (log rules y.events) ≡ 0 → (settle_all rules y cells).circuit.legs ≡ y.circuit.legs
+legs-unlinked rules cells y none =
+    let both = batch-keeps (λ z. (leg_count (log rules z.events) ≡ 0) × (z.circuit.legs ≡ y.circuit.legs)) rules (λ z cell own. (own.0, rw own.0 own.1)) cells y (none, refl) in both.1

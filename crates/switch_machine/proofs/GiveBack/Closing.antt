@@ -9,7 +9,7 @@ use Rattle.switch_machine.proofs.OneCircuit.{circuit-own}
 use Rattle.switch_machine.proofs.OtherEdges.{other_edges}
 use Rattle.switch_machine.proofs.SameLegs.{counts-same, ids-same, legs-kept, legs-same}
 use Rattle.switch_machine.proofs.Slots.{length-with, slot_at-inside, slot_at-with}
-use Rattle.switch_machine.proofs.TearDown.By.{dead-by, leg-named-by, torn-by}
+use Rattle.switch_machine.proofs.TearDown.By.{torn-by}
 use Rattle.switch_machine.specs.Calls.GiveBack.{closed_state, home_way, settle_all, settled_state}
 use Rattle.switch_machine.specs.Calls.TearDown.{torn_state}
 use Rattle.switch_machine.specs.Machine.{dial_in, leg_in}
@@ -76,7 +76,7 @@ closing-kept start s h n reason x k st found forth out its said =
       fresh = λ d beyond.
           let other = not_equal c d (λ same. absurd (omega (arith, beyond, size, inside, same))) in
           rw (other_pasts rules h step d (rw other refl), other_edges rules h step d (rw other refl) refl) (st.circuits.fresh d (omega (arith, beyond, size)));
-      ids = ids-same (leg_in t) (leg_in s) (λ m. lane rules h m) (at h) (is_live_circuit rules h) (length t.circuits) (length s.circuits) legs_same size st.ids;
+      ids = ids-same (leg_in t) (leg_in s) (λ m. lane rules h m) (at h) legs_same st.ids;
       legs_stand = legs-same s.channels (leg_in t) (leg_in s) legs_same st.legs;
       dials = dials-changed s.again (dial_in s) (dial_in t) c (length (dials_made rules h)) (length (dials_made rules (step ∷ h))) (was_handed_out h) (was_handed_out (step ∷ h)) z.circuit.dial
           (rw (slot_at-with s.circuits c (Some new) c inside, self_eq c) refl)
@@ -88,7 +88,6 @@ closing-kept start s h n reason x k st found forth out its said =
       found = rw (slot_at-with s.circuits c (Some new) c inside, self_eq c) refl;
       legs = behind_it.core.legs;
       left = λ serial. own.no_left serial ∙ rw (st.not_yet.unreached c serial) refl;
-      has_ids = λ j leg has. leg-named-by h c j leg (slot_at new.legs j) _ _ has (behind_it.core.legs j);
       lane = λ m. rw (alive, behind_it.core.hops) refl;
-      dead = λ d. dead-by c d reason (is_live_circuit rules h d) (c == d) refl;
+      dead = rw (self_eq c) refl;
     }))

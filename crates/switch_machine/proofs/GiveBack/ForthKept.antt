@@ -19,7 +19,7 @@ use Rattle.switch_machine.specs.State.{CircuitState, KeptClaim, State, slot_at}
 use Rattle.switch_model.proofs.Common.{self_eq}
 use Rattle.switch_model.proofs.Others.{other_pasts}
 use Rattle.switch_model.specs.Answers.GiveBack.{give_back_answer}
-use Rattle.switch_model.specs.History.Circuit.{events, is_live_circuit}
+use Rattle.switch_model.specs.History.Circuit.{events}
 use Rattle.switch_model.specs.History.EdgePast.{edge_past}
 use Rattle.switch_model.specs.History.Legs.{at, holds_id}
 use Rattle.switch_model.specs.History.Past.{past}
@@ -69,7 +69,7 @@ forth-kept start s h n x k st found forth out its none said =
       };
       channels = st.channels;
       circuits = circuits_now;
-      ids = ids-same (leg_in t) (leg_in s) (λ m. lane rules h m) (at h) (is_live_circuit rules h) (length t.circuits) (length s.circuits) legs_same size st.ids;
+      ids = ids-same (leg_in t) (leg_in s) (λ m. lane rules h m) (at h) legs_same st.ids;
       legs = legs-same s.channels (leg_in t) (leg_in s) legs_same st.legs;
       dials = dials-changed s.again (dial_in s) (dial_in t) c (length (dials_made rules h)) (length (dials_made rules (step ∷ h))) (was_handed_out h) (was_handed_out (step ∷ h)) z.circuit.dial
           (rw (slot_at-with s.circuits c (Some new) c (slot_at-inside s.circuits c x found), self_eq c) refl)

@@ -6,7 +6,8 @@ use Rattle.std.proofs.lemmas.List.{append-nil}
 use Rattle.circuit_model.specs.Packaged.{behind}
 use Rattle.circuit_model.specs.Rules.{Rules}
 use Rattle.circuit_model.specs.Words.{log}
-use Rattle.switch_machine.proofs.GiveBack.Returned.{all-new, back_of, new-none}
+use Rattle.switch_machine.proofs.GiveBack.Returned.{back_of}
+use Rattle.switch_machine.proofs.NewBodies.{all-new, new-none}
 use Rattle.switch_machine.proofs.OneStep.{step-added}
 use Rattle.switch_machine.specs.Machine.{counted}
 use Rattle.switch_machine.specs.Stands.{Stands}

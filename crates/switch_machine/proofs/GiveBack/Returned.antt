@@ -1,7 +1,6 @@
 -- A return of forward bodies that is accepted, settled or closing: what it makes of its circuit, and of the
 -- next numbers of bodies and dial orders.
-use Rattle.std.proofs.Common.{◌≡◌, ℕ, ◌+◌, ◌-◌, ◌≤◌, true, false, List, [], ◌∷◌, ◌++◌, length, drop, replicate, Some, None, refl, sym, ◌∙◌, ap, subst, arith}
-use Rattle.std.proofs.lemmas.List.{append-nil}
+use Rattle.std.proofs.Common.{◌≡◌, ℕ, ◌+◌, ◌≤◌, true, false, List, ◌∷◌, ◌++◌, length, drop, replicate, Some, None, refl, sym, ◌∙◌, ap, subst}
 use Rattle.std.specs.List.{filter}
 use Rattle.circuit_model.specs.Events.{Event}
 use Rattle.circuit_model.specs.NextHop.{leg_count, next_hop}
@@ -10,10 +9,11 @@ use Rattle.circuit_model.specs.Rules.{Rules}
 use Rattle.circuit_model.specs.Words.{log}
 use Rattle.switch_machine.proofs.GiveBack.Batch.{HasOrders, batch, batch-events, counted_from, dial-batch, orders-batch, sent_count-settled}
 use Rattle.switch_machine.proofs.GiveBack.Home.{length-repeated}
+use Rattle.switch_machine.proofs.NewBodies.{all-new, new-many, new-none}
 use Rattle.switch_machine.proofs.GiveBack.Said.{cells-said}
 use Rattle.switch_machine.proofs.Settling.Core.{CoreStands}
 use Rattle.switch_machine.proofs.Settling.Dials.{dial-before, dials-after_are, dials-counted, open_by}
-use Rattle.switch_machine.proofs.Unlinked.{legs-unlinked}
+use Rattle.switch_machine.proofs.GiveBack.Batch.{legs-unlinked}
 use Rattle.switch_machine.specs.Calls.GiveBack.{settle_all}
 use Rattle.switch_machine.specs.Calls.Settling.{Settling, unsettled}
 use Rattle.switch_machine.specs.Stands.OneCircuit.{CircuitStands, OrdersStand}
@@ -63,16 +63,6 @@ pub record Returned (rules : Rules) (h : List Step) (n : ClaimNote) (a : BackAns
 pub events-returned : (rules : Rules) (h : List Step) (n : ClaimNote) (a : BackAnswer) → n.dir ≡ Forth → is_accepted_return a ≡ true →
     events rules (returning n a ∷ h) n.circ.0 ≡ settled rules (length (sent rules h n.circ.0 0)) (events rules h n.circ.0) (claimed_cells h n)
 events-returned rules h n a forth accepted = rw (forth, accepted, self_eq n.circ.0) refl
-
--- its bodies
-pub new-many : (w : Way) (n m k : ℕ) → m ≡ n + k → replicate (m - n) w ≡ replicate k w
-new-many w n m k more = let same : m - n ≡ k = omega (arith, more) in rw same refl
-
-pub new-none : (w : Way) (n m : ℕ) → m ≡ n → replicate (m - n) w ≡ []
-new-none w n m same = let none : m - n ≡ 0 = omega (arith, same) in rw none refl
-
-pub all-new : (a b older more : List Way) → a ≡ more → b ≡ [] → (a ++ b) ++ older ≡ more ++ older
-all-new a b older more e f = rw (e, f) (ap (λ l. l ++ older) (append-nil more))
 
 born-returned : (rules : Rules) (h : List Step) (n : ClaimNote) (a : BackAnswer) (count : ℕ) →
     length (behind (log rules (events rules (returning n a ∷ h) n.circ.0))) ≡ length (behind (log rules (events rules h n.circ.0))) + count →

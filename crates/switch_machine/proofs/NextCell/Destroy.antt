@@ -1,5 +1,5 @@
 -- next_cell that gives nothing, or a DESTROY of the lane, keeps what a state stands for.
-use Rattle.std.proofs.Common.{◌≡◌, ℕ, ◌-◌, ◌==◌, ◌&&◌, ◌||◌, Bool, true, false, if◌then◌else◌, max, List, [], ◌∷◌, length, Option, Some, None, refl, sym, ◌∙◌, ap, subst, inl, inr}
+use Rattle.std.proofs.Common.{◌≡◌, ℕ, ◌-◌, ◌==◌, ◌&&◌, ◌||◌, Bool, true, false, if◌then◌else◌, max, List, ◌∷◌, length, Option, Some, None, refl, sym, ◌∙◌, ap, subst, inl, inr}
 use Rattle.std.specs.List.{AllByRecursion, list_any}
 use Rattle.std.proofs.Math.Path.{fun_ext}
 use Rattle.std.proofs.lemmas.Bool.Decides.{eqb_tells}
@@ -23,10 +23,11 @@ use Rattle.switch_machine.specs.Machine.{leg_in}
 use Rattle.switch_machine.specs.Stands.Numbers.{numbers_in, numbers_past}
 use Rattle.switch_machine.specs.Stands.Channels.{channel_past}
 use Rattle.switch_machine.specs.Stands.OneCircuit.{CircuitAt, CircuitStands}
-use Rattle.switch_machine.specs.Stands.CircIds.{IsUsed, IsApart}
+use Rattle.switch_machine.specs.Stands.CircIds.{IsUsed}
 use Rattle.switch_machine.specs.Stands.{Stands}
 use Rattle.switch_machine.specs.Calls.NextCell.{ticked, next_state_on}
 use Rattle.switch_model.proofs.Common.{self_eq, not_equal, and-first, and-second, same-number}
+use Rattle.switch_model.proofs.LaneIds.{IsApart, apart as lane-apart}
 use Rattle.switch_machine.proofs.Slots.{length-with, slot_at-inside}
 use Rattle.switch_machine.proofs.OneStep.{step-added, channel-count, tick-given}
 use Rattle.switch_machine.proofs.OneChannel.{channel-own, channel-changed}
@@ -51,21 +52,6 @@ nothing-left start s h chan given st said = record {
   slots = st.slots;
   not_yet = st.not_yet;
 }
-
--- a cell that leaves can only free its own CircID
-pub leg-less : (c k : ℕ) (b l : Bool) (x : Option Leg) → (is_leg c k x && l) ≡ false → (is_leg c k (if b then None else x) && l) ≡ false
-leg-less c k true l x none = refl
-leg-less c k false l x none = none
-
-pub leg-fewer : (c k : ℕ) (b : Bool) (x : Option Leg) → is_leg c k x ≡ false → is_leg c k (if b then None else x) ≡ false
-leg-fewer c k true x none = refl
-leg-fewer c k false x none = none
-
-pub all-apart : (rules : Rules) (h : List Step) (chan given : ℕ) (cell : Cell) (m : ℕ) (waits : List Destroy) → AllByRecursion (IsApart (at h m) (is_live_circuit rules h)) waits →
-    AllByRecursion (IsApart (at (NextCell (chan_no chan) given (Some cell) ∷ h) m) (is_live_circuit rules (NextCell (chan_no chan) given (Some cell) ∷ h))) waits
-all-apart rules h chan given cell m [] apart = tt
-all-apart rules h chan given cell m (d ∷ waits) apart =
-    (λ c k. leg-less c k (is_destroy_for (chan_no chan) cell m d.id) (is_live_circuit rules h c) (at h m d.id) (apart.0 c k), all-apart rules h chan given cell m waits apart.1)
 
 holds-when : (d k : ℕ) (b : Bool) (x y : Option Leg) → (b ≡ true → x ≡ y) → is_leg d k y ≡ false → is_leg d k (if b then None else x) ≡ is_leg d k x
 holds-when d k true x y same none = rw (same refl) (sym none)
@@ -121,6 +107,10 @@ other-first : (b rest : Bool) → (b && true) ≡ false → (b || rest) ≡ true
 other-first true rest unlike some = cc
 other-first false rest unlike some = some
 
+not-both : (a b : Bool) → (a ≡ true → b ≡ false) → (a && b) ≡ false
+not-both true b never = never refl
+not-both false b never = refl
+
 pub destroy-left : (start : Start) (s : State) (h : List Step) (chan given : ℕ) (channel : ChannelState) (d : Destroy) (waits : List Destroy) → Stands start s h →
     slot_at s.channels chan ≡ Some channel → channel.lane ≡ d ∷ waits → Some (cell_at d.id (destroy d.reason)) ≡ next_cell_answer start.rules h chan given →
     Stands start (next_state_on s chan given (Some channel) (d ∷ waits)) (NextCell (chan_no chan) given (Some (cell_at d.id (destroy d.reason))) ∷ h)
@@ -132,9 +122,8 @@ destroy-left start s h chan given channel d waits st found first said =
     let own = channel-own s.channels (λ n. channel_past rules h n) chan channel found st.channels in
     let inside = slot_at-inside s.channels chan channel found in
     let waiting : lane rules h chan ≡ d ∷ waits = sym own.lane ∙ first in
-    let IsApartIn : ℕ → Destroy → Type 0 = λ m. IsApart (at h m) (is_live_circuit rules h) in
-    let apart : AllByRecursion (IsApartIn chan) (d ∷ waits) = subst (λ l. AllByRecursion (IsApartIn chan) l) waiting (st.ids.apart chan) in
-    let none : (c k : ℕ) → (is_leg c k (at h chan d.id) && is_live_circuit rules h c) ≡ false = apart.0 in
+    let apart : AllByRecursion (IsApart rules h chan) (d ∷ waits) = subst (λ l. AllByRecursion (IsApart rules h chan) l) waiting (lane-apart start h st.steps.legal chan) in
+    let none : (c k : ℕ) → (is_leg c k (at h chan d.id) && is_live_circuit rules h c) ≡ false = λ c k. not-both _ _ (apart.0 c k) in
     record {
       steps = step-added start s.steps h step st.steps (tt, said);
       numbers = tick-given (record (numbers_in s) { channels = length t.channels }) (numbers_past rules h) _ _ (ap (λ n. max n given) st.numbers.tick)
@@ -152,11 +141,6 @@ destroy-left start s h chan given channel d waits st found first said =
               (λ unlike some. other-first (d.id == i) (list_any (λ e. e.id == i) waits) unlike some) (rw waiting at (st.ids.used chan i))))
           | inr (is_here, other) ↦ rw (not_equal chan m other) (st.ids.used m i)
         ];
-        apart = λ m. elim (eqb_tells m chan) [
-          | inl (is_here, same) ↦ subst (λ n. AllByRecursion (IsApart (at (step ∷ h) n) (is_live_circuit rules (step ∷ h))) (lane rules (step ∷ h) n)) (sym same) (rw (self_eq chan, waiting) (all-apart rules h chan given cell chan waits apart.1))
-          | inr (is_here, other) ↦ rw (not_equal chan m other) (all-apart rules h chan given cell m (lane rules h m) (st.ids.apart m))
-        ];
-        no_leg = λ c k m i beyond. leg-fewer c k (is_destroy_for (chan_no chan) cell m i) (at h m i) (st.ids.no_leg c k m i beyond);
       };
       legs = record { lie = λ leg. lies-with s.channels chan (record channel { lane = waits }) (leg_in s leg) inside (st.legs.lie leg) };
       dials = st.dials;

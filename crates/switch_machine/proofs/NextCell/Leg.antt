@@ -52,10 +52,8 @@ leg-kept : (rules : Rules) (h : List Step) (given : ℕ) (c k now : ℕ) (leg : 
     is_live_circuit rules h c ≡ true → leg.queue ≡ cell ∷ cells → is_leg c k (at h leg.chan leg.id) ≡ true → LegStands rules leg k (past rules h c) (holds_id h c k) →
     LegAt rules (if b then None else Some (record leg { queue = cells; count = charged (count_of now leg); counted_at = now })) k
     (past rules (NextCell (chan_no leg.chan) given (Some (cell_at leg.id cell)) ∷ h) c) (holds_id (NextCell (chan_no leg.chan) given (Some (cell_at leg.id cell)) ∷ h) c k)
-leg-kept rules h given c k now leg cell cells true is_destroy alive queued named own = record {
-  holds = rw (own.port, self_eq leg.chan, self_eq leg.id, is_destroy) refl;
-  begins = record { rest = cells; cells = sent-one rules h given c k leg cell cells alive queued named own };
-}
+leg-kept rules h given c k now leg cell cells true is_destroy alive queued named own =
+    rw (own.port, self_eq leg.chan, self_eq leg.id, is_destroy) refl
 leg-kept rules h given c k now leg cell cells false is_destroy alive queued named own = record {
   holds = rw (own.port, self_eq leg.chan, self_eq leg.id, is_destroy) named;
   port = own.port;
@@ -66,10 +64,7 @@ leg-kept rules h given c k now leg cell cells false is_destroy alive queued name
 leg-other : (rules : Rules) (h : List Step) (chan given : ℕ) (cell : Cell) (c j : ℕ) (y : Option LegState) → is_leg c j (at h chan cell.circ) ≡ false →
     LegAt rules y j (past rules h c) (holds_id h c j) →
     LegAt rules y j (past rules (NextCell (chan_no chan) given (Some cell) ∷ h) c) (holds_id (NextCell (chan_no chan) given (Some cell) ∷ h) c j)
-leg-other rules h chan given cell c j None none own = record {
-  holds = holds-on h chan given cell c j none ∙ own.holds;
-  begins = record { rest = own.begins.rest; cells = rw (none, sendable-next rules h chan given cell c j) own.begins.cells };
-}
+leg-other rules h chan given cell c j None none own = holds-on h chan given cell c j none ∙ own
 leg-other rules h chan given cell c j (Some leg) none own = record {
   holds = holds-on h chan given cell c j none ∙ own.holds;
   port = own.port;

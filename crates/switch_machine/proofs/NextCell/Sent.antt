@@ -1,6 +1,6 @@
 -- next_cell that gives the first cell of a leg keeps what a state stands for: all circuits together.
 use Rattle.std.proofs.Common.{◌≡◌, ℕ, ◌-◌, ◌≤◌, ◌==◌, ◌&&◌, Bool, true, false, if◌then◌else◌, max, List, [], ◌∷◌, length, drop, Option, Some, None, refl, ◌∙◌, ap, subst, arith, inl, inr}
-use Rattle.std.proofs.lemmas.Bool.Decides.{nat_tests, eqb_tells}
+use Rattle.std.proofs.lemmas.Bool.Decides.{eqb_tells}
 use Rattle.circuit_model.specs.Events.{CircuitCell}
 use Rattle.tr_io.specs.declared.step.Step.{Step}
 use Rattle.tr_io.specs.declared.step.Step.TheVariants.{NextCell}
@@ -22,6 +22,7 @@ use Rattle.switch_machine.specs.Stands.Counts.{CountAt, CountStands}
 use Rattle.switch_machine.specs.Stands.{Stands}
 use Rattle.switch_machine.specs.Calls.NextCell.{count_of, ticked, sent_first, sent_after, circuit_sent}
 use Rattle.switch_model.proofs.Common.{not_equal, and-first, and-second, same-number}
+use Rattle.switch_model.proofs.Ported.{turned}
 use Rattle.switch_machine.proofs.OneStep.{step-added, circuit-count, tick-given}
 use Rattle.switch_machine.proofs.OneCircuit.{circuit-own, circuit-changed, dial_in-kept}
 use Rattle.switch_machine.proofs.Dials.{again-kept}
@@ -29,15 +30,12 @@ use Rattle.switch_machine.proofs.Lying.{lies-first}
 use Rattle.switch_machine.proofs.Slots.{slot_at-with, length-with, slot_at-inside}
 use Rattle.switch_machine.proofs.Ids.{leg-has_id}
 use Rattle.switch_machine.proofs.Counting.{count-later, later-by, halved-none, halved-never}
-use Rattle.switch_machine.proofs.NextCell.Destroy.{leg-fewer, all-apart, circuit-on, past-on}
+use Rattle.switch_machine.proofs.NextCell.Destroy.{circuit-on, past-on}
 use Rattle.switch_machine.proofs.NextCell.Leg.{leg-named, circuit-sent}
 
 -- the state after the leg's first cell left
 abbrev pub sent_state : State → ℕ → ℕ → ℕ → CircuitState → LegState → List CircuitCell → State
 sent_state s given c k x leg cells = record (ticked s given) { circuits = with_slot s.circuits c (Some (circuit_sent (max s.tick given) k x leg cells)) }
-
-pub turned : (a b : ℕ) → (a == b) ≡ (b == a)
-turned a b = grind (arith, nat_tests)
 
 -- its legs
 leg_in-sent : (s : State) (c k n : ℕ) (x : CircuitState) (y : Option LegState) (old : LegState) → slot_at s.circuits c ≡ Some x → slot_at x.legs k ≡ Some old → (leg : Leg) →
@@ -139,8 +137,6 @@ leg-left start s h given c k x leg cell cells st found_circuit found_leg queued 
         used = λ m i. rw (same_lane m) (used-sent s t (lane rules h m) m i (is_destroy_for (chan_no leg.chan) (cell_at leg.id cell) m i) (at h m i)
             (λ other unlike has. rw (leg_of other) (port-by m i (is_it other) y (leg_in s other)
             (λ it. port-when m i leg now cell cells (cell.command == 4) refl unlike (rw (leg-is s c k leg found other it) at has)) has)) (st.ids.used m i));
-        apart = λ m. rw (same_lane m) (all-apart rules h leg.chan given (cell_at leg.id cell) m (lane rules h m) (st.ids.apart m));
-        no_leg = λ d j m i beyond. leg-fewer d j (is_destroy_for (chan_no leg.chan) (cell_at leg.id cell) m i) (at h m i) (st.ids.no_leg d j m i (omega (arith, beyond, many)));
       };
       legs = record { lie = λ other. rw (leg_of other) (lies-sent s.channels (is_it other) now leg (leg_in s other) cell cells (subst (λ z. LiesOn s.channels z) found (st.legs.lie (record { circ = c; number = k }))) (st.legs.lie other)) };
       dials = record {

@@ -1,17 +1,15 @@
 -- open_circuit that opens a circuit keeps what a state stands for.
 use Rattle.std.proofs.Common.{◌≡◌, ℕ, ◌+◌, ◌-◌, ◌^◌, ◌≤◌, ◌==◌, ◌&&◌, Bool, true, false, if◌then◌else◌, is_some, List, [], ◌∷◌, ◌++◌, length, Option, Some, None, refl, sym, ◌∙◌, subst, arith, inl, inr, zero, suc}
-use Rattle.std.specs.List.{AllByRecursion, list_any}
 use Rattle.std.proofs.Math.Nat.{zero-div}
 use Rattle.std.proofs.Math.Path.{fun_ext}
 use Rattle.std.proofs.lemmas.Grind.{common_steps}
-use Rattle.std.proofs.lemmas.Bool.Decides.{nat_tests, eqb_tells}
+use Rattle.std.proofs.lemmas.Bool.Decides.{eqb_tells}
 use Rattle.cell_codec.specs.declared.cell.Cell.{Cell}
 use Rattle.kdf_tor.specs.declared.LayerKeys.{LayerKeys}
 use Rattle.tr_io.specs.declared.step.Step.{Step}
 use Rattle.switch_model.specs.Start.{Start}
-use Rattle.switch_model.specs.Names.{Leg, is_leg}
+use Rattle.switch_model.specs.Names.{Leg}
 use Rattle.switch_model.specs.History.Legs.{at, holds_id}
-use Rattle.switch_model.specs.History.Circuit.{is_live_circuit}
 use Rattle.switch_model.specs.Waiting.Lanes.{Destroy, lane}
 use Rattle.switch_model.specs.Waiting.Counts.{cell_count, tick}
 use Rattle.switch_model.specs.Legal.{IsRightStep}
@@ -21,12 +19,12 @@ use Rattle.switch_machine.specs.State.{ChannelState, LegState, CircuitState, Sta
 use Rattle.switch_machine.specs.Machine.{leg_at, leg_in, has_port, dial_at, dial_in, is_handed_out}
 use Rattle.switch_machine.specs.Stands.Numbers.{numbers_in, numbers_past}
 use Rattle.switch_machine.specs.Stands.OneCircuit.{CircuitAt, left_at}
-use Rattle.switch_machine.specs.Stands.CircIds.{IsUsed, IsApart}
+use Rattle.switch_machine.specs.Stands.CircIds.{IsUsed}
 use Rattle.switch_machine.specs.Stands.Legs.{LiesOn}
 use Rattle.switch_machine.specs.Stands.Counts.{CountAt}
 use Rattle.switch_machine.specs.Stands.{Stands}
 use Rattle.switch_machine.specs.Calls.OpenCircuit.{new_circuit, with_circuit}
-use Rattle.switch_model.proofs.Common.{self_eq, not_equal, or-first, or-second, same-number}
+use Rattle.switch_model.proofs.Common.{self_eq, not_equal}
 use Rattle.switch_machine.proofs.OneStep.{step-added, circuit-count}
 use Rattle.switch_machine.proofs.Dials.{again-kept}
 use Rattle.switch_machine.proofs.Slots.{slot_at-push, slot_at-past}
@@ -78,32 +76,6 @@ used-if : (legs : Leg → Option LegState) (lane : List Destroy) (m i : ℕ) (b 
 used-if legs lane m i true new found first later = first refl
 used-if legs lane m i false new found first later = later
 
--- the DESTROYs that wait are for other CircIDs
-leg-no : (n k : ℕ) (b : Bool) (x : Option Leg) (c : ℕ) → (n == c) ≡ false → is_leg c k x ≡ false → is_leg c k (if b then Some (record { circ = n; number = 0 }) else x) ≡ false
-leg-no n k true x c other none = rw other refl
-leg-no n k false x c other none = none
-
-apart-one : (start : Start) (s : State) (h : List Step) → Stands start s h → (chan id : ℕ) (reply : Cell) (keys : LayerKeys) (pad : Option (List ℕ)) (m : ℕ) (d : Destroy) → ((chan == m) && (id == d.id)) ≡ false →
-    IsApart (at h m) (is_live_circuit start.rules h) d →
-    IsApart (at (opening chan id reply keys pad (length s.circuits) ∷ h) m) (is_live_circuit start.rules (opening chan id reply keys pad (length s.circuits) ∷ h)) d
-apart-one start s h st chan id reply keys pad m d unlike apart c k = elim (eqb_tells (length s.circuits) c) [
-  | inl (is, same) ↦ rw (unlike, st.ids.no_leg c k m d.id (omega arith)) refl
-  | inr (is, other) ↦ rw (unlike, is) (apart c k)
-]
-
-unlike-one : (a : Bool) (x y : ℕ) → (a ≡ true → (y == x) ≡ false) → (a && (x == y)) ≡ false
-unlike-one false x y unlike = refl
-unlike-one true x y unlike = let other = unlike refl in grind (arith, nat_tests)
-
-apart-all : (start : Start) (s : State) (h : List Step) → Stands start s h → (chan id : ℕ) (reply : Cell) (keys : LayerKeys) (pad : Option (List ℕ)) (m : ℕ) (waits : List Destroy) → ((chan == m) ≡ true → list_any (λ d. d.id == id) waits ≡ false) →
-    AllByRecursion (IsApart (at h m) (is_live_circuit start.rules h)) waits →
-    AllByRecursion (IsApart (at (opening chan id reply keys pad (length s.circuits) ∷ h) m) (is_live_circuit start.rules (opening chan id reply keys pad (length s.circuits) ∷ h))) waits
-apart-all start s h st chan id reply keys pad m [] unlike apart = tt
-apart-all start s h st chan id reply keys pad m (d ∷ waits) unlike apart = (
-  apart-one start s h st chan id reply keys pad m d (unlike-one (chan == m) id d.id (λ same. or-first _ _ (unlike same))) apart.0,
-  apart-all start s h st chan id reply keys pad m waits (λ same. or-second _ _ (unlike same)) apart.1,
-)
-
 -- the new circuit's legs: they were sent nothing, and the first lies on the live channel
 count-new : (chan id : ℕ) (reply : Cell) (k n now : ℕ) → n ≡ 0 → CountAt (slot_at (new_circuit chan id reply).legs k) n now
 unfolding slot_at
@@ -123,9 +95,9 @@ dial-pushed s x c out = elim (eqb_tells c (length s.circuits)) [
 ]
 
 pub opened-kept : (start : Start) (s : State) (h : List Step) (chan id : ℕ) (reply : Cell) (keys : LayerKeys) (pad : Option (List ℕ)) → Stands start s h →
-    IsRightStep start h (opening chan id reply keys pad (length s.circuits)) → is_some (slot_at s.channels chan) ≡ true → at h chan id ≡ None → list_any (λ d. d.id == id) (lane start.rules h chan) ≡ false →
+    IsRightStep start h (opening chan id reply keys pad (length s.circuits)) → is_some (slot_at s.channels chan) ≡ true → at h chan id ≡ None →
     Stands start (with_circuit s chan id reply (Some keys)) (opening chan id reply keys pad (length s.circuits) ∷ h)
-opened-kept start s h chan id reply keys pad st answered on_live free unlike =
+opened-kept start s h chan id reply keys pad st answered on_live free =
     let rules = start.rules in
     let n = length s.circuits in
     let new = new_circuit chan id reply in
@@ -152,10 +124,6 @@ opened-kept start s h chan id reply keys pad st answered on_live free unlike =
       ids = record {
         used = λ m i. used-if (leg_in t) (lane rules h m) m i ((chan == m) && (id == i)) (Some (record { circ = n; number = 0 })) (at h m i)
             (λ same. inl (new-port s chan id reply m i same)) (used-push s t new (lane rules h m) m i (at h m i) refl (st.ids.used m i));
-        apart = λ m. apart-all start s h st chan id reply keys pad m (lane rules h m) (λ same. subst (λ a. list_any (λ d. d.id == id) (lane rules h a) ≡ false) (same-number chan m same) unlike) (st.ids.apart m);
-        no_leg = λ c k m i beyond.
-            let past_end : n + 1 ≤ c = grind (arith, common_steps) in
-            leg-no n k ((chan == m) && (id == i)) (at h m i) c (not_equal n c (λ same. absurd (omega arith))) (st.ids.no_leg c k m i (omega arith));
       };
       legs = record { lie = λ leg. leg-pushed (LiesOn s.channels) s new leg (λ same. lies-new s.channels chan id reply leg.number on_live) (st.legs.lie leg) };
       dials = record { are_out = again-kept (dial_in s) (dial_in t) s.again (dial-pushed s new) st.dials.are_out; once = st.dials.once; never = st.dials.never };

@@ -6,18 +6,16 @@ use Rattle.kdf_tor.specs.declared.LayerKeys.{LayerKeys}
 use Rattle.tr_io.specs.declared.answers.OpenAnswer.{OpenAnswer}
 use Rattle.tr_io.specs.declared.answers.OpenAnswer.TheVariants.{Opened, Refused}
 use Rattle.tr_io.specs.declared.answers.OpenRefusal.{OpenRefusal}
-use Rattle.tr_io.specs.declared.names.Side.{Side}
-use Rattle.tr_io.specs.declared.names.Side.TheVariants.{PeerOpened, WeOpened}
 use Rattle.tr_io.specs.declared.step.Step.{Step}
 use Rattle.tr_io.specs.declared.step.Step.TheVariants.{OpenCircuit}
 use Rattle.switch_model.specs.Limits.{circuit_limit}
 use Rattle.switch_model.specs.Start.{Start}
 use Rattle.switch_model.specs.Conditions.{IsReply}
 use Rattle.switch_model.specs.Names.{Leg, chan_no, circ_no}
-use Rattle.switch_model.specs.History.Channels.{is_ours, count_below}
+use Rattle.switch_model.specs.History.Channels.{count_below}
 use Rattle.switch_model.specs.History.Legs.{at, holds_id}
 use Rattle.switch_model.specs.History.Circuit.{is_live_circuit}
-use Rattle.switch_model.specs.Waiting.Lanes.{lane, refusal_reason}
+use Rattle.switch_model.specs.Waiting.Lanes.{lane}
 use Rattle.switch_model.specs.Answers.OpenCircuit.{live_circuits, is_in_use, open_answer}
 use Rattle.switch_model.specs.History.Past.{Past, past}
 use Rattle.switch_model.specs.History.EdgePast.{EdgePast, edge_past}
@@ -31,7 +29,7 @@ use Rattle.switch_machine.specs.Calls.OpenCircuit.{is_id_taken, has_peers_bit, o
 use Rattle.switch_machine.proofs.OneStep.{step-added}
 use Rattle.switch_machine.proofs.Slots.{count_below-same}
 use Rattle.switch_machine.proofs.Ids.{taken-said}
-use Rattle.switch_model.proofs.Common.{or-first, or-second}
+use Rattle.switch_model.proofs.Common.{or-first}
 use Rattle.switch_machine.proofs.OpenCircuit.Refused.{refused-kept}
 use Rattle.switch_machine.proofs.OpenCircuit.Accepted.{opened-kept}
 
@@ -72,21 +70,13 @@ unknown-channel start s h chan id reply keys pad st asked said =
       numbers = st.numbers;
       channels = record { channel = λ n. rw (same n) (st.channels.channel n); no_channel = st.channels.no_channel };
       circuits = st.circuits;
-      ids = record { used = λ n i. rw (same n) (st.ids.used n i); apart = λ n. rw (same n) (st.ids.apart n); no_leg = st.ids.no_leg };
+      ids = record { used = λ n i. rw (same n) (st.ids.used n i) };
       legs = st.legs;
       dials = st.dials;
       counts = st.counts;
       slots = st.slots;
       not_yet = st.not_yet;
     }
-
--- which refusals send a DESTROY
-none-owed : (side : Side) (id : ℕ) → (id == 0) ≡ true → refusal_reason (is_ours side) id OpenRefusal.BadId ≡ None
-none-owed PeerOpened id zero = rw zero refl
-none-owed WeOpened id zero = refl
-
-not-none : {A : Type 0} (o : Option A) (x : A) → o ≡ None → o ≡ Some x → ⊥
-not-none o x none some = cc
 
 unused : (x : Option Leg) → is_some x ≡ false → x ≡ None
 unused None e = refl
@@ -102,23 +92,23 @@ judged zero taken peers keys full n =
     else Opened (circ_no n)
 
 open-by : (start : Start) (s : State) (h : List Step) (chan id : ℕ) (reply : Cell) (pad : Option (List ℕ)) (channel : ChannelState) (zero taken peers : Bool) (keys : Option LayerKeys) (full : Bool) →
-    Stands start s h → IsReply reply keys → slot_at s.channels chan ≡ Some channel → (id == 0) ≡ zero → is_in_use start.rules h chan id ≡ taken →
+    Stands start s h → IsReply reply keys → slot_at s.channels chan ≡ Some channel → is_in_use start.rules h chan id ≡ taken →
     judged zero taken peers keys full (length s.circuits) ≡ open_answer start.rules h chan id keys →
     Stands start (open_state_by s chan id reply keys (Some channel) (judged zero taken peers keys full (length s.circuits)))
     (OpenCircuit (chan_no chan) id reply keys pad (judged zero taken peers keys full (length s.circuits)) ∷ h)
 unfolding judged
-open-by start s h chan id reply pad channel true taken peers keys full st asked found is_zero is_taken said =
-    refused-kept start s h chan id reply keys pad OpenRefusal.BadId channel st found (asked, said) (λ r owed. absurd (not-none _ r (none-owed channel.side id is_zero) owed))
-open-by start s h chan id reply pad channel false true peers keys full st asked found is_zero is_taken said =
-    refused-kept start s h chan id reply keys pad OpenRefusal.InUse channel st found (asked, said) (λ r owed. absurd (not-none _ r refl owed))
-open-by start s h chan id reply pad channel false false false keys full st asked found is_zero is_taken said =
-    refused-kept start s h chan id reply keys pad OpenRefusal.BadId channel st found (asked, said) (λ r owed. unused (at h chan id) (or-first _ _ is_taken))
-open-by start s h chan id reply pad channel false false true None full st asked found is_zero is_taken said =
-    refused-kept start s h chan id reply None pad OpenRefusal.BadHandshake channel st found (asked, said) (λ r owed. unused (at h chan id) (or-first _ _ is_taken))
-open-by start s h chan id reply pad channel false false true (Some keys) true st asked found is_zero is_taken said =
-    refused-kept start s h chan id reply (Some keys) pad (OpenRefusal.Full circuit_limit) channel st found (asked, said) (λ r owed. unused (at h chan id) (or-first _ _ is_taken))
-open-by start s h chan id reply pad channel false false true (Some keys) false st asked found is_zero is_taken said =
-    opened-kept start s h chan id reply keys pad st (asked, said) (rw found refl) (unused (at h chan id) (or-first _ _ is_taken)) (or-second _ _ is_taken)
+open-by start s h chan id reply pad channel true taken peers keys full st asked found is_taken said =
+    refused-kept start s h chan id reply keys pad OpenRefusal.BadId channel st found (asked, said)
+open-by start s h chan id reply pad channel false true peers keys full st asked found is_taken said =
+    refused-kept start s h chan id reply keys pad OpenRefusal.InUse channel st found (asked, said)
+open-by start s h chan id reply pad channel false false false keys full st asked found is_taken said =
+    refused-kept start s h chan id reply keys pad OpenRefusal.BadId channel st found (asked, said)
+open-by start s h chan id reply pad channel false false true None full st asked found is_taken said =
+    refused-kept start s h chan id reply None pad OpenRefusal.BadHandshake channel st found (asked, said)
+open-by start s h chan id reply pad channel false false true (Some keys) true st asked found is_taken said =
+    refused-kept start s h chan id reply (Some keys) pad (OpenRefusal.Full circuit_limit) channel st found (asked, said)
+open-by start s h chan id reply pad channel false false true (Some keys) false st asked found is_taken said =
+    opened-kept start s h chan id reply keys pad st (asked, said) (rw found refl) (unused (at h chan id) (or-first _ _ is_taken))
 
 open-on : (start : Start) (s : State) (h : List Step) (chan id : ℕ) (reply : Cell) (keys : Option LayerKeys) (pad : Option (List ℕ)) (x : Option ChannelState) → Stands start s h → IsReply reply keys → slot_at s.channels chan ≡ x →
     open_result_on s chan id keys x ≡ open_answer start.rules h chan id keys →
@@ -127,7 +117,7 @@ unfolding judged
 open-on start s h chan id reply keys pad None st asked found said = unknown-channel start s h chan id reply keys pad st asked said
 open-on start s h chan id reply keys pad (Some channel) st asked found said =
     let own : ChannelStands channel (channel_past start.rules h chan) = subst (λ x. ChannelAt x (channel_past start.rules h chan)) found (st.channels.channel chan) in
-    open-by start s h chan id reply pad channel (id == 0) (is_id_taken s chan channel id) (has_peers_bit channel.side id) keys (nat_le circuit_limit (filled_slots s.circuits)) st asked found refl
+    open-by start s h chan id reply pad channel (id == 0) (is_id_taken s chan channel id) (has_peers_bit channel.side id) keys (nat_le circuit_limit (filled_slots s.circuits)) st asked found
     (sym (taken-said start s h st chan id channel own.lane)) said
 
 pub open_kept : (start : Start) (s : State) (h : List Step) (chan id : ℕ) (reply : Cell) (keys : Option LayerKeys) (pad : Option (List ℕ)) → IsReply reply keys → Stands start s h →

@@ -6,7 +6,6 @@ use Rattle.circuit_model.specs.Effects.{open_effects}
 use Rattle.circuit_model.specs.Events.{Event}
 use Rattle.circuit_model.specs.declared.event.Event.TheVariants.{Born}
 use Rattle.circuit_model.specs.Rules.{Rules}
-use Rattle.circuit_model.specs.Words.{log}
 use Rattle.kdf_tor.specs.declared.LayerKeys.{LayerKeys}
 use Rattle.tr_io.specs.declared.answers.OpenAnswer.TheVariants.{Opened}
 use Rattle.tr_io.specs.declared.names.Dir.TheVariants.{Forth, Back}
@@ -14,7 +13,6 @@ use Rattle.tr_io.specs.declared.step.Step.{Step}
 use Rattle.tr_io.specs.declared.step.Step.TheVariants.{OpenCircuit}
 use Rattle.switch_model.specs.Names.{Leg, is_leg, chan_no, circ_no, circuit_cell}
 use Rattle.switch_model.specs.History.Legs.{Port, port, at, holds_id, holds_port}
-use Rattle.switch_model.specs.Waiting.Queues.{sendable}
 use Rattle.switch_model.specs.History.Past.{Past, past}
 use Rattle.switch_model.specs.History.EdgePast.{edge_past}
 use Rattle.switch_machine.specs.State.{slot_at}
@@ -91,10 +89,7 @@ new-legs rules h chan id reply keys pad n fresh zero = record {
   port = refl;
   cells = refl;
 }
-new-legs rules h chan id reply keys pad n fresh (suc k) = record {
-  holds = holds-later h chan id reply keys pad n k (ap (λ (p : Past). p.port (suc k)) fresh);
-  begins = record { rest = sendable (log rules (opened_past no_past chan id reply keys pad).events) 0 (suc k); cells = refl };
-}
+new-legs rules h chan id reply keys pad n fresh (suc k) = holds-later h chan id reply keys pad n k (ap (λ (p : Past). p.port (suc k)) fresh)
 
 new-circuit : (rules : Rules) (closes : List Ordered) (h : List Step) (chan id : ℕ) (reply : Cell) (keys : LayerKeys) (pad : Option (List ℕ)) (n : ℕ) →
     IsFresh (past rules h n) (edge_past rules h n) → ((serial : ℕ) → left_at closes n serial ≡ []) →

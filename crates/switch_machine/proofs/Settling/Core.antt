@@ -90,10 +90,7 @@ back-more c n way home bodies count known all (Some body) le own =
 -- legs towards next hops
 pub leg-more : (leg : Option LegState) (sent may_leave cells : List CircuitCell) (lies : Option Port) (has_id : Bool) → LegBy leg sent may_leave lies has_id →
     LegBy (option_map (more_queued cells) leg) sent (may_leave ++ cells) lies has_id
-leg-more None sent may_leave cells lies has_id own = record {
-  holds = own.holds;
-  begins = record { rest = own.begins.rest ++ cells; cells = sym (append_assoc sent own.begins.rest cells) ∙ ap (λ l. l ++ cells) own.begins.cells };
-}
+leg-more None sent may_leave cells lies has_id own = own
 leg-more (Some leg) sent may_leave cells lies has_id own =
     record { holds = own.holds; port = own.port; cells = sym (append_assoc sent leg.queue cells) ∙ ap (λ l. l ++ cells) own.cells }
 

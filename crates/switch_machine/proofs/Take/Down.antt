@@ -27,10 +27,10 @@ use Rattle.switch_machine.specs.Calls.Take.{behind_destroy, lost_leg_state, with
 use Rattle.switch_machine.specs.Calls.TearDown.{torn_state}
 use Rattle.switch_machine.specs.Machine.{dial_in, has_port, leg_in}
 use Rattle.switch_machine.specs.Stands.{Stands}
-use Rattle.switch_machine.specs.Stands.CircIds.{CircIdsStand, IsApart}
 use Rattle.switch_machine.specs.Stands.Legs.{LiesOn}
 use Rattle.switch_machine.specs.Stands.OneLeg.{LegAt, LegBy}
 use Rattle.switch_machine.specs.State.{ChannelState, CircuitState, LegState, State, slot_at}
+use Rattle.switch_model.proofs.LaneIds.{IsApart, apart as lane-apart}
 use Rattle.switch_model.proofs.Common.{and-false, and-first, and-second, not_equal, same-number, self_eq}
 use Rattle.switch_model.proofs.Others.{other_pasts}
 use Rattle.switch_machine.proofs.Laws.{stays}
@@ -40,8 +40,8 @@ use Rattle.switch_machine.proofs.Slots.{length-with, slot_at-inside, slot_at-wit
 use Rattle.switch_machine.proofs.Take.FoundLeg.{at-found}
 use Rattle.switch_machine.proofs.Take.Frames.{born-same, edge-taken, events-first}
 use Rattle.switch_machine.proofs.Take.Frees.{circuit-taken, freed-is, frees, ids-freed, leg-taken}
-use Rattle.switch_machine.proofs.TearDown.By.{dead-by, leg-named-by, torn-by}
-use Rattle.switch_machine.proofs.TearDown.Torn.{count-if, leg-begins}
+use Rattle.switch_machine.proofs.TearDown.By.{torn-by}
+use Rattle.switch_machine.proofs.TearDown.Torn.{count-if}
 
 abbrev downing : ℕ → Cell → ℕ → ℕ → Step
 downing chan cell c r = Take (chan_no chan) cell (Down (circ_no c) r)
@@ -113,10 +113,8 @@ first-lost h chan c r cell l lies on_channel on_id is = rw (lies, on_channel, on
 leg-down : (start : Start) (s : State) (h : List Step) (chan c r : ℕ) (cell : Cell) (x : CircuitState) (l : LegState) (sent may_leave : List CircuitCell) → Stands start s h → slot_at s.circuits c ≡ Some x →
     at h chan cell.circ ≡ Some (record { circ = c; number = 0 }) → port h c 0 ≡ Some (record { chan = l.chan; id = l.id }) → l.chan ≡ chan → l.id ≡ cell.circ → (k : ℕ) (b : Bool) → loses cell k ≡ b →
     LegBy (slot_at x.legs k) sent may_leave (port h c k) (holds_id h c k) → LegBy (if b then None else slot_at x.legs k) sent may_leave (port h c k) (holds_id (downing chan cell c r ∷ h) c k)
-leg-down start s h chan c r cell x l sent may_leave st found here lies on_channel on_id k true is own = record {
-  holds = subst (λ j. holds_id (downing chan cell c r ∷ h) c j ≡ false) (sym (same-number k 0 (and-first (k == 0) _ is))) (first-lost h chan c r cell l lies on_channel on_id (and-second (k == 0) _ is));
-  begins = leg-begins (slot_at x.legs k) sent may_leave (port h c k) (holds_id h c k) own;
-}
+leg-down start s h chan c r cell x l sent may_leave st found here lies on_channel on_id k true is own =
+    subst (λ j. holds_id (downing chan cell c r ∷ h) c j ≡ false) (sym (same-number k 0 (and-first (k == 0) _ is))) (first-lost h chan c r cell l lies on_channel on_id (and-second (k == 0) _ is))
 leg-down start s h chan c r cell x l sent may_leave st found here lies on_channel on_id k false is own =
     leg-taken h chan cell (Down (circ_no c) r) c k (slot_at x.legs k) sent may_leave (λ m has. free-legs start s h chan c cell st here k m (frees chan cell m.chan m.id) is (rw found has) refl) own
 
@@ -145,15 +143,15 @@ port-stays s chan c cell x l found first on_channel on_id leg m i free has =
     let both : true ≡ false = sym freed ∙ free in cc) has)
 
 -- none of our DESTROYs waits for the CircID of a live circuit's leg
-free-destroy : (rules : Rules) (h : List Step) (chan c m : ℕ) (cell : Cell) (d : Destroy) (b : Bool) → at h chan cell.circ ≡ Some (record { circ = c; number = 0 }) → is_live_circuit rules h c ≡ true → IsApart (at h m) (is_live_circuit rules h) d →
+free-destroy : (rules : Rules) (h : List Step) (chan c m : ℕ) (cell : Cell) (d : Destroy) (b : Bool) → at h chan cell.circ ≡ Some (record { circ = c; number = 0 }) → is_live_circuit rules h c ≡ true → IsApart rules h m d →
     frees chan cell m d.id ≡ b → b ≡ false
 free-destroy rules h chan c m cell d true here alive apart is =
     let it = freed-is chan cell m d.id is in
     let there : at h m d.id ≡ Some (record { circ = c; number = 0 }) = subst (λ n. at h n d.id ≡ Some (record { circ = c; number = 0 })) it.on_channel (subst (λ n. at h chan n ≡ Some (record { circ = c; number = 0 })) it.on_id here) in
-    let clash : (true && true) ≡ false = rw (there, self_eq c, alive) at (apart c 0) in absurd cc
+    let clash : true ≡ false = sym alive ∙ apart c 0 (rw (there, self_eq c) refl) in absurd cc
 free-destroy rules h chan c m cell d false here alive apart is = refl
 
-lane-same : (rules : Rules) (h : List Step) (chan c m : ℕ) (cell : Cell) (xs : List Destroy) → at h chan cell.circ ≡ Some (record { circ = c; number = 0 }) → is_live_circuit rules h c ≡ true → AllByRecursion (IsApart (at h m) (is_live_circuit rules h)) xs →
+lane-same : (rules : Rules) (h : List Step) (chan c m : ℕ) (cell : Cell) (xs : List Destroy) → at h chan cell.circ ≡ Some (record { circ = c; number = 0 }) → is_live_circuit rules h c ≡ true → AllByRecursion (IsApart rules h m) xs →
     filter (λ d. not (frees chan cell m d.id)) xs ≡ xs
 lane-same rules h chan c m cell [] here alive apart = refl
 lane-same rules h chan c m cell (d ∷ xs) here alive apart =
@@ -182,7 +180,7 @@ down-kept start s h chan c r cell x l st found first on_channel on_id here right
     let same_past : (d : ℕ) → (c == d) ≡ false → past rules (step ∷ h) d ≡ past rules h d = λ d other. other_pasts rules h step d (rw (here, other) refl) in
     let same_edge : (d : ℕ) → edge_past rules (step ∷ h) d ≡ edge_past rules h d = λ d. edge-taken rules h chan cell (Down (circ_no c) r) d (same_events d) (ap (λ born dir. numbers_of (record { circ = d; dir = dir }) born) same_born) in
     let lanes : ℕ → List Destroy = λ m. filter (λ d. not (frees chan cell m d.id)) (lane rules h m) in
-    let same_lane : (m : ℕ) → lanes m ≡ lane rules h m = λ m. lane-same rules h chan c m cell (lane rules h m) here own.live (st.ids.apart m) in
+    let same_lane : (m : ℕ) → lanes m ≡ lane rules h m = λ m. lane-same rules h chan c m cell (lane rules h m) here own.live (lane-apart start h st.steps.legal m) in
     let stands : LegAt rules (Some l) 0 (past rules h c) (holds_id h c 0) = subst (λ z. LegAt rules z 0 (past rules h c) (holds_id h c 0)) first (own.legs 0) in
     let legs_now : (k : ℕ) → LegBy (slot_at y.legs k) (sent rules h c k) (sendable (log rules (events rules (step ∷ h) c)) (sealed_count h c) k) (port h c k) (holds_id (step ∷ h) c k) = λ k.
     rw (slot-before cell x l k first) (subst (λ ev. LegBy (if loses cell k then None else slot_at x.legs k) (sent rules h c k) (sendable (log rules ev) (sealed_count h c) k) (port h c k) (holds_id (step ∷ h) c k)) (sym (same_events c))
@@ -204,8 +202,7 @@ down-kept start s h chan c r cell x l st found first on_channel on_id here right
       fresh = λ d beyond.
           let other = not_equal c d (λ same. absurd (omega (arith, beyond, many, inside, same))) in
           rw (same_past d other, same_edge d) (st.circuits.fresh d (omega (arith, beyond, many)));
-      ids = subst (λ n. CircIdsStand (leg_in t) lanes (at (step ∷ h)) (is_live_circuit rules h) n) (sym many)
-          (ids-freed (leg_in s) (leg_in t) (λ m. lane rules h m) (at h) (is_live_circuit rules h) (length s.circuits) (frees chan cell) (port-stays s chan c cell x l found first on_channel on_id) st.ids);
+      ids = ids-freed (leg_in s) (leg_in t) (λ m. lane rules h m) (at h) (frees chan cell) (port-stays s chan c cell x l found first on_channel on_id) st.ids;
       legs_stand = record { lie = λ leg. rw (leg_in-before s c cell x l found first leg) (lies-if s.channels ((leg.circ == c) && loses cell leg.number) (leg_in s leg) (st.legs.lie leg)) };
       dials = dials-same s.again (dial_in t) (dial_in s) (length (dials_made rules h)) (was_handed_out h) (all-dials-kept s c x y found (dial-by x (cell.command == 4))) st.dials;
       counts = record {
@@ -217,7 +214,6 @@ down-kept start s h chan c r cell x l st found first on_channel on_id here right
       found = rw (slot_at-with s.circuits c (Some y) c inside, self_eq c) refl;
       legs = legs_now;
       left = λ serial. own.no_left serial ∙ sym (left-none (is_reached h c serial) _ _ (st.not_yet.unreached c serial));
-      has_ids = λ k m has. leg-named-by (step ∷ h) c k m (slot_at y.legs k) (sent rules h c k) (sendable (log rules (events rules (step ∷ h) c)) (sealed_count h c) k) has (legs_now k);
       lane = λ m. rw (own.live, size-by x (cell.command == 4), own.hops) refl;
-      dead = λ d. dead-by c d r (is_live_circuit rules h d) (c == d) refl;
+      dead = rw (self_eq c) refl;
     }))

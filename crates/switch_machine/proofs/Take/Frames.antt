@@ -20,7 +20,7 @@ use Rattle.switch_model.specs.Names.{Way, chan_no}
 use Rattle.switch_model.specs.Waiting.Claims.{born_bodies, circuit_at, new_at}
 use Rattle.switch_model.specs.Waiting.Orders.{left_orders, waiting_orders}
 use Rattle.switch_model.proofs.Common.{and-false}
-use Rattle.switch_machine.proofs.GiveBack.Returned.{new-none}
+use Rattle.switch_machine.proofs.NewBodies.{all-new, new-none}
 
 if-same : (b : Bool) (ev : List Event) → (if b then ev else ev) ≡ ev
 if-same true ev = refl
@@ -37,14 +37,11 @@ events-first rules h chan cell a c d here = rw (here, and-false (c == d)) refl
 
 -- no new bodies
 
-none-new : (a b all : List Way) → a ≡ [] → b ≡ [] → (a ++ b) ++ all ≡ all
-none-new a b all e f = rw (e, f) refl
-
 new-at : (rules : Rules) (h after : List Step) (o : Option ℕ) (all : List Way) → ((c : ℕ) → events rules after c ≡ events rules h c) → ((c : ℕ) → taken_forth after c ≡ taken_forth h c) →
     new_at rules h after o ++ all ≡ all
 new-at rules h after None all same_events same_forth = refl
 new-at rules h after (Some c) all same_events same_forth =
-    none-new _ _ all (new-none (record { circ = c; dir = Back }) _ _ (ap (λ ev. length (behind (log rules ev))) (same_events c)))
+    all-new _ _ all [] (new-none (record { circ = c; dir = Back }) _ _ (ap (λ ev. length (behind (log rules ev))) (same_events c)))
     (new-none (record { circ = c; dir = Forth }) _ _ (ap (λ (l : List CircuitCell). length l) (same_forth c)))
 
 pub born-same : (rules : Rules) (h : List Step) (chan : ℕ) (cell : Cell) (a : TakeAnswer) → ((c : ℕ) → events rules (Take (chan_no chan) cell a ∷ h) c ≡ events rules h c) →

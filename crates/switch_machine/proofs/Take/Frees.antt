@@ -1,7 +1,7 @@
 -- A cell that is taken frees a CircID where it is the peer's DESTROY for it: its leg loses the CircID, and our
 -- DESTROY for it goes.
 use Rattle.std.proofs.Common.{◌&&◌, ◌==◌, ◌||◌, ◌∙◌, ◌∷◌, ◌≡◌, Bool, List, None, Option, Some, [], false, if◌then◌else◌, inl, inr, not, refl, subst, sym, true, ℕ}
-use Rattle.std.specs.List.{AllByRecursion, filter, list_any}
+use Rattle.std.specs.List.{filter, list_any}
 use Rattle.cell_codec.specs.declared.cell.Cell.{Cell}
 use Rattle.circuit_model.specs.Events.{CircuitCell}
 use Rattle.circuit_model.specs.Rules.{Rules}
@@ -13,15 +13,14 @@ use Rattle.switch_model.specs.History.Circuit.{sent}
 use Rattle.switch_model.specs.History.EdgePast.{edge_past}
 use Rattle.switch_model.specs.History.Legs.{Port, at, holds_id, holds_port, is_destroy_for, port}
 use Rattle.switch_model.specs.History.Past.{past}
-use Rattle.switch_model.specs.Names.{Leg, chan_no}
+use Rattle.switch_model.specs.Names.{Leg, chan_no, is_leg}
 use Rattle.switch_model.specs.Waiting.Lanes.{Destroy}
 use Rattle.switch_machine.specs.Machine.{has_port, leg_at}
-use Rattle.switch_machine.specs.Stands.CircIds.{CircIdsStand, IsApart, IsUsed}
+use Rattle.switch_machine.specs.Stands.CircIds.{CircIdsStand, IsUsed}
 use Rattle.switch_machine.specs.Stands.OneCircuit.{CircuitAt}
 use Rattle.switch_machine.specs.Stands.OneLeg.{LegBy}
 use Rattle.switch_machine.specs.State.{CircuitState, LegState, slot_at}
 use Rattle.switch_model.proofs.Common.{and-first, and-second, same-number}
-use Rattle.switch_machine.proofs.NextCell.Destroy.{leg-fewer, leg-less}
 
 -- whether the step frees CircID i of channel m
 abbrev pub frees : ℕ → Cell → ℕ → ℕ → Bool
@@ -70,23 +69,12 @@ any-filter : (test stays : Destroy → Bool) → ((d : Destroy) → test d ≡ t
 any-filter test stays stay_in [] some = some
 any-filter test stays stay_in (x ∷ xs) some = any-by test stays x xs (test x) (stays x) refl refl (stay_in x) (any-filter test stays stay_in xs) some
 
-all-filter_by : (P : Destroy → Type 0) (x : Destroy) (ys : List Destroy) (k : Bool) → P x → AllByRecursion P ys → AllByRecursion P (if k then x ∷ ys else ys)
-all-filter_by P x ys true own all = (own, all)
-all-filter_by P x ys false own all = all
-
-all-filter : (P Q : Destroy → Type 0) (stays : Destroy → Bool) → ((d : Destroy) → P d → Q d) → (xs : List Destroy) → AllByRecursion P xs → AllByRecursion Q (filter stays xs)
-all-filter P Q stays goes [] all = tt
-all-filter P Q stays goes (x ∷ xs) all = all-filter_by Q x (filter stays xs) (stays x) (goes x all.0) (all-filter P Q stays goes xs all.1)
-
-pub ids-freed : (legs more : Leg → Option LegState) (lanes : ℕ → List Destroy) (at_id : ℕ → ℕ → Option Leg) (live : ℕ → Bool) (circuit_count : ℕ) (freed : ℕ → ℕ → Bool) →
-    ((leg : Leg) (m i : ℕ) → freed m i ≡ false → has_port m i (legs leg) ≡ true → has_port m i (more leg) ≡ true) → CircIdsStand legs lanes at_id live circuit_count →
-    CircIdsStand more (λ m. filter (λ d. not (freed m d.id)) (lanes m)) (λ m i. if freed m i then None else at_id m i) live circuit_count
-ids-freed legs more lanes at_id live circuit_count freed stays own = record {
+pub ids-freed : (legs more : Leg → Option LegState) (lanes : ℕ → List Destroy) (at_id : ℕ → ℕ → Option Leg) (freed : ℕ → ℕ → Bool) →
+    ((leg : Leg) (m i : ℕ) → freed m i ≡ false → has_port m i (legs leg) ≡ true → has_port m i (more leg) ≡ true) → CircIdsStand legs lanes at_id →
+    CircIdsStand more (λ m. filter (λ d. not (freed m d.id)) (lanes m)) (λ m i. if freed m i then None else at_id m i)
+ids-freed legs more lanes at_id freed stays own = record {
   used = λ m i. used-freed legs more (lanes m) (filter (λ d. not (freed m d.id)) (lanes m)) m i (freed m i) (at_id m i) (λ leg other. stays leg m i other)
       (λ other. any-filter (λ d. d.id == i) (λ d. not (freed m d.id)) (λ d is. subst (λ j. not (freed m j) ≡ true) (sym (same-number d.id i is)) (rw other refl)) (lanes m)) (own.used m i);
-  apart = λ m. all-filter (IsApart (at_id m) live) (IsApart (λ i. if freed m i then None else at_id m i) live) (λ d. not (freed m d.id))
-      (λ d apart e k. leg-less e k (freed m d.id) (live e) (at_id m d.id) (apart e k)) (lanes m) (own.apart m);
-  no_leg = λ e k m i beyond. leg-fewer e k (freed m i) (at_id m i) (own.no_leg e k m i beyond);
 }
 
 -- a lane of which nothing goes
@@ -95,6 +83,10 @@ lane-stays freed [] none = refl
 lane-stays freed (x ∷ xs) none = rw (none x, lane-stays freed xs none) refl
 
 -- whether a leg has its CircID
+
+leg-fewer : (c k : ℕ) (b : Bool) (x : Option Leg) → is_leg c k x ≡ false → is_leg c k (if b then None else x) ≡ false
+leg-fewer c k true x none = refl
+leg-fewer c k false x none = none
 
 holds-lost_by : (h : List Step) (chan : ℕ) (cell : Cell) (a : TakeAnswer) (d j : ℕ) (p : Option Port) → holds_port h d j p ≡ false → holds_port (Take (chan_no chan) cell a ∷ h) d j p ≡ false
 holds-lost_by h chan cell a d j None none = refl
@@ -111,7 +103,7 @@ holds-on h chan cell a d j place lies free = rw (lies, free) refl
 
 pub leg-taken : (h : List Step) (chan : ℕ) (cell : Cell) (a : TakeAnswer) (d j : ℕ) (y : Option LegState) (sent may_leave : List CircuitCell) → ((l : LegState) → y ≡ Some l → frees chan cell l.chan l.id ≡ false) →
     LegBy y sent may_leave (port h d j) (holds_id h d j) → LegBy y sent may_leave (port h d j) (holds_id (Take (chan_no chan) cell a ∷ h) d j)
-leg-taken h chan cell a d j None sent may_leave free own = record { holds = holds-lost h chan cell a d j own.holds; begins = own.begins }
+leg-taken h chan cell a d j None sent may_leave free own = holds-lost h chan cell a d j own
 leg-taken h chan cell a d j (Some l) sent may_leave free own = record { holds = holds-on h chan cell a d j (record { chan = l.chan; id = l.id }) own.port (free l refl) ∙ own.holds; port = own.port; cells = own.cells }
 
 -- the same for a circuit whose past is the same

@@ -8,7 +8,6 @@ use Rattle.tr_io.specs.declared.answers.TakeAnswer.TheVariants.{PassedOver}
 use Rattle.tr_io.specs.declared.answers.Why.{Why}
 use Rattle.tr_io.specs.declared.step.Step.{Step}
 use Rattle.tr_io.specs.declared.step.Step.TheVariants.{Take}
-use Rattle.switch_model.specs.History.Circuit.{is_live_circuit}
 use Rattle.switch_model.specs.History.EdgePast.{edge_past, numbers_of}
 use Rattle.switch_model.specs.History.Legs.{at}
 use Rattle.switch_model.specs.History.Past.{past}
@@ -25,7 +24,7 @@ use Rattle.switch_machine.specs.Stands.Legs.{LiesOn}
 use Rattle.switch_machine.specs.State.{ChannelState, LegState, State, slot_at, with_slot}
 use Rattle.switch_model.proofs.Common.{self_eq}
 use Rattle.switch_machine.proofs.Lying.{lies-with}
-use Rattle.switch_machine.proofs.NextCell.Sent.{turned}
+use Rattle.switch_model.proofs.Ported.{turned}
 use Rattle.switch_machine.proofs.OneChannel.{channel-changed, channel-own}
 use Rattle.switch_machine.proofs.OneStep.{step-added}
 use Rattle.switch_machine.proofs.Slots.{length-with, slot_at-inside}
@@ -80,7 +79,7 @@ passed-with start s h chan cell why slots st right none stand size lies =
             (past-passed rules h chan cell why d) (edge-passed rules h chan cell why d) (st.circuits.circuit d);
         fresh = λ d beyond. rw (past-passed rules h chan cell why d, edge-passed rules h chan cell why d) (st.circuits.fresh d beyond);
       };
-      ids = ids-freed (leg_in s) (leg_in s) (λ m. lane rules h m) (at h) (is_live_circuit rules h) (length s.circuits) (frees chan cell) (λ leg m i free has. has) st.ids;
+      ids = ids-freed (leg_in s) (leg_in s) (λ m. lane rules h m) (at h) (frees chan cell) (λ leg m i free has. has) st.ids;
       legs = record { lie = λ leg. lies leg (st.legs.lie leg) };
       dials = st.dials;
       counts = st.counts;

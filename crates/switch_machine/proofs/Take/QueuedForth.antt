@@ -1,5 +1,5 @@
 -- A cell from the client's side that is queued keeps what a state stands for.
-use Rattle.std.proofs.Common.{◌++◌, ◌+◌, ◌-◌, ◌==◌, ◌∙◌, ◌∷◌, ◌≡◌, List, None, Some, [], add-one, ap, arith, false, if◌then◌else◌, length, not, refl, replicate, ℕ}
+use Rattle.std.proofs.Common.{◌++◌, ◌==◌, ◌∙◌, ◌∷◌, ◌≡◌, List, None, Some, [], add-one, ap, false, if◌then◌else◌, length, not, refl, ℕ}
 use Rattle.std.proofs.lemmas.List.{length-append}
 use Rattle.std.specs.List.{filter}
 use Rattle.cell_codec.specs.declared.cell.Cell.{Cell}
@@ -11,7 +11,6 @@ use Rattle.tr_io.specs.declared.names.Dir.TheVariants.{Back, Forth}
 use Rattle.tr_io.specs.declared.step.Step.{Step}
 use Rattle.tr_io.specs.declared.step.Step.TheVariants.{Take}
 use Rattle.switch_model.specs.Answers.EdgeOut.{Ordered}
-use Rattle.switch_model.specs.History.Circuit.{is_live_circuit}
 use Rattle.switch_model.specs.History.EdgePast.{edge_past}
 use Rattle.switch_model.specs.History.Legs.{at, holds_id}
 use Rattle.switch_model.specs.History.Past.{Past, past}
@@ -30,7 +29,7 @@ use Rattle.switch_machine.specs.Stands.OneCircuit.{CircuitStands}
 use Rattle.switch_machine.specs.State.{CircuitState, State, slot_at}
 use Rattle.switch_model.proofs.Common.{self_eq}
 use Rattle.switch_model.proofs.Others.{other_pasts}
-use Rattle.switch_machine.proofs.GiveBack.Returned.{new-none}
+use Rattle.switch_machine.proofs.NewBodies.{new-many, new-none}
 use Rattle.switch_machine.proofs.OneCircuit.{circuit-changed, circuit-own}
 use Rattle.switch_machine.proofs.OneStep.{step-added}
 use Rattle.switch_machine.proofs.OtherEdges.{other_edges}
@@ -47,9 +46,6 @@ past-queued : (rules : Rules) (h : List Step) (chan c : ℕ) (cell : Cell) → a
     past rules (queueing chan cell ∷ h) c ≡ record (past rules h c) { taken_forth = taken_forth h c ++ circuit_cell cell ∷ [] }
 past-queued rules h chan c cell here = simp (here, self_eq c)
 
-new-one : (w : Way) (n m : ℕ) → m ≡ n + 1 → replicate (m - n) w ≡ w ∷ []
-new-one w n m same = let one : m - n ≡ 1 = omega (arith, same) in rw one refl
-
 both-new : (a b all : List Way) (w : Way) → a ≡ [] → b ≡ w ∷ [] → (a ++ b) ++ all ≡ w ∷ all
 both-new a b all w e f = rw (e, f) refl
 
@@ -59,7 +55,7 @@ born-queued rules h chan c cell here =
     let own = past-queued rules h chan c cell here in
     rw here (both-new _ _ (born_bodies rules h) (record { circ = c; dir = Forth })
     (new-none (record { circ = c; dir = Back }) _ _ (ap (λ (p : Past). length (behind (log rules p.events))) own))
-    (new-one (record { circ = c; dir = Forth }) _ _ (ap (λ (p : Past). length p.taken_forth) own ∙ length-append (taken_forth h c) (circuit_cell cell ∷ []))))
+    (new-many (record { circ = c; dir = Forth }) _ _ 1 (ap (λ (p : Past). length p.taken_forth) own ∙ length-append (taken_forth h c) (circuit_cell cell ∷ []))))
 
 edge-queued : (rules : Rules) (h : List Step) (chan c : ℕ) (cell : Cell) → at h chan cell.circ ≡ Some (record { circ = c; number = 0 }) → (d : ℕ) → (c == d) ≡ false →
     edge_past rules (queueing chan cell ∷ h) d ≡ edge_past rules h d
@@ -116,8 +112,8 @@ queued-forth start s h chan c cell x st found here other right =
           (λ d unlike old. circuit-taken rules s.last_closes h chan cell Queued d (slot_at s.circuits d) (λ k l has. frees-none chan cell other l.chan l.id) (past_same d unlike) (edge-queued rules h chan c cell here d unlike) old)
           (λ d unlike fresh. rw (past_same d unlike, edge-queued rules h chan c cell here d unlike) fresh)
           (circuit-queued rules s.last_closes h chan c s.bodies cell x here other st.numbers.bodies own) st.circuits;
-      ids = ids-same (leg_in t) (leg_in s) (λ m. filter (λ e. not (frees chan cell m e.id)) (lane rules h m)) (λ m i. if frees chan cell m i then None else at h m i) (is_live_circuit rules h) (length t.circuits) (length s.circuits) same_legs many
-          (ids-freed (leg_in s) (leg_in s) (λ m. lane rules h m) (at h) (is_live_circuit rules h) (length s.circuits) (frees chan cell) (λ leg m i free has. has) st.ids);
+      ids = ids-same (leg_in t) (leg_in s) (λ m. filter (λ e. not (frees chan cell m e.id)) (lane rules h m)) (λ m i. if frees chan cell m i then None else at h m i) same_legs
+          (ids-freed (leg_in s) (leg_in s) (λ m. lane rules h m) (at h) (frees chan cell) (λ leg m i free has. has) st.ids);
       legs = legs-same s.channels (leg_in t) (leg_in s) same_legs st.legs;
       dials = dials-same s.again (dial_in t) (dial_in s) (length (dials_made rules h)) (was_handed_out h) same_dials st.dials;
       counts = counts-same (leg_in t) (leg_in s) (cell_count rules h) (tick h) (length t.circuits) (length s.circuits) same_legs many st.counts;

@@ -1,15 +1,14 @@
 -- A step that tears one circuit down: first the step's own change, the circuit still there, then the
 -- teardown. What the first part owes is listed once; each call shows that.
-use Rattle.std.proofs.Common.{add-one, ◌≡◌, ℕ, ◌+◌, ◌==◌, ◌≤◌, Bool, true, false, if◌then◌else◌, is_some, List, ◌∷◌, ◌++◌, length, Option, Some, None, refl, sym, ◌∙◌, ap, subst, arith, inl, inr}
+use Rattle.std.proofs.Common.{add-one, ◌≡◌, ℕ, ◌+◌, ◌==◌, ◌≤◌, Bool, true, false, if◌then◌else◌, List, ◌∷◌, ◌++◌, length, Option, Some, None, refl, sym, ◌∙◌, ap, subst, arith, inl, inr}
 use Rattle.std.proofs.Math.Path.{fun_ext}
 use Rattle.std.proofs.lemmas.Bool.Decides.{eqb_tells}
 use Rattle.circuit_model.specs.Words.{log}
 use Rattle.tr_io.specs.declared.step.Step.{Step}
 use Rattle.switch_model.specs.Start.{Start}
-use Rattle.switch_model.specs.Names.{Leg, is_leg}
+use Rattle.switch_model.specs.Names.{Leg}
 use Rattle.switch_model.specs.History.Channels.{channel_at, given_ids}
-use Rattle.circuit_model.specs.Events.{CircuitCell}
-use Rattle.switch_model.specs.History.Legs.{port, hops, at, holds_id, holds_port}
+use Rattle.switch_model.specs.History.Legs.{port, hops, at, holds_id}
 use Rattle.switch_model.specs.History.Circuit.{is_live_circuit, current_leg, events}
 use Rattle.switch_model.specs.History.Past.{past}
 use Rattle.switch_model.specs.History.EdgePast.{edge_past}
@@ -37,8 +36,7 @@ use Rattle.switch_machine.specs.Stands.{Stands}
 use Rattle.switch_model.proofs.Common.{self_eq, not_equal}
 use Rattle.switch_machine.proofs.Slots.{slot_at-with, length-with, slot_at-inside}
 use Rattle.switch_machine.proofs.Dials.{dials-changed}
-use Rattle.switch_machine.proofs.NextCell.Sent.{turned}
-use Rattle.switch_machine.proofs.TearDown.Torn.{leg-begins, old-leg, gone-leg, gone-dial, port-inside, none-put, destroys-said, length-lanes, lies-lanes, channels-torn, TornIds, ids-torn, counts-torn, put-waits, put-theirs}
+use Rattle.switch_machine.proofs.TearDown.Torn.{old-leg, gone-leg, gone-dial, port-inside, none-put, destroys-said, length-lanes, lies-lanes, channels-torn, ids-torn, counts-torn, put-waits}
 
 -- The state s is that of the step but for the teardown of circuit c, whose state there is x. `lanes`
 -- are the lanes before the teardown.
@@ -49,7 +47,7 @@ pub record ToTear (start : Start) (s : State) (h : List Step) (step : Step) (c r
   pub channels : ChannelsStand s.channels (λ n. record { channel = channel_at (step ∷ h) n; given = given_ids (step ∷ h) n; lane = lanes n })
   pub others : (d : ℕ) → (c == d) ≡ false → CircuitAt start.rules s.last_closes (slot_at s.circuits d) d (past start.rules (step ∷ h) d) (λ k. holds_id (step ∷ h) d k) (edge_past start.rules (step ∷ h) d)
   pub fresh : (d : ℕ) → length s.circuits ≤ d → IsFresh (past start.rules (step ∷ h) d) (edge_past start.rules (step ∷ h) d)
-  pub ids : CircIdsStand (leg_in s) lanes (at (step ∷ h)) (is_live_circuit start.rules h) (length s.circuits)
+  pub ids : CircIdsStand (leg_in s) lanes (at (step ∷ h))
   pub legs_stand : LegsStand s.channels (leg_in s)
   pub dials : DialsStand s.again (dial_in s) (length (dials_made start.rules (step ∷ h))) (was_handed_out (step ∷ h))
   pub counts : CountsStand (leg_in s) (cell_count start.rules (step ∷ h)) (tick (step ∷ h)) (length s.circuits)
@@ -60,15 +58,9 @@ pub record ToTear (start : Start) (s : State) (h : List Step) (step : Step) (c r
   pub legs : (k : ℕ) → LegBy (slot_at x.legs k) ((past start.rules (step ∷ h) c).sent k)
       (sendable (log start.rules (past start.rules (step ∷ h) c).events) (past start.rules (step ∷ h) c).sealed_count k) (port h c k) (holds_id (step ∷ h) c k)
   pub left : (serial : ℕ) → left_at s.last_closes c serial ≡ (edge_past start.rules (step ∷ h) c).left serial
-  pub has_ids : (k : ℕ) (leg : LegState) → slot_at x.legs k ≡ Some leg → is_leg c k (at (step ∷ h) leg.chan leg.id) ≡ true
   -- what the step says of teardown
   pub lane : (n : ℕ) → lane start.rules (step ∷ h) n ≡ lanes n ++ leg_destroys h (step ∷ h) c n (current_leg (log start.rules (events start.rules (step ∷ h) c))) reason (length x.legs)
-  pub dead : (d : ℕ) → is_live_circuit start.rules (step ∷ h) d ≡ (if d == c then false else is_live_circuit start.rules h d)
-
--- the circuits that a teardown of this one leaves
-pub dead-by : (c d reason : ℕ) (l : Bool) (b : Bool) → (c == d) ≡ b → (if is_some (if b then Some reason else None) then false else l) ≡ (if d == c then false else l)
-dead-by c d reason l true is = rw (turned d c, is) refl
-dead-by c d reason l false is = rw (turned d c, is) refl
+  pub dead : is_live_circuit start.rules (step ∷ h) c ≡ false
 
 lie-torn : (slots : List (Option ChannelState)) (put : ℕ → List Destroy) (b : Bool) (y : Option LegState) → LiesOn slots y → LiesOn (with_lanes put 0 slots) (if b then None else y)
 lie-torn slots put true y lies = tt
@@ -88,15 +80,6 @@ torn-by start old s h step c reason x lanes st to =
     let lane_is : (n : ℕ) → lane rules (step ∷ h) n ≡ lanes n ++ put n = λ n.
     to.lane n ∙ ap (λ l. lanes n ++ l) (sym (destroys-said x.legs h (step ∷ h) c n (current_leg (log rules (events rules (step ∷ h) c))) reason _ _ to.legs (length x.legs))) in
     let gone : (leg : Leg) → leg_in t leg ≡ (if leg.circ == c then None else leg_in s leg) = gone-leg s c x to.found in
-    let dead_c : is_live_circuit rules (step ∷ h) c ≡ false = to.dead c ∙ rw (self_eq c) refl in
-    let torn : TornIds (leg_in s) (leg_in t) put (at (step ∷ h)) (is_live_circuit rules h) (is_live_circuit rules (step ∷ h)) c = record {
-      gone = gone;
-      dead = to.dead;
-      waits = λ leg chan id same has.
-          let own_port = subst (λ y. has_port chan id y ≡ true) (old-leg s c x to.found leg same) has in
-          put-waits x.legs chan id (current_leg (log rules (events rules (step ∷ h) c))) reason (length x.legs) leg.number (port-inside x.legs chan id leg.number (slot_at x.legs leg.number) refl own_port) own_port;
-      theirs = λ chan. put-theirs (at (step ∷ h)) c chan x.legs (current_leg (log rules (events rules (step ∷ h) c))) reason to.has_ids (length x.legs);
-    } in
     record {
       steps = record { legal = (to.said, st.steps.legal); count_is = to.steps ∙ add-one (length h) };
       numbers = record {
@@ -114,14 +97,14 @@ torn-by start old s h step c reason x lanes st to =
         circuit = λ d. elim (eqb_tells d c) [
           | inl (is, same) ↦ rw (slot_at-with s.circuits c None d inside, is)
               (subst (λ e. CircuitAt rules s.last_closes None e (past rules (step ∷ h) e) (λ k. holds_id (step ∷ h) e k) (edge_past rules (step ∷ h) e)) (sym same)
-              (record { live = dead_c; begins = λ k. leg-begins (slot_at x.legs k) _ _ _ _ (to.legs k); left = to.left }))
+              (record { live = to.dead; left = to.left }))
           | inr (is, other) ↦ rw (slot_at-with s.circuits c None d inside, is) (to.others d (not_equal c d other))
         ];
         fresh = λ d beyond. to.fresh d (omega (arith, beyond, many));
       };
-      ids = subst (λ m. CircIdsStand (leg_in t) (λ n. lane rules (step ∷ h) n) (at (step ∷ h)) (is_live_circuit rules (step ∷ h)) m) (sym many)
-          (subst (λ f. CircIdsStand (leg_in t) f (at (step ∷ h)) (is_live_circuit rules (step ∷ h)) (length s.circuits)) (sym (fun_ext lane_is))
-          (ids-torn (leg_in s) (leg_in t) lanes put (at (step ∷ h)) (is_live_circuit rules h) (is_live_circuit rules (step ∷ h)) (length s.circuits) c torn to.ids));
+      ids = subst (λ f. CircIdsStand (leg_in t) f (at (step ∷ h))) (sym (fun_ext lane_is)) (ids-torn (leg_in s) (leg_in t) lanes put (at (step ∷ h)) c gone (λ leg chan id same has.
+          let own_port = subst (λ y. has_port chan id y ≡ true) (old-leg s c x to.found leg same) has in
+          put-waits x.legs chan id (current_leg (log rules (events rules (step ∷ h) c))) reason (length x.legs) leg.number (port-inside x.legs chan id leg.number (slot_at x.legs leg.number) refl own_port) own_port) to.ids);
       legs = record { lie = λ leg. rw (gone leg) (lie-torn s.channels put (leg.circ == c) (leg_in s leg) (to.legs_stand.lie leg)) };
       dials = dials-changed s.again (dial_in s) (dial_in t) c _ (length (dials_made rules (step ∷ h))) _ (was_handed_out (step ∷ h)) None
           (gone-dial s c x to.found c ∙ rw (self_eq c) refl) (λ d other. gone-dial s c x to.found d ∙ rw other refl) to.dials.never to.dials;
@@ -130,10 +113,3 @@ torn-by start old s h step c reason x lanes st to =
       slots = to.slots;
       not_yet = to.not_yet;
     }
-
--- a leg of the circuit has its CircID
-pub leg-named-by : (h : List Step) (c k : ℕ) (l : LegState) (leg : Option LegState) (sent may_leave : List CircuitCell) → leg ≡ Some l → LegBy leg sent may_leave (port h c k) (holds_id h c k) → is_leg c k (at h l.chan l.id) ≡ true
-leg-named-by h c k l None sent may_leave e own = absurd cc
-leg-named-by h c k l (Some leg) sent may_leave e own =
-    let same : leg ≡ l = cc in
-    subst (λ (y : LegState). is_leg c k (at h y.chan y.id) ≡ true) same (subst (λ p. holds_port h c k p ≡ true) own.port own.holds)

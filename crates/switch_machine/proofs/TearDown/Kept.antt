@@ -1,16 +1,16 @@
 -- tear_down keeps what a state stands for.
-use Rattle.std.proofs.Common.{◌≡◌, ℕ, ◌==◌, true, List, ◌∷◌, Option, Some, None, refl, ◌∙◌, subst, arith}
+use Rattle.std.proofs.Common.{◌≡◌, ℕ, true, List, ◌∷◌, Option, Some, None, refl, ◌∙◌, subst, arith}
 use Rattle.switch_machine.proofs.OneCircuit.{circuit-own}
 use Rattle.switch_machine.proofs.OneStep.{step-added}
 use Rattle.switch_machine.proofs.OtherEdges.{other_edges}
 use Rattle.switch_machine.proofs.Slots.{slot_at-inside}
-use Rattle.switch_machine.proofs.TearDown.By.{dead-by, leg-named-by, torn-by}
+use Rattle.switch_machine.proofs.TearDown.By.{torn-by}
 use Rattle.switch_machine.specs.Calls.TearDown.{tear_down_result, tear_down_result_of, tear_down_state, tear_down_state_of, torn_state}
 use Rattle.switch_machine.specs.Machine.{counted}
 use Rattle.switch_machine.specs.Stands.{Stands}
 use Rattle.switch_machine.specs.Stands.OneCircuit.{CircuitAt, CircuitStands}
 use Rattle.switch_machine.specs.State.{CircuitState, State, slot_at}
-use Rattle.switch_model.proofs.Common.{not_equal}
+use Rattle.switch_model.proofs.Common.{not_equal, self_eq}
 use Rattle.switch_model.proofs.Others.{other_pasts}
 use Rattle.switch_model.specs.History.Circuit.{events, is_live_circuit}
 use Rattle.switch_model.specs.History.EdgePast.{edge_past}
@@ -53,9 +53,8 @@ torn-kept start s h c reason x st found =
       found = found;
       legs = own.legs;
       left = λ serial. own.no_left serial ∙ rw (st.not_yet.unreached c serial) refl;
-      has_ids = λ j leg has. leg-named-by h c j leg (slot_at x.legs j) _ _ has (own.legs j);
       lane = λ m. rw (alive, own.hops) refl;
-      dead = λ d. dead-by c d reason (is_live_circuit rules h d) (c == d) refl;
+      dead = rw (self_eq c) refl;
     })
 
 gone-kept : (start : Start) (s : State) (h : List Step) (c reason : ℕ) → Stands start s h → slot_at s.circuits c ≡ None → Stands start (counted s) (TearDown (circ_no c) reason BackAnswer.Gone ∷ h)

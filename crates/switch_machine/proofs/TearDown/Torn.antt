@@ -1,30 +1,25 @@
 -- A circuit that is torn down, group by group.
-use Rattle.std.proofs.Common.{◌≡◌, ℕ, ◌+◌, ◌==◌, ◌&&◌, ◌||◌, ◌<◌, Bool, true, false, if◌then◌else◌, is_some, List, [], ◌∷◌, ◌++◌, length, Option, Some, None, option_map, refl, ◌∙◌, ap, subst, arith, inl, inr, zero, suc}
+use Rattle.std.proofs.Common.{◌≡◌, ℕ, ◌+◌, ◌==◌, ◌||◌, ◌<◌, Bool, true, false, if◌then◌else◌, is_some, List, [], ◌∷◌, ◌++◌, length, Option, Some, None, option_map, refl, ◌∙◌, ap, subst, arith, inl, inr, zero, suc}
 use Rattle.std.proofs.lemmas.Bool.Decides.{eqb_tells}
 use Rattle.std.proofs.lemmas.List.{append-nil}
-use Rattle.std.specs.List.{AllByRecursion, list_any}
+use Rattle.std.specs.List.{list_any}
 use Rattle.circuit_model.specs.Events.{CircuitCell}
 use Rattle.tr_io.specs.declared.step.Step.{Step}
-use Rattle.switch_model.specs.Names.{Leg, is_leg}
+use Rattle.switch_model.specs.Names.{Leg}
 use Rattle.switch_model.specs.History.Legs.{Port, port, holds_id}
 use Rattle.switch_model.specs.Waiting.Lanes.{Destroy, leg_reason, destroy_at, leg_destroys}
 use Rattle.switch_machine.specs.State.{ChannelState, LegState, CircuitState, State, slot_at, with_slot}
 use Rattle.switch_machine.specs.Machine.{leg_at, leg_in, has_port, dial_at, dial_in}
 use Rattle.switch_machine.specs.Calls.TearDown.{destroy_of, destroys_of, with_lanes}
 use Rattle.switch_machine.specs.Stands.Channels.{ChannelPast, ChannelAt, ChannelsStand}
-use Rattle.switch_machine.specs.Stands.OneLeg.{Begins, LegBy}
-use Rattle.switch_machine.specs.Stands.CircIds.{IsUsed, IsApart, CircIdsStand}
+use Rattle.switch_machine.specs.Stands.OneLeg.{LegBy}
+use Rattle.switch_machine.specs.Stands.CircIds.{IsUsed, CircIdsStand}
 use Rattle.switch_machine.specs.Stands.Legs.{LiesOn}
 use Rattle.switch_machine.specs.Stands.Counts.{CountAt, CountsStand}
-use Rattle.switch_model.proofs.Common.{not_equal, and-first, and-second, and-false, same-number}
+use Rattle.switch_model.proofs.Common.{and-first, and-second}
 use Rattle.switch_machine.proofs.Slots.{slot_at-with, slot_at-inside, or-true}
-use Rattle.switch_machine.proofs.NextCell.Leg.{leg-named}
 
 -- the legs of the circuit
-
-pub leg-begins : (y : Option LegState) (sent may_leave : List CircuitCell) (lies : Option Port) (has_id : Bool) → LegBy y sent may_leave lies has_id → Begins sent may_leave
-leg-begins None sent may_leave lies has_id own = own.begins
-leg-begins (Some leg) sent may_leave lies has_id own = record { rest = leg.queue; cells = own.cells }
 
 pub old-leg : (s : State) (c : ℕ) (x : CircuitState) → slot_at s.circuits c ≡ Some x → (leg : Leg) → leg.circ ≡ c → leg_in s leg ≡ slot_at x.legs leg.number
 old-leg s c x found leg here = rw (here, found) refl
@@ -53,14 +48,10 @@ pub none-put : (slots : List (Option LegState)) (chan : ℕ) (current : Option �
 none-put slots chan current reason off zero = refl
 none-put slots chan current reason off (suc k) = rw (none-put slots chan current reason off k) (destroy-off (slot_at slots k) chan (leg_reason current reason k) (off k))
 
-pub all-each : (P Q : Destroy → Type 0) → ((d : Destroy) → P d → Q d) → (xs : List Destroy) → AllByRecursion P xs → AllByRecursion Q xs
-all-each P Q f [] all = tt
-all-each P Q f (x ∷ xs) all = (f x all.0, all-each P Q f xs all.1)
-
 -- the DESTROYs that are put are those of the history
 destroy-one : (y : Option LegState) (chan reason : ℕ) (sent may_leave : List CircuitCell) (lies : Option Port) (has_id : Bool) → LegBy y sent may_leave lies has_id →
     destroy_of chan reason y ≡ (if has_id then destroy_at chan reason lies else [])
-destroy-one None chan reason sent may_leave lies has_id own = rw own.holds refl
+destroy-one None chan reason sent may_leave lies has_id own = rw own refl
 destroy-one (Some leg) chan reason sent may_leave lies has_id own = rw (own.holds, own.port) refl
 
 pub destroys-said : (legs : List (Option LegState)) (before after : List Step) (c chan : ℕ) (current : Option ℕ) (reason : ℕ) (sent may_leave : ℕ → List CircuitCell) →
@@ -107,14 +98,6 @@ channels-torn slots p q put same none own = record {
   no_channel = λ n beyond. rw (same n) (own.no_channel n (omega (arith, beyond, length-lanes put 0 slots)));
 }
 
--- CircIDs: the circuit has no legs any more, and its DESTROYs wait
-pub record TornIds (legs more : Leg → Option LegState) (put : ℕ → List Destroy) (at_id : ℕ → ℕ → Option Leg) (live alive : ℕ → Bool) (c : ℕ) : Type 0 where
-  pub gone : (leg : Leg) → more leg ≡ (if leg.circ == c then None else legs leg)
-  pub dead : (d : ℕ) → alive d ≡ (if d == c then false else live d)
-  -- each leg that had its CircID has its DESTROY, and each DESTROY is a leg's
-  pub waits : (leg : Leg) (chan id : ℕ) → leg.circ ≡ c → has_port chan id (legs leg) ≡ true → list_any (λ d. d.id == id) (put chan) ≡ true
-  pub theirs : (chan : ℕ) → AllByRecursion (λ (d : Destroy). (k : ℕ) × (is_leg c k (at_id chan d.id) ≡ true)) (put chan)
-
 any-after : (test : Destroy → Bool) (xs ys : List Destroy) → list_any test ys ≡ true → list_any test (xs ++ ys) ≡ true
 any-after test [] ys some = some
 any-after test (x ∷ xs) ys some = rw (any-after test xs ys some) (or-true (test x))
@@ -136,32 +119,11 @@ used-torn legs more lane put c chan id (Some leg) gone waits (inl has) = elim (e
   | inr (is, other) ↦ inl (rw (gone leg, is) has)
 ]
 
-and-if : (a b l : Bool) → (a && l) ≡ false → (a && (if b then false else l)) ≡ false
-and-if a true l none = and-false a
-and-if a false l none = none
-
-apart-old : (at_id : ℕ → Option Leg) (live alive : ℕ → Bool) (c : ℕ) (d : Destroy) → ((e : ℕ) → alive e ≡ (if e == c then false else live e)) → IsApart at_id live d → IsApart at_id alive d
-apart-old at_id live alive c d dead apart e k = rw (dead e) (and-if (is_leg e k (at_id d.id)) (e == c) (live e) (apart e k))
-
-apart-new : (at_id : ℕ → Option Leg) (live alive : ℕ → Bool) (c : ℕ) (d : Destroy) → ((e : ℕ) → alive e ≡ (if e == c then false else live e)) → (k : ℕ) × (is_leg c k (at_id d.id) ≡ true) → IsApart at_id alive d
-apart-new at_id live alive c d dead its e k = elim (eqb_tells e c) [
-  | inl (is, same) ↦ rw (dead e, is) (and-false (is_leg e k (at_id d.id)))
-  | inr (is, other) ↦ rw (leg-named c its.0 e k (at_id d.id) its.1, not_equal c e other) refl
-]
-
-all-both : (P : Destroy → Type 0) (xs ys : List Destroy) → AllByRecursion P xs → AllByRecursion P ys → AllByRecursion P (xs ++ ys)
-all-both P [] ys f g = g
-all-both P (x ∷ xs) ys f g = (f.0, all-both P xs ys f.1 g)
-
-pub ids-torn : (legs more : Leg → Option LegState) (lanes put : ℕ → List Destroy) (at_id : ℕ → ℕ → Option Leg) (live alive : ℕ → Bool) (many c : ℕ) → TornIds legs more put at_id live alive c →
-    CircIdsStand legs lanes at_id live many → CircIdsStand more (λ n. lanes n ++ put n) at_id alive many
-ids-torn legs more lanes put at_id live alive many c torn own = record {
-  used = λ chan id. used-torn legs more (lanes chan) (put chan) c chan id (at_id chan id) torn.gone (λ leg. torn.waits leg chan id) (own.used chan id);
-  apart = λ chan. all-both (IsApart (at_id chan) alive) (lanes chan) (put chan)
-      (all-each (IsApart (at_id chan) live) (IsApart (at_id chan) alive) (λ d. apart-old (at_id chan) live alive c d torn.dead) (lanes chan) (own.apart chan))
-      (all-each (λ d. (k : ℕ) × (is_leg c k (at_id chan d.id) ≡ true)) (IsApart (at_id chan) alive) (λ d. apart-new (at_id chan) live alive c d torn.dead) (put chan) (torn.theirs chan));
-  no_leg = own.no_leg;
-}
+-- CircIDs: the circuit has no legs any more, and the DESTROY of each that had its CircID waits
+pub ids-torn : (legs more : Leg → Option LegState) (lanes put : ℕ → List Destroy) (at_id : ℕ → ℕ → Option Leg) (c : ℕ) → ((leg : Leg) → more leg ≡ (if leg.circ == c then None else legs leg)) →
+    ((leg : Leg) (chan id : ℕ) → leg.circ ≡ c → has_port chan id (legs leg) ≡ true → list_any (λ d. d.id == id) (put chan) ≡ true) → CircIdsStand legs lanes at_id → CircIdsStand more (λ n. lanes n ++ put n) at_id
+ids-torn legs more lanes put at_id c gone waits own =
+    record { used = λ chan id. used-torn legs more (lanes chan) (put chan) c chan id (at_id chan id) gone (λ leg. waits leg chan id) (own.used chan id) }
 
 pub count-if : (b : Bool) (y : Option LegState) (n now : ℕ) → CountAt y n now → CountAt (if b then None else y) n now
 count-if true y n now own = tt
@@ -182,20 +144,3 @@ put-waits slots chan id current reason (suc n) k below has = elim (eqb_tells k n
   | inl (is, same) ↦ any-after (λ d. d.id == id) (destroys_of slots chan current reason n) (destroy_of chan (leg_reason current reason n) (slot_at slots n)) (subst (λ i. list_any (λ d. d.id == id) (destroy_of chan (leg_reason current reason n) (slot_at slots i)) ≡ true) same (has-waits (slot_at slots k) chan id (leg_reason current reason n) has))
   | inr (is, other) ↦ any-before (λ d. d.id == id) (destroys_of slots chan current reason n) (destroy_of chan (leg_reason current reason n) (slot_at slots n)) (put-waits slots chan id current reason n k (omega arith) has)
 ]
-
-abbrev pub IsTheirs : (ℕ → ℕ → Option Leg) → ℕ → ℕ → Destroy → Type 0
-IsTheirs at_id c chan d = (k : ℕ) × (is_leg c k (at_id chan d.id) ≡ true)
-
-theirs-if : (at_id : ℕ → ℕ → Option Leg) (c chan k reason : ℕ) (leg : LegState) (b : Bool) → (leg.chan == chan) ≡ b → is_leg c k (at_id leg.chan leg.id) ≡ true → AllByRecursion (IsTheirs at_id c chan) (if b then record { id = leg.id; reason = reason; refusal = false } ∷ [] else [])
-theirs-if at_id c chan k reason leg true is has = ((k, subst (λ a. is_leg c k (at_id a leg.id) ≡ true) (same-number leg.chan chan is) has), tt)
-theirs-if at_id c chan k reason leg false is has = tt
-
-theirs-one : (at_id : ℕ → ℕ → Option Leg) (c chan k reason : ℕ) (y : Option LegState) → ((leg : LegState) → y ≡ Some leg → is_leg c k (at_id leg.chan leg.id) ≡ true) → AllByRecursion (IsTheirs at_id c chan) (destroy_of chan reason y)
-theirs-one at_id c chan k reason None has = tt
-theirs-one at_id c chan k reason (Some leg) has = theirs-if at_id c chan k reason leg (leg.chan == chan) refl (has leg refl)
-
-pub put-theirs : (at_id : ℕ → ℕ → Option Leg) (c chan : ℕ) (slots : List (Option LegState)) (current : Option ℕ) (reason : ℕ) → ((k : ℕ) (leg : LegState) → slot_at slots k ≡ Some leg → is_leg c k (at_id leg.chan leg.id) ≡ true) → (n : ℕ) →
-    AllByRecursion (IsTheirs at_id c chan) (destroys_of slots chan current reason n)
-put-theirs at_id c chan slots current reason has zero = tt
-put-theirs at_id c chan slots current reason has (suc n) =
-    all-both (IsTheirs at_id c chan) (destroys_of slots chan current reason n) _ (put-theirs at_id c chan slots current reason has n) (theirs-one at_id c chan n (leg_reason current reason n) (slot_at slots n) (has n))

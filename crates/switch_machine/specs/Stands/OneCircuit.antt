@@ -18,7 +18,7 @@ use Rattle.switch_model.specs.History.Relayed.{settled_forth}
 use Rattle.switch_model.specs.History.Past.{Past}
 use Rattle.switch_model.specs.History.EdgePast.{EdgePast}
 use Rattle.switch_machine.specs.State.{DialState, CircuitState, slot_at}
-use Rattle.switch_machine.specs.Stands.OneLeg.{SentBegins, LegAt}
+use Rattle.switch_machine.specs.Stands.OneLeg.{LegAt}
 use Rattle.switch_machine.specs.Stands.OneWay.{WayStands}
 
 -- Bodies on their way back, as RELAY cells.
@@ -73,14 +73,13 @@ pub record CircuitStands (rules : Rules) (closes : List Ordered) (x : CircuitSta
   pub no_left : (serial : ℕ) → left_at closes c serial ≡ []
   pub dial : x.dial ≡ open_dial (log rules p.events) e
 
--- A circuit that isn't live: it keeps what it sent.
-pub record CircuitGone (rules : Rules) (closes : List Ordered) (c : ℕ) (p : Past) (e : EdgePast) : Type 0 where
+-- A circuit that isn't live: the orders that it left.
+pub record CircuitGone (closes : List Ordered) (c : ℕ) (p : Past) (e : EdgePast) : Type 0 where
   pub live : p.live ≡ false
-  pub begins : (k : ℕ) → SentBegins rules k p
   pub left : (serial : ℕ) → left_at closes c serial ≡ e.left serial
 
 abbrev pub CircuitAt : Rules → List Ordered → Option CircuitState → ℕ → Past → (ℕ → Bool) → EdgePast → Type 0
-CircuitAt rules closes None c p has_id e = CircuitGone rules closes c p e
+CircuitAt rules closes None c p has_id e = CircuitGone closes c p e
 CircuitAt rules closes (Some x) c p has_id e = CircuitStands rules closes x c p has_id e
 
 -- A number that no circuit was given yet has no past.

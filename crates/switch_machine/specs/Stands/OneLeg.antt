@@ -14,20 +14,10 @@ pub record LegHas (leg : LegState) (sent may_leave : List CircuitCell) (lies : O
   pub port : lies ≡ Some (record { chan = leg.chan; id = leg.id })
   pub cells : sent ++ leg.queue ≡ may_leave
 
--- Any other: what was sent is the beginning of it.
-pub record Begins (sent may_leave : List CircuitCell) : Type 0 where
-  pub rest : List CircuitCell
-  pub cells : sent ++ rest ≡ may_leave
-
--- A leg that has lost its CircID, or was never made.
-pub record LegLost (sent may_leave : List CircuitCell) (has_id : Bool) : Type 0 where
-  pub holds : has_id ≡ false
-  pub begins : Begins sent may_leave
-
 -- By what the state has of a leg: what was sent, what may leave, where the leg lies, and whether it has its
--- CircID.
+-- CircID. One that the state hasn't lost its own, or was never made.
 abbrev pub LegBy : Option LegState → List CircuitCell → List CircuitCell → Option Port → Bool → Type 0
-LegBy None sent may_leave lies has_id = LegLost sent may_leave has_id
+LegBy None sent may_leave lies has_id = has_id ≡ false
 LegBy (Some leg) sent may_leave lies has_id = LegHas leg sent may_leave lies has_id
 
 -- The same by the past of the circuit.
@@ -38,12 +28,6 @@ sendable_by rules p k = sendable (log rules p.events) p.sealed_count k
 
 abbrev pub LegStands : Rules → LegState → ℕ → Past → Bool → Type 0
 LegStands rules leg k p has_id = LegHas leg (p.sent k) (sendable_by rules p k) (p.port k) has_id
-
-abbrev pub LegGone : Rules → ℕ → Past → Bool → Type 0
-LegGone rules k p has_id = LegLost (p.sent k) (sendable_by rules p k) has_id
-
-abbrev pub SentBegins : Rules → ℕ → Past → Type 0
-SentBegins rules k p = Begins (p.sent k) (sendable_by rules p k)
 
 abbrev pub LegAt : Rules → Option LegState → ℕ → Past → Bool → Type 0
 LegAt rules leg k p has_id = LegBy leg (p.sent k) (sendable_by rules p k) (p.port k) has_id
