@@ -7,6 +7,7 @@ use Rattle.tr_io.specs.declared.names.Side.{Side}
 use Rattle.tr_io.specs.declared.step.Step.{Step}
 use Rattle.tr_io.specs.declared.step.Step.TheVariants.{ChannelUp}
 use Rattle.switch_model.specs.Limits.{channel_limit}
+use Rattle.switch_model.specs.Answers.ChannelUp.{channel_up_answer}
 use Rattle.switch_model.specs.Start.{Start}
 use Rattle.switch_model.specs.Names.{chan_no}
 use Rattle.switch_model.specs.History.Channels.{is_live_channel, live_channels, count_below}
@@ -39,11 +40,15 @@ never-up start s h st chan new side =
     let gone = subst (λ x. ChannelAt x (channel_past start.rules h chan)) none (st.channels.channel chan) in
     record { channel = refl; given = sym (st.channels.no_channel chan (omega arith)); lane = sym gone.lane }
 
-up-by : (start : Start) (s : State) (h : List Step) (slot : ℕ) (side : Side) (b : Bool) → nat_le channel_limit (filled_slots s.channels) ≡ b → Stands start s h →
+-- the answer
+pub channel_up_said : (start : Start) (s : State) (h : List Step) → Stands start s h → channel_up_result s ≡ channel_up_answer h
+channel_up_said start s h st = rw (filled-channels start s h st, st.numbers.channels) refl
+
+up-by : (start : Start) (s : State) (h : List Step) (slot : ℕ) (side : Side) (b : Bool) → (if b then UpAnswer.Full channel_limit else UpAnswer.Up (chan_no (length s.channels))) ≡ channel_up_answer h → Stands start s h →
     Stands start (if b then counted s else record (counted s) { channels = s.channels ++ Some (new_channel side) ∷ [] })
     (ChannelUp slot side (if b then UpAnswer.Full channel_limit else UpAnswer.Up (chan_no (length s.channels))) ∷ h)
-up-by start s h slot side true is st = record {
-  steps = step-added start s.steps h _ st.steps (tt, rw (← filled-channels start s h st, is) refl);
+up-by start s h slot side true said st = record {
+  steps = step-added start s.steps h _ st.steps (tt, said);
   numbers = st.numbers;
   channels = st.channels;
   circuits = st.circuits;
@@ -54,11 +59,11 @@ up-by start s h slot side true is st = record {
   slots = st.slots;
   not_yet = st.not_yet;
 }
-up-by start s h slot side false is st =
+up-by start s h slot side false said st =
     let n = length s.channels in
     let step = ChannelUp slot side (UpAnswer.Up (chan_no n)) in
     record {
-      steps = step-added start s.steps h step st.steps (tt, rw (← filled-channels start s h st, is, st.numbers.channels) refl);
+      steps = step-added start s.steps h step st.steps (tt, said);
       numbers = channel-count (numbers_in s) (numbers_past start.rules h) _ _ (grind (arith, common_steps, st.numbers.channels)) st.numbers;
       channels = record {
         channel = λ chan. elim (eqb_tells chan n) [
@@ -80,4 +85,4 @@ up-by start s h slot side false is st =
     }
 
 pub channel_up_kept : (start : Start) (s : State) (h : List Step) (slot : ℕ) (side : Side) → Stands start s h → Stands start (channel_up_state s side) (ChannelUp slot side (channel_up_result s) ∷ h)
-channel_up_kept start s h slot side st = up-by start s h slot side (nat_le channel_limit (filled_slots s.channels)) refl st
+channel_up_kept start s h slot side st = up-by start s h slot side (nat_le channel_limit (filled_slots s.channels)) (channel_up_said start s h st) st

@@ -1,5 +1,5 @@
-//! Laws on the machine: whatever history a state stands for, each call's state stands for it with the
-//! step added.
+//! Laws on the machine: whatever history a state stands for, each call's answer is the one that the history
+//! gives, and its state stands for the history with the step added.
 ghost use Rattle.std.specs.Prelude.{◌≡◌, ℕ, List, [], Option, true, ◌<◌};
 ghost use Rattle.cell_codec.specs.declared.cell.Cell.{Cell};
 ghost use Rattle.kdf_tor.specs.declared.LayerKeys.{LayerKeys};
@@ -10,6 +10,9 @@ ghost use Rattle.tr_io.specs.declared.names.Side.{Side};
 ghost use Rattle.tr_io.specs.declared.step.Step.{Step};
 ghost use Rattle.tr_io.specs.declared.step.Step.TheVariants.{ChannelUp, OpenCircuit, NextCell, TearDown, GiveBack, Abandon, Claim, Take};
 ghost use Rattle.switch_model.specs.History.Circuit.{events};
+ghost use Rattle.switch_model.specs.Answers.ChannelUp.{channel_up_answer};
+ghost use Rattle.switch_model.specs.Answers.OpenCircuit.{open_answer};
+ghost use Rattle.switch_model.specs.Answers.NextCell.{next_cell_answer};
 ghost use Rattle.switch_model.specs.Answers.TearDown.{tear_down_answer};
 ghost use Rattle.switch_model.specs.Answers.GiveBack.{give_back_answer};
 ghost use Rattle.switch_model.specs.Answers.Abandon.{abandon_answer};
@@ -42,25 +45,30 @@ pub fn a_new_switch_has_no_history()
 {}
 
 /// A channel that comes up, or finds the switch full, is one step.
-#[tactic(auto, using(crate::proofs::Laws::channel_up_adds))]
+#[tactic(auto, using(crate::proofs::Laws::channel_up_adds, crate::proofs::Up::channel_up_said))]
 pub fn channel_up_is_one_step()
-    ensures { (start : Start) (s t : State) (slot : ℕ) (side : Side) →
+    ensures adds { (start : Start) (s t : State) (slot : ℕ) (side : Side) →
         t ≡ channel_up_state s side → Adds start s t (ChannelUp slot side (channel_up_result s)) }
+    ensures answer { (start : Start) (s : State) (h : List Step) → Stands start s h → channel_up_result s ≡ channel_up_answer h }
 {}
 
 /// An opening, accepted or refused, is one step.
-#[tactic(auto, using(crate::proofs::Laws::open_adds))]
+#[tactic(auto, using(crate::proofs::Laws::open_adds, crate::proofs::OpenCircuit::Kept::open_said))]
 pub fn open_circuit_is_one_step()
-    ensures { (start : Start) (s t : State) (chan : ChanNo) (id : ℕ) (reply : Cell) (keys : Option LayerKeys) (pad : Option (List ℕ)) →
+    ensures adds { (start : Start) (s t : State) (chan : ChanNo) (id : ℕ) (reply : Cell) (keys : Option LayerKeys) (pad : Option (List ℕ)) →
         IsReply reply keys → t ≡ open_state s chan.0 id reply keys →
         Adds start s t (OpenCircuit chan id reply keys pad (open_result s chan.0 id keys)) }
+    ensures answer { (start : Start) (s : State) (h : List Step) (chan id : ℕ) (keys : Option LayerKeys) → Stands start s h →
+        open_result s chan id keys ≡ open_answer start.rules h chan id keys }
 {}
 
 /// A cell that leaves, or none, is one step.
-#[tactic(auto, using(crate::proofs::Laws::next_cell_adds))]
+#[tactic(auto, using(crate::proofs::Laws::next_cell_adds, crate::proofs::NextCell::Said::next_cell_said))]
 pub fn next_cell_is_one_step()
-    ensures { (start : Start) (s t : State) (chan : ChanNo) (tick : ℕ) →
+    ensures adds { (start : Start) (s t : State) (chan : ChanNo) (tick : ℕ) →
         t ≡ next_cell_state s chan.0 tick → Adds start s t (NextCell chan tick (next_cell_result s chan.0 tick)) }
+    ensures answer { (start : Start) (s : State) (h : List Step) (chan tick : ℕ) → Stands start s h →
+        next_cell_result s chan tick ≡ next_cell_answer start.rules h chan tick }
 {}
 
 /// A teardown that the caller asks for, or one of a circuit that is gone, is one step of the history whose

@@ -15,7 +15,7 @@ use Rattle.switch_machine.specs.Stands.{Stands}
 use Rattle.switch_machine.specs.Calls.NextCell.{first_cell, cell_of_leg, waits_on, picked_leg, ticked, with_leg, sent_from, next_state_on, next_result_on, next_cell_result, next_cell_state, lane_of}
 use Rattle.switch_model.proofs.Common.{and-first, and-second, same-number}
 use Rattle.switch_machine.proofs.Counting.{picked-waits}
-use Rattle.switch_machine.proofs.NextCell.Said.{next-said}
+use Rattle.switch_machine.proofs.NextCell.Said.{next_cell_said}
 use Rattle.switch_machine.proofs.NextCell.Destroy.{nothing-left, destroy-left}
 use Rattle.switch_machine.proofs.NextCell.Sent.{sent_state, leg-left}
 
@@ -62,4 +62,4 @@ channel-step start s h chan given (Some channel) st found said = lane-step start
 
 pub next_cell_kept : (start : Start) (s : State) (h : List Step) (chan given : ℕ) → Stands start s h →
     Stands start (next_cell_state s chan given) (NextCell (chan_no chan) given (next_cell_result s chan given) ∷ h)
-next_cell_kept start s h chan given st = channel-step start s h chan given (slot_at s.channels chan) st refl (next-said start s h chan given st)
+next_cell_kept start s h chan given st = channel-step start s h chan given (slot_at s.channels chan) st refl (next_cell_said start s h chan given st)

@@ -36,11 +36,11 @@ cell-said start s h st None = refl
 cell-said start s h st (Some leg) =
     rw (queue-said start s h st leg.circ leg.number) (circuit-cell start s h leg.circ leg.number (slot_at s.circuits leg.circ) (st.circuits.circuit leg.circ))
 
-next-said_by : (start : Start) (s : State) (h : List Step) (chan given : ℕ) (x : Option ChannelState) → Stands start s h → ChannelAt x (channel_past start.rules h chan) →
+next_cell_said_by : (start : Start) (s : State) (h : List Step) (chan given : ℕ) (x : Option ChannelState) → Stands start s h → ChannelAt x (channel_past start.rules h chan) →
     next_result_on s chan given x ≡ next_cell_answer start.rules h chan given
-next-said_by start s h chan given None st at = rw at.channel refl
-next-said_by start s h chan given (Some channel) st at =
+next_cell_said_by start s h chan given None st at = rw at.channel refl
+next_cell_said_by start s h chan given (Some channel) st at =
     rw (at.channel, at.lane, cell-said start s h st (picked_leg s chan given), picked-said start s h st chan given) refl
 
-pub next-said : (start : Start) (s : State) (h : List Step) (chan given : ℕ) → Stands start s h → next_cell_result s chan given ≡ next_cell_answer start.rules h chan given
-next-said start s h chan given st = next-said_by start s h chan given (slot_at s.channels chan) st (st.channels.channel chan)
+pub next_cell_said : (start : Start) (s : State) (h : List Step) (chan given : ℕ) → Stands start s h → next_cell_result s chan given ≡ next_cell_answer start.rules h chan given
+next_cell_said start s h chan given st = next_cell_said_by start s h chan given (slot_at s.channels chan) st (st.channels.channel chan)

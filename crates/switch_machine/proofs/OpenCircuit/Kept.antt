@@ -45,14 +45,14 @@ filled-circuits start s h st =
     ∙ ap (count_below (is_live_circuit start.rules h)) st.numbers.circuits
 
 -- the answer
-open-said_by : (start : Start) (s : State) (h : List Step) (chan id : ℕ) (keys : Option LayerKeys) (x : Option ChannelState) → Stands start s h → ChannelAt x (channel_past start.rules h chan) →
+open_said_by : (start : Start) (s : State) (h : List Step) (chan id : ℕ) (keys : Option LayerKeys) (x : Option ChannelState) → Stands start s h → ChannelAt x (channel_past start.rules h chan) →
     open_result_on s chan id keys x ≡ open_answer start.rules h chan id keys
-open-said_by start s h chan id keys None st at = rw at.channel refl
-open-said_by start s h chan id keys (Some channel) st at =
+open_said_by start s h chan id keys None st at = rw at.channel refl
+open_said_by start s h chan id keys (Some channel) st at =
     rw (at.channel, taken-said start s h st chan id channel at.lane, filled-circuits start s h st, st.numbers.circuits) refl
 
-pub open-said : (start : Start) (s : State) (h : List Step) (chan id : ℕ) (keys : Option LayerKeys) → Stands start s h → open_result s chan id keys ≡ open_answer start.rules h chan id keys
-open-said start s h chan id keys st = open-said_by start s h chan id keys (slot_at s.channels chan) st (st.channels.channel chan)
+pub open_said : (start : Start) (s : State) (h : List Step) (chan id : ℕ) (keys : Option LayerKeys) → Stands start s h → open_result s chan id keys ≡ open_answer start.rules h chan id keys
+open_said start s h chan id keys st = open_said_by start s h chan id keys (slot_at s.channels chan) st (st.channels.channel chan)
 
 -- a refusal that sends nothing
 if-both : {A : Type 0} (b : Bool) (x : A) → (if b then x else x) ≡ x
@@ -122,4 +122,4 @@ open-on start s h chan id reply keys pad (Some channel) st asked found said =
 
 pub open_kept : (start : Start) (s : State) (h : List Step) (chan id : ℕ) (reply : Cell) (keys : Option LayerKeys) (pad : Option (List ℕ)) → IsReply reply keys → Stands start s h →
     Stands start (open_state s chan id reply keys) (OpenCircuit (chan_no chan) id reply keys pad (open_result s chan id keys) ∷ h)
-open_kept start s h chan id reply keys pad asked st = open-on start s h chan id reply keys pad (slot_at s.channels chan) st asked refl (open-said start s h chan id keys st)
+open_kept start s h chan id reply keys pad asked st = open-on start s h chan id reply keys pad (slot_at s.channels chan) st asked refl (open_said start s h chan id keys st)
