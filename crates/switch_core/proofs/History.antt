@@ -1,5 +1,5 @@
 -- Each call of the machine as a step of the histories that a switch stands for.
-use Rattle.std.proofs.Common.{List, ◌≡◌, ◌≤◌, ◌+◌, ℕ, [], Option, sym, ap, subst, arith}
+use Rattle.std.proofs.Common.{List, ◌≡◌, ◌≤◌, ◌+◌, ℕ, Option, ap, arith}
 use Rattle.std.specs.Prelude.{⊤, false, IfSome, IsTrue}
 use Rattle.cell_codec.specs.Cells.{is_var}
 use Rattle.cell_codec.specs.declared.cell.Cell.{Cell}
@@ -12,14 +12,10 @@ use Rattle.tr_io.specs.declared.names.Side.{Side}
 use Rattle.tr_io.specs.declared.step.Step.TheVariants.{ChannelUp, OpenCircuit, NextCell}
 use Rattle.switch_model.specs.Start.{Start}
 use Rattle.switch_machine.specs.State.{State}
-use Rattle.switch_machine.specs.Machine.{new_state}
 use Rattle.switch_machine.specs.Calls.ChannelUp.{channel_up_result, channel_up_state}
 use Rattle.switch_machine.specs.Calls.OpenCircuit.{open_result, open_state}
-use Rattle.switch_machine.specs.Adds.{Adds, StandsForSome, UpCase, OpenCase}
-use Rattle.switch_machine.proofs.Laws.{stands_new, channel_up_adds, open_adds, stays}
-
-pub new_stands : (start : Start) (s : State) → s ≡ new_state → StandsForSome start s
-new_stands start s is = record { history = []; stands = stands_new start s is }
+use Rattle.switch_machine.specs.Adds.{Adds, UpCase, OpenCase}
+use Rattle.switch_machine.proofs.Laws.{channel_up_adds, open_adds}
 
 pub up_adds : (start : Start) (old new : State) (slot : ℕ) (side : Side) (a : UpAnswer) → UpCase a (new ≡ old) (new ≡ channel_up_state old side) → UpCase a ⊤ (a ≡ channel_up_result old) →
     UpCase a (new ≡ old) (Adds start old new (ChannelUp slot side a))
@@ -35,17 +31,6 @@ opening_adds start old new chan id reply keys pad (OpenAnswer.Opened n) fixed co
     open_adds start old new chan id reply keys pad (OpenAnswer.Opened n) (record { fixed = fixed; command = command }) state answer
 opening_adds start old new chan id reply keys pad (OpenAnswer.Refused why) fixed command state answer =
     open_adds start old new chan id reply keys pad (OpenAnswer.Refused why) (record { fixed = fixed; command = command }) state answer
-
-pub up_stays : (start : Start) (old new : State) (slot : ℕ) (side : Side) (a : UpAnswer) → UpCase a (new ≡ old) (Adds start old new (ChannelUp slot side a)) → StandsForSome start old → StandsForSome start new
-up_stays start old new slot side UpAnswer.Memory is some = subst (StandsForSome start) (sym is) some
-up_stays start old new slot side (UpAnswer.Up n) adds some = stays start old new (ChannelUp slot side (UpAnswer.Up n)) adds some
-up_stays start old new slot side (UpAnswer.Full n) adds some = stays start old new (ChannelUp slot side (UpAnswer.Full n)) adds some
-
-pub opening_stays : (start : Start) (old new : State) (chan : ChanNo) (id : ℕ) (reply : Cell) (keys : Option LayerKeys) (pad : Option (List ℕ)) (a : OpenAnswer) →
-    OpenCase a (new ≡ old) (Adds start old new (OpenCircuit chan id reply keys pad a)) → StandsForSome start old → StandsForSome start new
-opening_stays start old new chan id reply keys pad OpenAnswer.Memory is some = subst (StandsForSome start) (sym is) some
-opening_stays start old new chan id reply keys pad (OpenAnswer.Opened n) adds some = stays start old new (OpenCircuit chan id reply keys pad (OpenAnswer.Opened n)) adds some
-opening_stays start old new chan id reply keys pad (OpenAnswer.Refused why) adds some = stays start old new (OpenCircuit chan id reply keys pad (OpenAnswer.Refused why)) adds some
 
 pub up_steps : (start : Start) (old new : State) (slot : ℕ) (side : Side) (a : UpAnswer) → UpCase a (new ≡ old) (Adds start old new (ChannelUp slot side a)) → new.steps ≤ old.steps + 1
 unfolding Adds

@@ -3,3 +3,5 @@ pub mod Plain
 pub mod Picks
 pub mod Leaves
 pub mod History
+pub mod Relays
+pub mod Whole

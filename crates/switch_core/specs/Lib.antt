@@ -1,3 +1,5 @@
 pub mod Meaning
 pub mod Picking
+pub mod Relays
+pub mod Opened
 pub mod Started

@@ -1,20 +1,35 @@
--- What contracts see of a switch: what it was made with, the state of the machine, and what is kept of each
--- circuit for the one-thread relay.
-use Rattle.std.specs.Prelude.{ℕ, ◌++◌, [], ◌∷◌, List, Option}
-use Rattle.kdf_tor.specs.declared.LayerKeys.{LayerKeys}
-use Rattle.tr_io.specs.declared.answers.OpenAnswer.{OpenAnswer}
-use Rattle.tr_io.specs.declared.answers.OpenAnswer.TheVariants.{Opened}
+-- What contracts see of a switch, and when that stands for a history.
+use Rattle.std.specs.Prelude.{◌≡◌, ◌+◌, List, ◌∷◌, Option}
+use Rattle.tr_io.specs.declared.step.Step.{Step}
+use Rattle.switch_model.specs.History.Legs.{circuits}
+use Rattle.switch_model.specs.History.Past.{past}
 use Rattle.switch_model.specs.Start.{Start}
+use Rattle.switch_machine.specs.Stands.{Stands}
 use Rattle.switch_machine.specs.State.{State}
+use Rattle.switch_core.specs.Relays.{RelaysStand}
 use Rattle.switch_core.specs.declared.relay.Relay.{Relay}
 
+-- What a switch was made with, the state of the machine, and by circuit number what is kept of each live circuit
+-- for the one-thread relay.
 pub record Started : Type 0 where
   pub start : Start
   pub state : State
-  -- by circuit number
-  pub relays : List Relay
+  pub relays : List (Option Relay)
 
--- Behind an opening: a circuit that was opened keeps what it was opened with.
-abbrev pub relays_with : OpenAnswer → Option LayerKeys → Option (List ℕ) → List Relay → List Relay
-relays_with (Opened n) keys pad relays = relays ++ record { keys = keys; pad = pad } ∷ []
-relays_with answer keys pad relays = relays
+-- The switch, its relays and their ciphers among it, stands for a history.
+pub record SwitchStands (s : Started) (h : List Step) : Type 0 where
+  pub state : Stands s.start s.state h
+  pub relays : RelaysStand s.start.rules s.relays (circuits h) (λ c. past s.start.rules h c)
+
+pub record SwitchStandsForSome (s : Started) : Type 0 where
+  pub history : List Step
+  pub stands : SwitchStands s history
+
+-- Whatever history the old switch stands for, the new one stands for it with this step.
+pub record SwitchStepAdded (old new : Started) (step : Step) : Type 0 where
+  pub start : new.start ≡ old.start
+  pub steps : new.state.steps ≡ old.state.steps + 1
+  pub stands : (h : List Step) → SwitchStands old h → SwitchStands new (step ∷ h)
+
+unfoldable pub SwitchAdds : Started → Started → Step → Type 0
+SwitchAdds old new step = SwitchStepAdded old new step

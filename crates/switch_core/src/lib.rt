@@ -8,6 +8,7 @@ mod cells;
 mod channel;
 mod circuit;
 mod leg;
+mod opening;
 mod parts;
 mod pick;
 mod relay;

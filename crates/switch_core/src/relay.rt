@@ -1,11 +1,39 @@
-//! What is kept of a circuit for the one-thread relay.
-use kdf_tor::LayerKeys;
+//! What is kept of a live circuit for the one-thread relay.
+ghost use Rattle.circ_relay.specs.Values.{rules_of};
+ghost use Rattle.circuit_model.specs.Events.{CircuitCell};
+ghost use Rattle.circuit_model.specs.declared.event.Event.TheVariants.{Born};
+ghost use Rattle.std.specs.Prelude.{[], ◌∷◌};
+ghost use Rattle.switch_core.specs.Relays.{RelayStands};
 
-/// What a circuit was opened with.
+use circ_relay::{Circuit, Rules};
+use hop_crypto::{Cipher, Opener, Sealer};
+use kdf_tor::LayerKeys;
+use tr_io::names::CircNo;
+
+/// The one-thread relay's state of a circuit, and the ciphers of its two directions as they are behind
+/// the bodies that came home.
 #[derive(Drop)]
 pub struct Relay {
-    /// The circuit's keys.
-    pub keys: Option<LayerKeys>,
-    /// The key of the padding of what it packages, if there is one.
-    pub pad: Option<[u8; 16]>,
+    /// The relay.
+    pub circuit: Circuit,
+    /// What takes the layer off the bodies forth.
+    pub forth: Cipher,
+    /// What puts the layer on the bodies back.
+    pub back: Cipher,
+}
+
+impl Relay {
+    /// The relay of a circuit that was just opened.
+    pub fn new(number: CircNo, keys: &LayerKeys, pad: Option<[u8; 16]>, rules: &Rules) -> Relay
+        ensures { (reply : CircuitCell) → RelayStands result (rules_of rules.now) (Born reply keys.now pad ∷ []) 0 }
+    {
+        let circuit = Circuit::new(number, keys, pad, rules);
+        let opener = Opener::of(keys);
+        let sealer = Sealer::of(keys);
+        Relay {
+            circuit,
+            forth: Cipher::Forth(opener),
+            back: Cipher::Back(sealer),
+        }
+    }
 }

@@ -9,8 +9,9 @@ ghost use Rattle.switch_machine.specs.Calls.ChannelUp.{channel_up_result};
 ghost use Rattle.switch_machine.specs.Calls.OpenCircuit.{open_result};
 ghost use Rattle.switch_machine.specs.Calls.NextCell.{next_cell_result};
 ghost use Rattle.switch_core.specs.Meaning.{start_of};
-ghost use Rattle.switch_core.specs.Started.{relays_with};
+ghost use Rattle.switch_core.specs.Started.{SwitchAdds};
 
+use crate::opening::open_with_relay;
 use crate::parts::Parts;
 use crate::relay::Relay;
 use cell_codec::{Cell, List};
@@ -23,32 +24,31 @@ use tr_io::names::{ChanNo, Side};
 
 /// The switch of a relay.
 ///
-/// Contracts see what it was made with, the machine's state, which stands for some history of
-/// steps, and what each circuit was opened with. Each call that doesn't answer `Memory` is one step:
-/// whatever history the switch stood for, it stands for it afterwards with this step, which has this
-/// answer, added.
+/// Contracts see what it was made with, the machine's state, and by circuit the one-thread relay and the
+/// ciphers of a live circuit; together they stand for some history of steps. Each call that doesn't answer
+/// `Memory` is one step: whatever history the switch stood for, it stands for it afterwards with this step,
+/// which has this answer, added.
 #[derive(Drop)]
 pub struct Switch {
     name: u64,
     rules: Rules,
     parts: Parts,
     /// By circuit number.
-    relays: List<Relay>,
+    relays: List<Option<Relay>>,
 }
 
 impl Model for Switch {
-    ghost use Rattle.switch_machine.specs.Adds.{StandsForSome};
     ghost use Rattle.switch_core.specs.Meaning.{start_of};
-    ghost use Rattle.switch_core.specs.Started.{Started};
+    ghost use Rattle.switch_core.specs.Started.{Started, SwitchStandsForSome};
 
     ghost Value = { Started };
 
     ghost view = { λ s. record { start = start_of s.name s.rules; state = s.parts; relays = s.relays.items } };
 
-    ghost invariant = { λ s. StandsForSome (start_of s.name s.rules) s.parts };
+    ghost invariant = { λ s. SwitchStandsForSome (record { start = start_of s.name s.rules; state = s.parts; relays = s.relays.items }) };
 }
 
-#[tactic(auto, using(switch_machine::proofs::Laws::channel_up_adds, switch_machine::proofs::Laws::open_adds, switch_machine::proofs::Laws::next_cell_adds, switch_machine::proofs::Laws::stays, crate::proofs::History::new_stands, crate::proofs::History::up_adds, crate::proofs::History::opening_adds, crate::proofs::History::up_stays, crate::proofs::History::opening_stays, crate::proofs::History::up_steps, crate::proofs::History::opening_steps, crate::proofs::History::next_steps))]
+#[tactic(auto, using(switch_machine::proofs::Laws::channel_up_adds, switch_machine::proofs::Laws::open_adds, switch_machine::proofs::Laws::next_cell_adds, crate::proofs::Whole::new_whole, crate::proofs::History::up_adds, crate::proofs::History::opening_adds, crate::proofs::History::up_steps, crate::proofs::History::opening_steps, crate::proofs::History::next_steps))]
 impl Switch {
     /// A switch with no channel and no circuit. Its name tells its jobs from another switch's.
     ///
@@ -83,7 +83,7 @@ impl Switch {
         ensures history { UpCase result (self.new.state ≡ self.old.state) (Adds self.old.start self.old.state self.new.state (ChannelUp slot side result)) }
         ensures steps { self.new.state.steps ≤ self.old.state.steps + 1 }
         ensures answer { UpCase result ⊤ (result ≡ channel_up_result self.old.state) }
-        ensures relays { self.new.relays ≡ self.old.relays }
+        ensures whole { UpCase result (self.new ≡ self.old) (SwitchAdds self.old self.new (ChannelUp slot side result)) }
     {
         self.parts.channel_up(side)
     }
@@ -99,19 +99,16 @@ impl Switch {
         ensures history { OpenCase result (self.new.state ≡ self.old.state) (Adds self.old.start self.old.state self.new.state (OpenCircuit chan id opening.now.reply opening.now.keys opening.now.pad result)) }
         ensures steps { self.new.state.steps ≤ self.old.state.steps + 1 }
         ensures answer { OpenCase result ⊤ (result ≡ open_result self.old.state chan.0 id opening.now.keys) }
-        ensures relays { self.new.relays ≡ relays_with result opening.now.keys opening.now.pad self.old.relays }
+        ensures whole { OpenCase result (self.new ≡ self.old) (SwitchAdds self.old self.new (OpenCircuit chan id opening.now.reply opening.now.keys opening.now.pad result)) }
     {
-        if self.relays.reserve(1).is_err() {
-            return OpenAnswer::Memory;
-        }
-        let answer = self.parts.open_circuit(chan, id, opening);
-        if let OpenAnswer::Opened(_) = answer {
-            self.relays.push_reserved(Relay {
-                keys: opening.keys,
-                pad: opening.pad,
-            });
-        }
-        answer
+        open_with_relay(
+            &mut self.parts,
+            &mut self.relays,
+            &self.rules,
+            chan,
+            id,
+            opening,
+        )
     }
 
     /// The next cell that leaves on a channel, where this tick is given: the oldest DESTROY of its
@@ -122,7 +119,7 @@ impl Switch {
         ensures history { Adds self.old.start self.old.state self.new.state (NextCell chan tick result) }
         ensures steps { self.new.state.steps ≡ self.old.state.steps + 1 }
         ensures answer { result ≡ next_cell_result self.old.state chan.0 tick }
-        ensures relays { self.new.relays ≡ self.old.relays }
+        ensures whole { SwitchAdds self.old self.new (NextCell chan tick result) }
         ensures well_formed { IfSome result IsWellFormed }
     {
         self.parts.next_cell(chan, tick)

@@ -1,0 +1,25 @@
+-- What an opening keeps for the one-thread relay.
+use Rattle.std.specs.Prelude.{ℕ, ◌≡◌, List, [], ◌∷◌, ◌++◌, Option, Some, None}
+use Rattle.circuit_model.specs.Events.{CircuitCell}
+use Rattle.circuit_model.specs.declared.event.Event.TheVariants.{Born}
+use Rattle.circuit_model.specs.Rules.{Rules}
+use Rattle.kdf_tor.specs.declared.LayerKeys.{LayerKeys}
+use Rattle.tr_io.specs.declared.answers.OpenAnswer.{OpenAnswer}
+use Rattle.switch_core.specs.Relays.{RelayStands}
+use Rattle.switch_core.specs.declared.relay.Relay.{Relay}
+
+-- One more relay, that of a circuit which was opened with these keys.
+pub record OneRelayMore (keys : LayerKeys) (pad : Option (List ℕ)) (rules : Rules) (old new : List (Option Relay)) : Type 0 where
+  pub relay : Relay
+  pub stands : (reply : CircuitCell) → RelayStands relay rules (Born reply keys pad ∷ []) 0
+  pub kept : new ≡ old ++ Some relay ∷ []
+
+abbrev pub KeepsRelay : Option LayerKeys → Option (List ℕ) → Rules → List (Option Relay) → List (Option Relay) → Type 0
+KeepsRelay None pad rules old new = new ≡ old
+KeepsRelay (Some keys) pad rules old new = OneRelayMore keys pad rules old new
+
+-- By the answer to the opening.
+abbrev pub KeepsBy : OpenAnswer → Option LayerKeys → Option (List ℕ) → Rules → List (Option Relay) → List (Option Relay) → Type 0
+KeepsBy (OpenAnswer.Opened n) keys pad rules old new = KeepsRelay keys pad rules old new
+KeepsBy (OpenAnswer.Refused why) keys pad rules old new = new ≡ old
+KeepsBy OpenAnswer.Memory keys pad rules old new = new ≡ old

@@ -1,0 +1,54 @@
+//! Opens a circuit in the switch's lists, and keeps its relay.
+ghost use Rattle.std.specs.Prelude.{◌≡◌, ◌<◌, ◌^◌, ⊤, IfSome, IsTrue, false};
+ghost use Rattle.cell_codec.specs.Cells.{is_var};
+ghost use Rattle.circ_relay.specs.Values.{rules_of};
+ghost use Rattle.tor_spec.specs.CellCommands.{opens_circuit};
+ghost use Rattle.switch_machine.specs.Adds.{OpenCase};
+ghost use Rattle.switch_machine.specs.Calls.OpenCircuit.{open_result, open_state};
+ghost use Rattle.switch_core.specs.Opened.{KeepsRelay, KeepsBy};
+
+use crate::parts::Parts;
+use crate::relay::Relay;
+use cell_codec::List;
+use circ_relay::Rules;
+use hop_handshake::Opening;
+use tr_io::answers::OpenAnswer;
+use tr_io::names::{ChanNo, CircNo};
+
+/// Opens a circuit, or refuses to; an opened circuit's relay is kept under its number.
+pub fn open_with_relay(
+    parts: &mut Parts,
+    relays: &mut List<Option<Relay>>,
+    rules: &Rules,
+    chan: ChanNo,
+    id: u32,
+    opening: &Opening,
+) -> OpenAnswer
+    requires steps { parts.old.steps < 2 ^ 62 }
+    requires fixed { is_var opening.now.reply.body ≡ false }
+    requires command { IfSome opening.now.keys (λ _. IsTrue (opens_circuit opening.now.reply.command)) }
+    ensures state { OpenCase result (parts.new ≡ parts.old) (parts.new ≡ open_state parts.old chan.0 id opening.now.reply opening.now.keys) }
+    ensures answer { OpenCase result ⊤ (result ≡ open_result parts.old chan.0 id opening.now.keys) }
+    ensures relays { KeepsBy result opening.now.keys opening.now.pad (rules_of rules.now) relays.old.items relays.new.items }
+{
+    if relays.reserve(1).is_err() {
+        return OpenAnswer::Memory;
+    }
+    let answer = parts.open_circuit(chan, id, opening);
+    let OpenAnswer::Opened(number) = answer else {
+        return answer;
+    };
+    keep_relay(relays, rules, number, opening);
+    answer
+}
+
+/// Keeps the relay of the circuit of an opening, if its handshake was good.
+fn keep_relay(relays: &mut List<Option<Relay>>, rules: &Rules, number: CircNo, opening: &Opening)
+    requires { 0 < relays.old.spare }
+    ensures { KeepsRelay opening.now.keys opening.now.pad (rules_of rules.now) relays.old.items relays.new.items }
+{
+    let Some(keys) = &opening.keys else {
+        return;
+    };
+    relays.push_reserved(Some(Relay::new(number, keys, opening.pad, rules)));
+}
