@@ -6,7 +6,7 @@ use Rattle.std.proofs.Math.Pow.{pow-add}
 use Rattle.tr_io.specs.declared.step.Step.{Step}
 use Rattle.switch_model.specs.Start.{Start}
 use Rattle.switch_model.specs.Names.{Leg}
-use Rattle.switch_model.specs.Waiting.Counts.{tick, halved, cell_count, count_at, lesser, least_of, pick}
+use Rattle.switch_model.specs.Waiting.Counts.{tick, halved, cell_count, count_at, least_of, pick}
 use Rattle.switch_machine.specs.State.{LegState, State}
 use Rattle.switch_machine.specs.Machine.{leg_in}
 use Rattle.switch_machine.specs.Stands.Counts.{CountAt, CountStands}
@@ -15,7 +15,7 @@ use Rattle.switch_machine.specs.Calls.NextCell.{count_of, count_of_found, waits_
 use Rattle.switch_machine.proofs.Waiting.{Waits, all-waiting, waiting-said}
 use Rattle.switch_model.proofs.Least.{lesser-same, least-has}
 
-pub halved-twice : (n a b : ℕ) → halved (halved n a) b ≡ halved n (a + b)
+halved-twice : (n a b : ℕ) → halved (halved n a) b ≡ halved n (a + b)
 halved-twice n a b = div-div-eq-div-mul n (2 ^ a) (2 ^ b) ∙ ap (λ m. n / m) (sym (pow-add 2 a b))
 
 pub halved-none : (ticks : ℕ) → halved 0 ticks ≡ 0
@@ -42,7 +42,7 @@ count-later (Some leg) n now given own = record {
 abbrev pub Agree : (Leg → ℕ) → (Leg → ℕ) → Leg → Type 0
 Agree f g leg = f leg ≡ g leg
 
-pub least-same : (f g : Leg → ℕ) (legs : List Leg) → AllByRecursion (Agree f g) legs → least_of f legs ≡ least_of g legs
+least-same : (f g : Leg → ℕ) (legs : List Leg) → AllByRecursion (Agree f g) legs → least_of f legs ≡ least_of g legs
 least-same f g [] all = refl
 least-same f g (leg ∷ legs) all =
     rw (least-same f g legs all.1) (ap Some (lesser-same f g leg (least_of g legs) all.0 (least-has (Agree f g) g legs all.1)))
@@ -65,14 +65,3 @@ picked-said start s h st chan given =
 
 pub picked-waits : (s : State) (chan given : ℕ) (leg : Leg) → picked_leg s chan given ≡ Some leg → Waits s chan leg
 picked-waits s chan given leg found = least-has (Waits s chan) (cell_count_in s given) (waiting_on s chan) (all-waiting s chan) leg found
-
--- where no leg that waits was counted, the first is picked
-abbrev pub Uncounted : (Leg → ℕ) → Leg → Type 0
-Uncounted f leg = f leg ≡ 0
-
-lesser-first : (f : Leg → ℕ) (leg : Leg) (o : Option Leg) → f leg ≡ 0 → ((other : Leg) → o ≡ Some other → f other ≡ 0) → lesser f leg o ≡ leg
-lesser-first f leg None here found = refl
-lesser-first f leg (Some other) here found = rw (here, found other refl) refl
-
-pub least_of-uncounted : (f : Leg → ℕ) (leg : Leg) (legs : List Leg) → AllByRecursion (Uncounted f) (leg ∷ legs) → least_of f (leg ∷ legs) ≡ Some leg
-least_of-uncounted f leg legs all = ap Some (lesser-first f leg (least_of f legs) all.0 (least-has (Uncounted f) f legs all.1))

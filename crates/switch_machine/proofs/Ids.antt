@@ -26,7 +26,7 @@ pub leg-by : (start : Start) (s : State) (h : List Step) (c k : ℕ) (x : Option
 leg-by start s h c k None leg at found = absurd cc
 leg-by start s h c k (Some x) leg own found = subst (λ y. LegAt start.rules y k (past start.rules h c) (holds_id h c k)) found (own.legs k)
 
-pub leg-stands : (start : Start) (s : State) (h : List Step) → Stands start s h → (c k : ℕ) (leg : LegState) → leg_at (slot_at s.circuits c) k ≡ Some leg →
+leg-stands : (start : Start) (s : State) (h : List Step) → Stands start s h → (c k : ℕ) (leg : LegState) → leg_at (slot_at s.circuits c) k ≡ Some leg →
     LegStands start.rules leg k (past start.rules h c) (holds_id h c k)
 leg-stands start s h st c k leg found = leg-by start s h c k (slot_at s.circuits c) leg (st.circuits.circuit c) found
 
@@ -58,14 +58,14 @@ leg-circuit chan id k None has = has
 leg-circuit chan id k (Some x) has = list_any-slot (has_port chan id) x.legs k refl has
 
 -- a leg of the state is one of the history
-pub taken-used : (start : Start) (s : State) (h : List Step) → Stands start s h → (chan id : ℕ) → list_any (circuit_has_id chan id) s.circuits ≡ true → is_some (at h chan id) ≡ true
+taken-used : (start : Start) (s : State) (h : List Step) → Stands start s h → (chan id : ℕ) → list_any (circuit_has_id chan id) s.circuits ≡ true → is_some (at h chan id) ≡ true
 taken-used start s h st chan id taken =
     let c = slot-list_any (circuit_has_id chan id) s.circuits taken in
     let k = circuit-leg chan id (slot_at s.circuits c.0) c.1 in
     port-used start s h st c.0 k.0 chan id (leg_at (slot_at s.circuits c.0) k.0) refl k.1
 
 -- and the other way, unless its DESTROY waits
-pub used-taken : (s : State) (lane : List Destroy) (chan id : ℕ) (x : Option Leg) → IsUsed (leg_in s) lane chan id x → is_some x ≡ true →
+used-taken : (s : State) (lane : List Destroy) (chan id : ℕ) (x : Option Leg) → IsUsed (leg_in s) lane chan id x → is_some x ≡ true →
     (list_any (circuit_has_id chan id) s.circuits ≡ true) ⊎ (list_any (λ d. d.id == id) lane ≡ true)
 used-taken s lane chan id None used some = absurd cc
 used-taken s lane chan id (Some leg) (inl has) some =

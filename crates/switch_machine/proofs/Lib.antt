@@ -23,5 +23,4 @@ pub mod NextCell
 pub mod Laws
 pub mod Again
 pub mod Built
-pub mod Low
 pub mod PlainLists

@@ -29,11 +29,11 @@ pub numbers-others : (v w : Way) (n : ℕ) (born : List Way) → same_way w v �
 numbers-others v w zero born other = refl
 numbers-others v w (suc n) born other = rw other (numbers-others v w n born other)
 
-pub filter-more : (test : Dial → Bool) (xs ys : List Dial) → filter test ys ≡ [] → filter test (xs ++ ys) ≡ filter test xs
+filter-more : (test : Dial → Bool) (xs ys : List Dial) → filter test ys ≡ [] → filter test (xs ++ ys) ≡ filter test xs
 filter-more test [] ys none = none
 filter-more test (x ∷ xs) ys none = rw (filter-more test xs ys none) refl
 
-pub none-numbered : (m c d : ℕ) (to : List Address) → (c == d) ≡ false → filter (is_from d) (numbered m c to) ≡ []
+none-numbered : (m c d : ℕ) (to : List Address) → (c == d) ≡ false → filter (is_from d) (numbered m c to) ≡ []
 none-numbered m c d [] other = refl
 none-numbered m c d (first ∷ more) other = rw other (none-numbered (m + 1) c d more other)
 

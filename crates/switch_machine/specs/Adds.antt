@@ -1,5 +1,5 @@
 -- What a call adds to the history.
-use Rattle.std.specs.Prelude.{◌≡◌, ⊤, ◌+◌, ◌<◌, ◌^◌, List, [], ◌∷◌, length}
+use Rattle.std.specs.Prelude.{◌≡◌, ⊤, ◌+◌, List, [], ◌∷◌}
 use Rattle.circuit_model.specs.Words.{in_order}
 use Rattle.tr_io.specs.declared.answers.OpenAnswer.{OpenAnswer}
 use Rattle.tr_io.specs.declared.answers.UpAnswer.{UpAnswer}
@@ -52,12 +52,6 @@ HasMachine (s ∷ h) = ⊥
 -- That the state stands for a history which is listed oldest first.
 unfoldable pub StandsFor : Start → State → List Step → Type 0
 StandsFor start s h = Stands start s (in_order h)
-
--- Numbers that may rise by one.
-pub record Low (s : State) : Type 0 where
-  pub steps : s.steps < 2 ^ 62
-  pub channels : length s.channels < 2 ^ 62
-  pub circuits : length s.circuits < 2 ^ 62
 
 -- The first fact where memory was wanting, else the second.
 abbrev pub UpCase : UpAnswer → Type 0 → Type 0 → Type 0

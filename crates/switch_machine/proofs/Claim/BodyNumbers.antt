@@ -1,5 +1,5 @@
 -- The numbers of a direction's bodies among all bodies of the switch.
-use Rattle.std.proofs.Common.{◌++◌, ◌+◌, ◌<◌, ◌∙◌, ◌∷◌, ◌≡◌, ◌≤◌, ◌⊎◌, Bool, List, None, Some, [], arith, false, if◌then◌else◌, inl, inr, length, refl, slice_get, suc, sym, true, zero, ℕ}
+use Rattle.std.proofs.Common.{◌++◌, ◌+◌, ◌<◌, ◌∙◌, ◌∷◌, ◌≡◌, ◌⊎◌, Bool, List, Some, [], arith, false, if◌then◌else◌, inl, inr, length, refl, slice_get, suc, sym, true, zero, ℕ}
 use Rattle.std.proofs.lemmas.Grind.{common_steps}
 use Rattle.std.proofs.lemmas.Option.{gets}
 use Rattle.tr_io.specs.declared.names.Dir.{Dir}
@@ -17,7 +17,7 @@ self-dir Back = refl
 pub self-way : (a : Way) → same_way a a ≡ true
 self-way a = rw (self_eq a.circ) (self-dir a.dir)
 
-pub push-get : {A : Type 0} (xs : List A) (x y : A) (i : ℕ) → slice_get (xs ++ x ∷ []) i ≡ Some y → (slice_get xs i ≡ Some y) ⊎ ((i ≡ length xs) × (x ≡ y))
+push-get : {A : Type 0} (xs : List A) (x y : A) (i : ℕ) → slice_get (xs ++ x ∷ []) i ≡ Some y → (slice_get xs i ≡ Some y) ⊎ ((i ≡ length xs) × (x ≡ y))
 push-get [] x y zero e = inr (refl, cc)
 push-get [] x y (suc i) e = absurd cc
 push-get (z ∷ xs) x y zero e = inl e
@@ -30,9 +30,6 @@ get-push (z ∷ xs) x y (suc i) e = get-push xs x y i e
 
 pub get-at-end : {A : Type 0} (xs : List A) (x : A) (i : ℕ) → i ≡ length xs → slice_get (xs ++ x ∷ []) i ≡ Some x
 get-at-end xs x i e = grind (arith, common_steps, gets)
-
-pub get-past : {A : Type 0} (xs : List A) (i : ℕ) → length xs ≤ i → slice_get xs i ≡ None
-get-past xs i e = grind (arith, common_steps, gets)
 
 length-by : (w : Way) (older : List Way) (b : Bool) → length (numbers_of w older) ≡ count_way w older →
     length (if b then numbers_of w older ++ length older ∷ [] else numbers_of w older) ≡ (if b then count_way w older + 1 else count_way w older)

@@ -54,7 +54,7 @@ moved : {A : Type 0} (a b c d e : List A) → b ++ c ≡ d → (a ++ []) ++ d �
 moved a b c d e f g = append_assoc a b c ∙ ap (λ l. a ++ l) f ∙ ap (λ l. l ++ d) (sym (append-nil a)) ∙ g
 
 -- the first bodies of a direction go out
-pub way-claimed : (c : ℕ) (d : Dir) (w : WayState) (settled given : List CircuitCell) (count : ℕ) (known : Option ClaimNote) (all : List ℕ) (n : ClaimNote) → WayStands c d w settled given count known all →
+way-claimed : (c : ℕ) (d : Dir) (w : WayState) (settled given : List CircuitCell) (count : ℕ) (known : Option ClaimNote) (all : List ℕ) (n : ClaimNote) → WayStands c d w settled given count known all →
     is_none w.kept ≡ true → n.circ.0 ≡ c → n.dir ≡ d → n.first ≡ w.claimed → n.count ≤ length w.waiting → WayStands c d (claimed_way n w) settled given (count + n.count) (Some n) all
 way-claimed c d w settled given count known all n own home circ dir first few =
     let none = none-kept w.kept home in

@@ -57,7 +57,7 @@ circuit-offers start s h c Forth (Some x) own =
 circuit-offers start s h c Back (Some x) own =
     way-offers c Back x.back _ _ _ (length (behind (circuit_log start.rules h c))) _ _ (past start.rules h c).live own.back own.live (length-map (behind (circuit_log start.rules h c)) _)
 
-pub offers-said : (start : Start) (s : State) (h : List Step) → Stands start s h → (w : Way) → offered s w ≡ offers_on start.rules h (born_bodies start.rules h) w
+offers-said : (start : Start) (s : State) (h : List Step) → Stands start s h → (w : Way) → offered s w ≡ offers_on start.rules h (born_bodies start.rules h) w
 offers-said start s h st w = circuit-offers start s h w.circ w.dir (slot_at s.circuits w.circ) (st.circuits.circuit w.circ)
 
 -- so both pick the same
@@ -93,7 +93,7 @@ soonest-said : (f g : Way → Option ℕ) → ((w : Way) → f w ≡ g w) → (u
 soonest-said f g same None first = λ v. same v ∙ first v
 soonest-said f g same (Some w) first = record { number = first.number; has = same w ∙ first.has; least = λ v n e. first.least v n (sym (same v) ∙ e) }
 
-pub next-way-said : (start : Start) (s : State) (h : List Step) → Stands start s h → option_map (λ (b : Offer). b.way) (soonest s) ≡ next_way start.rules h
+next-way-said : (start : Start) (s : State) (h : List Step) → Stands start s h → option_map (λ (b : Offer). b.way) (soonest s) ≡ next_way start.rules h
 next-way-said start s h st =
     picks-by start s h st (soonest s) (next_way start.rules h) (soonest-best s (length s.circuits))
     (soonest-said (offered s) (offers_on start.rules h (born_bodies start.rules h)) (offers-said start s h st) (next_way start.rules h) (first-soonest start.rules h (born_bodies start.rules h)))

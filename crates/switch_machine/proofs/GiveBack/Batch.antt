@@ -20,12 +20,12 @@ use Rattle.switch_model.specs.History.Returns.{Closes, Closing, Full, Goes, clos
 use Rattle.switch_model.specs.Waiting.Dials.{Dial}
 
 -- what holds before the cells, and behind each cell where it held before it, holds behind those that settle
-pub kind-by : (P : Settling → Type 0) (y one all : Settling) (k : Closing) → P y → P one → P all → P (settle_with k y one all)
+kind-by : (P : Settling → Type 0) (y one all : Settling) (k : Closing) → P y → P one → P all → P (settle_with k y one all)
 kind-by P y one all Goes own first rest = rest
 kind-by P y one all (Closes reason) own first rest = first
 kind-by P y one all Full own first rest = own
 
-pub batch-keeps : (P : Settling → Type 0) (rules : Rules) → ((y : Settling) (cell : CircuitCell) → P y → P (settle_one rules cell y)) → (cells : List CircuitCell) (y : Settling) → P y → P (settle_all rules y cells)
+batch-keeps : (P : Settling → Type 0) (rules : Rules) → ((y : Settling) (cell : CircuitCell) → P y → P (settle_one rules cell y)) → (cells : List CircuitCell) (y : Settling) → P y → P (settle_all rules y cells)
 batch-keeps P rules keeps [] y own = own
 batch-keeps P rules keeps (cell ∷ cells) y own =
     let first = keeps y cell own in

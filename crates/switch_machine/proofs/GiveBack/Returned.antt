@@ -60,7 +60,7 @@ pub record Returned (rules : Rules) (h : List Step) (n : ClaimNote) (a : BackAns
   pub legs : z.circuit.legs ≡ y.circuit.legs
 
 -- the events of the circuit
-pub events-returned : (rules : Rules) (h : List Step) (n : ClaimNote) (a : BackAnswer) → n.dir ≡ Forth → is_accepted_return a ≡ true →
+events-returned : (rules : Rules) (h : List Step) (n : ClaimNote) (a : BackAnswer) → n.dir ≡ Forth → is_accepted_return a ≡ true →
     events rules (returning n a ∷ h) n.circ.0 ≡ settled rules (length (sent rules h n.circ.0 0)) (events rules h n.circ.0) (claimed_cells h n)
 events-returned rules h n a forth accepted = rw (forth, accepted, self_eq n.circ.0) refl
 

@@ -96,7 +96,7 @@ circuit-on rules closes h chan given cell d (Some x) none own =
     (subst (λ f. CircuitStands rules closes x d (past rules h d) f (edge_past rules h d)) (sym (fun_ext (λ k. holds-on h chan given cell d k (no_leg k)))) own)
 
 -- the lane has one fewer
-pub used-less : (legs : Leg → Option LegState) (waits less : List Destroy) (m i : ℕ) (b : Bool) (x : Option Leg) →
+used-less : (legs : Leg → Option LegState) (waits less : List Destroy) (m i : ℕ) (b : Bool) (x : Option Leg) →
     (b ≡ false → list_any (λ d. d.id == i) waits ≡ true → list_any (λ d. d.id == i) less ≡ true) → IsUsed legs waits m i x → IsUsed legs less m i (if b then None else x)
 used-less legs waits less m i true x fewer used = tt
 used-less legs waits less m i false None fewer used = tt

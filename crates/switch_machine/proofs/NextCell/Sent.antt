@@ -77,7 +77,7 @@ used-sent s t waits m i false (Some other) keeps (inl has) = inl (keeps other re
 used-sent s t waits m i false (Some other) keeps (inr waiting) = inr waiting
 
 -- the leg lies where it lay
-pub lies-sent : (slots : List (Option ChannelState)) (b : Bool) (now : ℕ) (leg : LegState) (z : Option LegState) (cell : CircuitCell) (cells : List CircuitCell) → LiesOn slots (Some leg) → LiesOn slots z →
+lies-sent : (slots : List (Option ChannelState)) (b : Bool) (now : ℕ) (leg : LegState) (z : Option LegState) (cell : CircuitCell) (cells : List CircuitCell) → LiesOn slots (Some leg) → LiesOn slots z →
     LiesOn slots (if b then sent_first now leg (cell ∷ cells) else z)
 lies-sent slots true now leg z cell cells own other = lies-first slots now leg cell cells (cell.command == 4) refl own
 lies-sent slots false now leg z cell cells own other = other

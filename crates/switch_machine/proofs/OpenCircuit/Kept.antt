@@ -38,7 +38,7 @@ circuit-live : (rules : Rules) (closes : List Ordered) (x : Option CircuitState)
 circuit-live rules closes None c p has_id e at = sym at.live
 circuit-live rules closes (Some x) c p has_id e at = sym at.live
 
-pub filled-circuits : (start : Start) (s : State) (h : List Step) → Stands start s h → filled_slots s.circuits ≡ live_circuits start.rules h
+filled-circuits : (start : Start) (s : State) (h : List Step) → Stands start s h → filled_slots s.circuits ≡ live_circuits start.rules h
 filled-circuits start s h st =
     count_below-same (λ c. is_some (slot_at s.circuits c)) (is_live_circuit start.rules h)
     (λ c. circuit-live start.rules s.last_closes (slot_at s.circuits c) c (past start.rules h c) (λ k. holds_id h c k) (edge_past start.rules h c) (st.circuits.circuit c)) (length s.circuits)

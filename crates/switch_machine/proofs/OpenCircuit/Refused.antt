@@ -44,7 +44,7 @@ any-refusal : (test : Destroy → Bool) (id : ℕ) (reason : Option ℕ) (xs : L
 any-refusal test id None xs some = some
 any-refusal test id (Some r) xs some = any-if test (nat_le refusal_limit (count_by (λ d. d.refusal) xs)) xs _ some (any-more test xs _ some)
 
-pub used-more : (legs : Leg → Option LegState) (xs ys : List Destroy) (chan id : ℕ) (x : Option Leg) →
+used-more : (legs : Leg → Option LegState) (xs ys : List Destroy) (chan id : ℕ) (x : Option Leg) →
     (list_any (λ d. d.id == id) xs ≡ true → list_any (λ d. d.id == id) ys ≡ true) → IsUsed legs xs chan id x → IsUsed legs ys chan id x
 used-more legs xs ys chan id None more used = tt
 used-more legs xs ys chan id (Some leg) more (inl has) = inl has

@@ -123,7 +123,7 @@ legs-more legs l p has_id entry inside reply keys count born few own (suc k) =
     rw (eqb-suc-zero k, count) (hop-by legs (leg_count l) k (p.sent (suc k)) (sent_to_hop l (suc k)) (given_forth l entry) (p.port (suc k)) (has_id (suc k)) inside
     (rw (eqb-suc-zero k) at (own (suc k))))
 
-pub within-pushed : (bodies : List (List ℕ)) (more : Option (List ℕ)) (n : ℕ) → n ≤ length bodies → n ≤ length (pushed bodies more)
+within-pushed : (bodies : List (List ℕ)) (more : Option (List ℕ)) (n : ℕ) → n ≤ length bodies → n ≤ length (pushed bodies more)
 within-pushed bodies None n le = le
 within-pushed bodies (Some body) n le = omega (arith, length-append bodies (body ∷ []), le)
 

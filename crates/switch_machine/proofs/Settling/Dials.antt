@@ -40,7 +40,7 @@ dial-by m c None true hop handed dials dial never same = refl
 dial-by m c None false hop handed dials dial never same = same
 
 -- numbers of new dial orders
-pub from-numbered : (m c : ℕ) (l : List Address) → filter (is_from c) (numbered m c l) ≡ numbered m c l
+from-numbered : (m c : ℕ) (l : List Address) → filter (is_from c) (numbered m c l) ≡ numbered m c l
 from-numbered m c [] = refl
 from-numbered m c (to ∷ more) = rw (self_eq c, from-numbered (m + 1) c more) refl
 

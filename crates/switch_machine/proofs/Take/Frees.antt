@@ -92,7 +92,7 @@ holds-lost_by : (h : List Step) (chan : ℕ) (cell : Cell) (a : TakeAnswer) (d j
 holds-lost_by h chan cell a d j None none = refl
 holds-lost_by h chan cell a d j (Some place) none = leg-fewer d j (frees chan cell place.chan place.id) (at h place.chan place.id) none
 
-pub holds-lost : (h : List Step) (chan : ℕ) (cell : Cell) (a : TakeAnswer) (d j : ℕ) → holds_id h d j ≡ false → holds_id (Take (chan_no chan) cell a ∷ h) d j ≡ false
+holds-lost : (h : List Step) (chan : ℕ) (cell : Cell) (a : TakeAnswer) (d j : ℕ) → holds_id h d j ≡ false → holds_id (Take (chan_no chan) cell a ∷ h) d j ≡ false
 holds-lost h chan cell a d j none = holds-lost_by h chan cell a d j (port h d j) none
 
 pub holds-on : (h : List Step) (chan : ℕ) (cell : Cell) (a : TakeAnswer) (d j : ℕ) (place : Port) → port h d j ≡ Some place → frees chan cell place.chan place.id ≡ false →

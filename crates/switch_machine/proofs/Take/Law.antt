@@ -15,13 +15,10 @@ use Rattle.switch_model.specs.History.Taken.{is_hop}
 use Rattle.switch_model.specs.Names.{Leg, circuit_cell}
 use Rattle.switch_model.specs.Start.{Start}
 use Rattle.switch_machine.specs.Adds.{AddsTo}
-use Rattle.switch_machine.specs.Calls.Take.{circuit_state, found_leg, found_state, freed_lane, leg_state, lost_leg_state, queued_back_state, queued_forth_state, take_result, take_state}
+use Rattle.switch_machine.specs.Calls.Take.{circuit_state, found_leg, found_state, freed_lane, leg_state, queued_back_state, queued_forth_state, take_result, take_state}
 use Rattle.switch_machine.specs.Machine.{counted}
 use Rattle.switch_machine.specs.State.{ChannelState, CircuitState, State, slot_at}
 use Rattle.switch_machine.proofs.Take.Kept.{take_kept}
-
-lost-steps : (s : State) (c : ℕ) (x : CircuitState) → (lost_leg_state s c x).steps ≡ s.steps + 1
-lost-steps s c x = refl
 
 queued-steps : (rules : Rules) (ev : List Event) (s : State) (leg : Leg) (cell : CircuitCell) (x : CircuitState) (b : Bool) →
     (if b then queued_back_state rules ev s leg.circ cell x else queued_forth_state s leg.circ cell x).steps ≡ s.steps + 1

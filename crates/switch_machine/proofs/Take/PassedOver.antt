@@ -52,7 +52,7 @@ unfreed-by chan cell l true is none =
     let both : true ≡ false = sym has ∙ none it.by_destroy in absurd cc
 unfreed-by chan cell l false is none = refl
 
-pub unfreed : (s : State) (chan : ℕ) (cell : Cell) (leg : Leg) (l : LegState) → leg_in s leg ≡ Some l → FreesNoLeg s chan cell → frees chan cell l.chan l.id ≡ false
+unfreed : (s : State) (chan : ℕ) (cell : Cell) (leg : Leg) (l : LegState) → leg_in s leg ≡ Some l → FreesNoLeg s chan cell → frees chan cell l.chan l.id ≡ false
 unfreed s chan cell leg l found none =
     unfreed-by chan cell l (frees chan cell l.chan l.id) refl (λ is. subst (λ y. has_port chan cell.circ y ≡ false) found (none is leg))
 

@@ -65,7 +65,7 @@ destroys-said legs before after c chan current reason sent may_leave own (suc k)
 abbrev pub with_lane : ℕ → (ℕ → List Destroy) → ChannelState → ChannelState
 with_lane n put channel = record channel { lane = channel.lane ++ put n }
 
-pub slot_at-lanes : (put : ℕ → List Destroy) (n : ℕ) (channels : List (Option ChannelState)) (m : ℕ) → slot_at (with_lanes put n channels) m ≡ option_map (with_lane (n + m) put) (slot_at channels m)
+slot_at-lanes : (put : ℕ → List Destroy) (n : ℕ) (channels : List (Option ChannelState)) (m : ℕ) → slot_at (with_lanes put n channels) m ≡ option_map (with_lane (n + m) put) (slot_at channels m)
 unfolding slot_at
 slot_at-lanes put n [] m = refl
 slot_at-lanes put n (None ∷ channels) zero = refl
