@@ -15,7 +15,7 @@ pub record LegHas (leg : LegState) (sent may_leave : List CircuitCell) (lies : O
   pub cells : sent ++ leg.queue ≡ may_leave
 
 -- By what the state has of a leg: what was sent, what may leave, where the leg lies, and whether it has its
--- CircID. One that the state hasn't lost its own, or was never made.
+-- CircID. A leg that the state doesn't have lost its CircID, or was never made.
 abbrev pub LegBy : Option LegState → List CircuitCell → List CircuitCell → Option Port → Bool → Type 0
 LegBy None sent may_leave lies has_id = has_id ≡ false
 LegBy (Some leg) sent may_leave lies has_id = LegHas leg sent may_leave lies has_id
