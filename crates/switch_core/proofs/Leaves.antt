@@ -9,7 +9,8 @@ use Rattle.switch_machine.specs.Machine.{leg_at, leg_in}
 use Rattle.switch_machine.specs.Calls.NextCell.{ticked, first_cell, cell_of_leg, picked_leg, sent_first, circuit_sent, with_leg, sent_from, lane_of, next_cell_result, next_cell_state}
 use Rattle.switch_machine.proofs.PlainLists.{length-all_there, with_slot-all_there}
 use Rattle.switch_core.specs.Meaning.{state_of, circuit_of, FirstLeaves}
-use Rattle.switch_core.specs.Picking.{first_leg_of, FirstSent, DestroyLeaves}
+use Rattle.switch_core.specs.Picking.{first_leg_of, FirstSent, SlotSent, DestroyLeaves}
+use Rattle.switch_core.proofs.Gone.{slot-get, slot-set, with-same}
 use Rattle.switch_core.proofs.Plain.{there}
 
 -- a place of the lists
@@ -19,25 +20,27 @@ there_in xs slots n d is below =
     ap (λ l. slot_at l n) (sym is)
     ∙ there xs n d (subst (λ k. n < k) (ap length (sym is) ∙ length-all_there xs) below)
 
-pub channel_at : (steps tick : ℕ) (channels : List ChannelState) (circuits : List CircuitState) (s : State) (n : ℕ) (d : ChannelState) → state_of steps tick channels circuits ≡ s → n < length s.channels →
+pub channel_at : (steps tick : ℕ) (channels : List ChannelState) (circuits : List (Option CircuitState)) (s : State) (n : ℕ) (d : ChannelState) → state_of steps tick channels circuits ≡ s → n < length s.channels →
     slot_at s.channels n ≡ Some (get_or channels n d)
 channel_at steps tick channels circuits s n d is below = there_in channels s.channels n d (ap (λ x. x.channels) is) below
 
-pub circuit_at : (steps tick : ℕ) (channels : List ChannelState) (circuits : List CircuitState) (s : State) (n : ℕ) (d : CircuitState) → state_of steps tick channels circuits ≡ s → n < length s.circuits →
-    slot_at s.circuits n ≡ Some (get_or circuits n d)
-circuit_at steps tick channels circuits s n d is below = there_in circuits s.circuits n d (ap (λ x. x.circuits) is) below
+pub circuit_at : (steps tick : ℕ) (channels : List ChannelState) (circuits : List (Option CircuitState)) (s : State) (n : ℕ) (d : Option CircuitState) → state_of steps tick channels circuits ≡ s → n < length s.circuits →
+    slot_at s.circuits n ≡ get_or circuits n d
+circuit_at steps tick channels circuits s n d is below =
+    ap (λ (x : State). slot_at x.circuits n) (sym is)
+    ∙ slot-get circuits n d (subst (λ (x : State). n < length x.circuits) (sym is) below)
 
-pub channel_put : (steps tick : ℕ) (channels : List ChannelState) (circuits : List CircuitState) (s : State) (n : ℕ) (new : ChannelState) → state_of steps tick channels circuits ≡ s →
+pub channel_put : (steps tick : ℕ) (channels : List ChannelState) (circuits : List (Option CircuitState)) (s : State) (n : ℕ) (new : ChannelState) → state_of steps tick channels circuits ≡ s →
     state_of steps tick (slice_set channels n new) circuits ≡ record s { channels = with_slot s.channels n (Some new) }
 channel_put steps tick channels circuits s n new is =
     ap {A = List (Option ChannelState)} (λ l. record (state_of steps tick channels circuits) { channels = l }) (sym (with_slot-all_there channels n new))
     ∙ ap {A = State} (λ x. record x { channels = with_slot x.channels n (Some new) }) is
 
-pub circuit_put : (steps tick : ℕ) (channels : List ChannelState) (circuits : List CircuitState) (s : State) (n : ℕ) (new : CircuitState) → state_of steps tick channels circuits ≡ s →
-    state_of steps tick channels (slice_set circuits n new) ≡ record s { circuits = with_slot s.circuits n (Some new) }
+pub circuit_put : (steps tick : ℕ) (channels : List ChannelState) (circuits : List (Option CircuitState)) (s : State) (n : ℕ) (new : Option CircuitState) → state_of steps tick channels circuits ≡ s →
+    state_of steps tick channels (slice_set circuits n new) ≡ record s { circuits = with_slot s.circuits n new }
 circuit_put steps tick channels circuits s n new is =
-    ap {A = List (Option CircuitState)} (λ l. record (state_of steps tick channels circuits) { circuits = l }) (sym (with_slot-all_there circuits n new))
-    ∙ ap {A = State} (λ x. record x { circuits = with_slot x.circuits n (Some new) }) is
+    ap {A = List (Option CircuitState)} (λ l. record (state_of steps tick channels circuits) { circuits = l }) (sym (slot-set circuits n new))
+    ∙ ap {A = State} (λ x. record x { circuits = with_slot x.circuits n new }) is
 
 pub inside : {A : Type 0} (slots : List (Option A)) (n : ℕ) (x : A) → slot_at slots n ≡ Some x → n < length slots
 unfolding slot_at
@@ -72,12 +75,22 @@ pub first_sent : (old new : LegState) (now : ℕ) → length old.queue ≤ 1 →
 unfolding slot_at
 first_sent old new now single e = record { found = old; first = refl; sent = sent-by old new now old.queue single refl e }
 
-pub picked_sent : (s t : State) (now n : ℕ) (picked : Option Leg) (old new : CircuitState) → picked ≡ Some (first_leg_of n) → slot_at s.circuits n ≡ Some old → FirstSent now old new →
-    t ≡ record s { circuits = with_slot s.circuits n (Some new) } → t ≡ sent_from s now picked
-picked_sent s t now n picked old new is live sent put = put ∙ rw (is, live, sent.first, sent.sent) refl
+sent-slot : (s t : State) (now n : ℕ) (old new : Option CircuitState) → slot_at s.circuits n ≡ old → SlotSent now old new →
+    t ≡ record s { circuits = with_slot s.circuits n new } → t ≡ sent_from s now (Some (first_leg_of n))
+sent-slot s t now n None new live sent put =
+    put
+    ∙ ap (λ (x : Option CircuitState). record s { circuits = with_slot s.circuits n x }) (sent ∙ sym live)
+    ∙ ap (λ l. record s { circuits = l }) (with-same s.circuits n)
+    ∙ rw live refl
+sent-slot s t now n (Some old) None live sent put = absurd sent
+sent-slot s t now n (Some old) (Some new) live sent put = put ∙ rw (live, sent.first, sent.sent) refl
 
-pub picked_cell : (s : State) (n : ℕ) (picked : Option Leg) (old : CircuitState) → picked ≡ Some (first_leg_of n) → slot_at s.circuits n ≡ Some old →
-    first_cell (leg_at (Some old) 0) ≡ cell_of_leg s picked
+pub picked_sent : (s t : State) (now n : ℕ) (picked : Option Leg) (old new : Option CircuitState) → picked ≡ Some (first_leg_of n) → slot_at s.circuits n ≡ old → SlotSent now old new →
+    t ≡ record s { circuits = with_slot s.circuits n new } → t ≡ sent_from s now picked
+picked_sent s t now n picked old new is live sent put = rw is (sent-slot s t now n old new live sent put)
+
+pub picked_cell : (s : State) (n : ℕ) (picked : Option Leg) (old : Option CircuitState) → picked ≡ Some (first_leg_of n) → slot_at s.circuits n ≡ old →
+    first_cell (leg_at old 0) ≡ cell_of_leg s picked
 picked_cell s n picked old is live = rw (is, live) refl
 
 -- the oldest DESTROY

@@ -1,7 +1,10 @@
 pub mod FirstOut
 pub mod Plain
+pub mod Gone
 pub mod Picks
 pub mod Leaves
 pub mod History
 pub mod Relays
 pub mod Whole
+pub mod Lanes
+pub mod TearDown

@@ -2,11 +2,12 @@
 use Rattle.std.proofs.Common.{◌≡◌, ◌+◌, ◌++◌, ℕ, Bool, true, false, nat_lt, [], ◌∷◌, Option, Some, None, IfSome, if◌then◌else◌, refl, ap, ◌∙◌, append-nil, arith}
 use Rattle.switch_model.specs.Waiting.Counts.{least_of}
 use Rattle.switch_machine.specs.State.{State, slot_at}
-use Rattle.switch_machine.specs.Machine.{leg_at, legs_of}
+use Rattle.switch_machine.specs.Machine.{leg_at}
 use Rattle.switch_machine.specs.Calls.NextCell.{waits_on, cell_count_in, waiting_before}
-use Rattle.switch_machine.proofs.PlainLists.{better, least_of-last, waiting_before-more}
+use Rattle.switch_machine.proofs.PlainLists.{better, least_of-last}
+use Rattle.switch_core.proofs.Gone.{waiting-by}
 use Rattle.switch_core.specs.declared.pick.Waiting.{Waiting}
-use Rattle.switch_core.specs.Picking.{better_of, first_leg_of, leg_of, IsWaiting, Picks}
+use Rattle.switch_core.specs.Picking.{better_of, first_leg_of, leg_of, HasOneLeg, IsWaiting, Picks}
 
 further : (s : State) (given n : ℕ) (least : Option Waiting) → IfSome least (IsWaiting s given n) → IfSome least (IsWaiting s given (n + 1))
 further s given n None waits = tt
@@ -37,12 +38,12 @@ pub none_yet : (s : State) (chan given : ℕ) → Picks s given 0 None (least_of
 none_yet s chan given = record { same = refl; waits = tt }
 
 -- a circuit that doesn't wait
-pub one_quiet : (s : State) (chan given n : ℕ) (least : Option Waiting) → legs_of (slot_at s.circuits n) ≡ 1 → waits_on chan (leg_at (slot_at s.circuits n) 0) ≡ false →
+pub one_quiet : (s : State) (chan given n : ℕ) (least : Option Waiting) → HasOneLeg (slot_at s.circuits n) → waits_on chan (leg_at (slot_at s.circuits n) 0) ≡ false →
     Picks s given n least (least_of (cell_count_in s given) (waiting_before s chan n)) → Picks s given (n + 1) least (least_of (cell_count_in s given) (waiting_before s chan (n + 1)))
 one_quiet s chan given n least one quiet picks = record {
   same =
       ap (least_of (cell_count_in s given))
-      (waiting_before-more s chan n one
+      (waiting-by s chan n (slot_at s.circuits n) refl one
       ∙ ap (λ b. waiting_before s chan n ++ (if b then first_leg_of n ∷ [] else [])) quiet
       ∙ append-nil (waiting_before s chan n))
       ∙ picks.same;
@@ -50,13 +51,13 @@ one_quiet s chan given n least one quiet picks = record {
 }
 
 -- a circuit that waits
-pub one_waits : (s : State) (chan given n count : ℕ) (least : Option Waiting) → legs_of (slot_at s.circuits n) ≡ 1 → waits_on chan (leg_at (slot_at s.circuits n) 0) ≡ true →
+pub one_waits : (s : State) (chan given n count : ℕ) (least : Option Waiting) → HasOneLeg (slot_at s.circuits n) → waits_on chan (leg_at (slot_at s.circuits n) 0) ≡ true →
     count ≡ cell_count_in s given (first_leg_of n) → Picks s given n least (least_of (cell_count_in s given) (waiting_before s chan n)) →
     Picks s given (n + 1) (Some (better_of least (record { number = n; count = count }))) (least_of (cell_count_in s given) (waiting_before s chan (n + 1)))
 one_waits s chan given n count least one waits counted picks = record {
   same =
       ap (least_of (cell_count_in s given))
-      (waiting_before-more s chan n one
+      (waiting-by s chan n (slot_at s.circuits n) refl one
       ∙ ap (λ b. waiting_before s chan n ++ (if b then first_leg_of n ∷ [] else [])) waits)
       ∙ least_of-last (cell_count_in s given) (waiting_before s chan n) (first_leg_of n)
       ∙ ap (λ o. Some (better (cell_count_in s given) o (first_leg_of n))) picks.same

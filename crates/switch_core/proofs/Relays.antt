@@ -1,14 +1,16 @@
 -- The relays of a switch's circuits.
-use Rattle.std.proofs.Common.{◌≡◌, ℕ, ◌+◌, ◌==◌, ◌++◌, Bool, true, false, if◌then◌else◌, List, [], ◌∷◌, length, Option, Some, refl, sym, ◌∙◌, ap, subst, arith, length-append}
+use Rattle.std.proofs.Common.{◌≡◌, ℕ, ◌+◌, ◌==◌, ◌++◌, Bool, true, false, if◌then◌else◌, List, [], ◌∷◌, length, Option, Some, None, refl, sym, ◌∙◌, ap, subst, arith, length-append}
 use Rattle.std.proofs.lemmas.Bool.Decides.{nat_tests}
 use Rattle.cell_codec.specs.declared.cell.Cell.{Cell}
 use Rattle.circ_relay.specs.CircuitOfLog.{IsCircuit}
+use Rattle.circ_relay.specs.declared.circuit.Circuit.{Circuit}
 use Rattle.circuit_model.specs.Effects.{open_effects}
 use Rattle.circuit_model.specs.Events.{Event, CircuitCell}
 use Rattle.circuit_model.specs.declared.event.Event.TheVariants.{Born}
 use Rattle.circuit_model.specs.Rules.{Rules}
 use Rattle.crypto_spec.specs.HopLayer.{fresh_opening}
 use Rattle.hop_crypto.specs.OpenerState.{opener_of}
+use Rattle.hop_crypto.specs.declared.cipher.Cipher.{Cipher}
 use Rattle.hop_crypto.specs.declared.cipher.Cipher.TheVariants.{Forth, Back}
 use Rattle.kdf_tor.specs.declared.LayerKeys.{LayerKeys}
 use Rattle.tr_io.specs.declared.step.Step.{Step}
@@ -16,11 +18,13 @@ use Rattle.switch_model.specs.Names.{circuit_cell}
 use Rattle.switch_model.specs.History.Circuit.{is_live_circuit, events}
 use Rattle.switch_model.specs.History.Legs.{circuits}
 use Rattle.switch_model.specs.History.Past.{Past, past}
+use Rattle.switch_model.specs.Waiting.Queues.{sealed_count}
 use Rattle.switch_model.proofs.Common.{self_eq, same-number}
 use Rattle.switch_machine.specs.State.{slot_at}
 use Rattle.switch_machine.specs.Stands.OneCircuit.{no_past}
 use Rattle.switch_machine.proofs.OpenCircuit.Past.{opening, past-other}
 use Rattle.switch_machine.proofs.Slots.{slot_at-push}
+use Rattle.switch_core.specs.Opened.{Forgets}
 use Rattle.switch_core.specs.Relays.{RelayStands, RelayAt, RelayOfPast, RelaysStand}
 use Rattle.switch_core.specs.declared.relay.Relay.{Relay}
 
@@ -73,4 +77,27 @@ opened_relays rules h chan id reply keys pad n relay relays is fresh stands old 
       subst (λ x. RelayOfPast x rules (past rules (opening chan id reply keys pad n ∷ h) c))
       (sym (slot_at-push relays (Some relay) c ∙ ap (λ m. if c == m then Some relay else slot_at relays c) (sym is)))
       (pushed-by rules h chan id reply keys pad n relay (slot_at relays c) c (c == n) refl fresh stands (old.relay c));
+}
+
+-- a relay that was forgotten
+
+gone-at : (live : Bool) (kept : Option Relay) (rules : Rules) (ev : List Event) (sealed : ℕ) → live ≡ false → kept ≡ None → RelayAt live kept rules ev sealed
+gone-at live kept rules ev sealed gone none = rw gone none
+
+torn-by : (rules : Rules) (h : List Step) (step : Step) (c d : ℕ) (relays after : List (Option Relay)) (b : Bool) → (d == c) ≡ b → is_live_circuit rules (step ∷ h) c ≡ false →
+    ((e : ℕ) → (e == c) ≡ false → past rules (step ∷ h) e ≡ past rules h e) → Forgets relays after c → RelayOfPast (slot_at relays d) rules (past rules h d) →
+    RelayOfPast (slot_at after d) rules (past rules (step ∷ h) d)
+torn-by rules h step c d relays after true same gone others forgets old =
+    let is : d ≡ c = same-number d c same in
+    gone-at _ (slot_at after d) rules _ _ (ap (λ m. is_live_circuit rules (step ∷ h) m) is ∙ gone) (ap (λ m. slot_at after m) is ∙ forgets.gone)
+torn-by rules h step c d relays after false other gone others forgets old =
+    subst (λ x. RelayOfPast x rules (past rules (step ∷ h) d)) (sym (forgets.others d other))
+    (subst (λ p. RelayOfPast (slot_at relays d) rules p) (sym (others d other)) old)
+
+pub relays_torn : (rules : Rules) (h : List Step) (step : Step) (c : ℕ) (relays after : List (Option Relay)) → circuits (step ∷ h) ≡ circuits h → is_live_circuit rules (step ∷ h) c ≡ false →
+    ((e : ℕ) → (e == c) ≡ false → past rules (step ∷ h) e ≡ past rules h e) → Forgets relays after c →
+    RelaysStand rules relays (circuits h) (λ e. past rules h e) → RelaysStand rules after (circuits (step ∷ h)) (λ e. past rules (step ∷ h) e)
+relays_torn rules h step c relays after count gone others forgets old = record {
+  count_is = forgets.count ∙ old.count_is ∙ sym count;
+  relay = λ d. torn-by rules h step c d relays after (d == c) refl gone others forgets (old.relay d);
 }

@@ -1,12 +1,12 @@
 -- What the switch's plain lists mean as the state of the machine.
-use Rattle.std.specs.Prelude.{ℕ, ◌≡◌, ◌-◌, [], ◌∷◌, List, length, Option, Some, None}
+use Rattle.std.specs.Prelude.{ℕ, ◌≡◌, ◌-◌, ◌≤◌, [], ◌∷◌, List, length, slice_get, Option, Some, None}
 use Rattle.cell_codec.specs.declared.cell.Cell.{Cell}
 use Rattle.tr_io.specs.declared.names.Side.{Side}
 use Rattle.circuit_model.specs.Sent.{destroy}
 use Rattle.switch_model.specs.Answers.NextCell.{cell_at}
 use Rattle.switch_model.specs.Waiting.Lanes.{Destroy}
 use Rattle.switch_model.specs.Start.{Start}
-use Rattle.switch_machine.specs.State.{ChannelState, LegState, CircuitState, State, with_slot, all_there}
+use Rattle.switch_machine.specs.State.{ChannelState, LegState, CircuitState, State, slot_at, with_slot, all_there}
 use Rattle.switch_machine.specs.Machine.{new_state}
 use Rattle.switch_machine.specs.Calls.OpenCircuit.{no_bodies, refusing}
 use Rattle.tr_io.specs.declared.answers.OpenRefusal.{OpenRefusal}
@@ -36,13 +36,23 @@ circuit_of leg = record {
   dial = None;
 }
 
-abbrev pub state_of : ℕ → ℕ → List ChannelState → List CircuitState → State
+abbrev pub state_of : ℕ → ℕ → List ChannelState → List (Option CircuitState) → State
 state_of steps tick channels circuits = record new_state {
   steps = steps;
   tick = tick;
   channels = all_there channels;
-  circuits = all_there circuits;
+  circuits = circuits;
 }
+
+-- At most so many DESTROYs wait on each channel.
+pub record LanesFit (most : ℕ) (channels : List ChannelState) : Type 0 where
+  pub fits : (n : ℕ) (channel : ChannelState) → slice_get channels n ≡ Some channel → length channel.lane ≤ most
+
+-- A circuit was taken out of the machine's list.
+pub record TakenOut (old new : State) (c : ℕ) (circuit : CircuitState) : Type 0 where
+  pub live : slot_at old.circuits c ≡ Some circuit
+  pub left : new ≡ record old { circuits = with_slot old.circuits c None }
+  pub again : old.again ≡ []
 
 -- The oldest DESTROY of a channel left, as this cell.
 pub record FirstLeaves (old new : ChannelState) (cell : Cell) : Type 0 where

@@ -1,10 +1,11 @@
--- What an opening keeps for the one-thread relay.
-use Rattle.std.specs.Prelude.{ℕ, ◌≡◌, List, [], ◌∷◌, ◌++◌, Option, Some, None}
+-- What an opening keeps for the one-thread relay, and a teardown forgets.
+use Rattle.std.specs.Prelude.{ℕ, ◌≡◌, ◌==◌, false, length, List, [], ◌∷◌, ◌++◌, Option, Some, None}
 use Rattle.circuit_model.specs.Events.{CircuitCell}
 use Rattle.circuit_model.specs.declared.event.Event.TheVariants.{Born}
 use Rattle.circuit_model.specs.Rules.{Rules}
 use Rattle.kdf_tor.specs.declared.LayerKeys.{LayerKeys}
 use Rattle.tr_io.specs.declared.answers.OpenAnswer.{OpenAnswer}
+use Rattle.switch_machine.specs.State.{slot_at}
 use Rattle.switch_core.specs.Relays.{RelayStands}
 use Rattle.switch_core.specs.declared.relay.Relay.{Relay}
 
@@ -23,3 +24,9 @@ abbrev pub KeepsBy : OpenAnswer → Option LayerKeys → Option (List ℕ) → R
 KeepsBy (OpenAnswer.Opened n) keys pad rules old new = KeepsRelay keys pad rules old new
 KeepsBy (OpenAnswer.Refused why) keys pad rules old new = new ≡ old
 KeepsBy OpenAnswer.Memory keys pad rules old new = new ≡ old
+
+-- The relay of this circuit is gone, and all others are there.
+pub record Forgets (old new : List (Option Relay)) (c : ℕ) : Type 0 where
+  pub count : length new ≡ length old
+  pub gone : slot_at new c ≡ None
+  pub others : (d : ℕ) → (d == c) ≡ false → slot_at new d ≡ slot_at old d

@@ -1,5 +1,5 @@
 -- What leaves on a channel, over plain lists.
-use Rattle.std.specs.Prelude.{ℕ, nat_lt, ◌≡◌, ◌<◌, ◌∷◌, List, Option, Some, None, IfSome, if◌then◌else◌}
+use Rattle.std.specs.Prelude.{ℕ, nat_lt, ◌≡◌, ⊤, ◌<◌, ◌∷◌, List, length, Option, Some, None, IfSome, if◌then◌else◌}
 use Rattle.cell_codec.specs.declared.cell.Cell.{Cell}
 use Rattle.circuit_model.specs.Sent.{destroy}
 use Rattle.switch_model.specs.Answers.NextCell.{cell_at}
@@ -38,6 +38,17 @@ pub record FirstSent (now : ℕ) (old new : CircuitState) : Type 0 where
   pub found : LegState
   pub first : leg_at (Some old) 0 ≡ Some found
   pub sent : new ≡ circuit_sent now 0 old found found.queue
+
+-- The same of a circuit that may be gone.
+abbrev pub SlotSent : ℕ → Option CircuitState → Option CircuitState → Type 0
+SlotSent now None new = new ≡ None
+SlotSent now (Some old) None = ⊥
+SlotSent now (Some old) (Some new) = FirstSent now old new
+
+-- A circuit that isn't gone has one leg.
+abbrev pub HasOneLeg : Option CircuitState → Type 0
+HasOneLeg None = ⊤
+HasOneLeg (Some circuit) = length circuit.legs ≡ 1
 
 -- The oldest DESTROY of a channel left, as this cell.
 pub record DestroyLeaves (old new : State) (chan : ℕ) (cell : Cell) : Type 0 where

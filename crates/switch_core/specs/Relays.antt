@@ -20,9 +20,9 @@ pub record RelayStands (relay : Relay) (rules : Rules) (events : List Event) (se
   pub forth : relay.forth ≡ Forth (opener_of (next_layer (log rules events)))
   pub back : relay.back ≡ Back (sealer_of (record { key = (born_keys (log rules events)).kb; sealed = sealed }))
 
--- A live circuit has its relay.
+-- A live circuit has its relay, and nothing is kept of another.
 abbrev pub RelayAt : Bool → Option Relay → Rules → List Event → ℕ → Type 0
-RelayAt false kept rules events sealed = ⊤
+RelayAt false kept rules events sealed = kept ≡ None
 RelayAt true None rules events sealed = ⊥
 RelayAt true (Some relay) rules events sealed = RelayStands relay rules events sealed
 

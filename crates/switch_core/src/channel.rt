@@ -1,5 +1,5 @@
 //! One channel: who opened it, and the DESTROY cells that wait to leave on it.
-ghost use Rattle.std.specs.Prelude.{◌≡◌, ◌==◌, [], IfSome, IfNone, OnErr, OnOk, Some, IsTrue, ◌↔◌, count_by};
+ghost use Rattle.std.specs.Prelude.{◌≡◌, ◌==◌, ◌+◌, ◌++◌, ◌≤◌, ◌<◌, ◌^◌, [], IfSome, IfNone, OnErr, OnOk, Some, IsTrue, ◌↔◌, count_by, length};
 ghost use Rattle.std.specs.List.{list_any};
 ghost use Rattle.cell_codec.specs.Cells.{IsWellFormed};
 ghost use Rattle.switch_model.specs.History.Channels.{is_ours};
@@ -8,8 +8,10 @@ ghost use Rattle.switch_model.specs.Waiting.Lanes.{refusal_reason, with_refusal}
 ghost use Rattle.switch_core.specs.Meaning.{channel_of, FirstLeaves};
 
 use crate::cells::destroy_cell;
+use crate::destroy::Destroy;
 use cell_codec::{Cell, destroy_reason};
 use std::alloc::{AllocError, Global};
+use std::collections::LinkedList;
 use std::marker::Model;
 use tr_io::answers::OpenRefusal;
 use tr_io::names::Side;
@@ -20,29 +22,13 @@ const MOST_REFUSALS: usize = 512;
 /// The highest bit of a CircID, which the side that opened the connection sets.
 const HIGHEST_BIT: u32 = 0x8000_0000;
 
-/// A DESTROY that waits to leave. Until it has left, its CircID is in use.
-#[derive(Drop)]
-struct Destroy {
-    id: u32,
-    reason: u8,
-    is_refusal: bool,
-}
-
-impl Model for Destroy {
-    ghost use Rattle.switch_model.specs.Waiting.Lanes.{Destroy as WaitingDestroy};
-
-    ghost Value = { WaitingDestroy };
-
-    ghost view = { λ d. record { id = d.id; reason = d.reason; refusal = d.is_refusal } };
-}
-
 /// A live channel.
 ///
 /// Contracts see it as the machine's.
 #[derive(Drop)]
 pub struct Channel {
     side: Side,
-    destroys: Vec<Destroy>,
+    destroys: LinkedList<Destroy>,
 }
 
 impl Model for Channel {
@@ -51,7 +37,7 @@ impl Model for Channel {
 
     ghost Value = { ChannelState };
 
-    ghost view = { λ c. channel_of c.side c.destroys.items };
+    ghost view = { λ c. channel_of c.side c.destroys };
 }
 
 impl Channel {
@@ -61,7 +47,7 @@ impl Channel {
     {
         Channel {
             side,
-            destroys: Vec::new(alloc),
+            destroys: LinkedList::new(alloc),
         }
     }
 
@@ -98,6 +84,7 @@ impl Channel {
     pub fn refuse(&mut self, id: u32, why: OpenRefusal) -> Result<(), AllocError>
         ensures ok { OnOk result (self.new ≡ refusing id why self.old) }
         ensures err { OnErr result (self.new ≡ self.old) }
+        ensures longer { length self.new.lane ≤ length self.old.lane + 1 }
     {
         match self.refusal_reason(id, why) {
             Some(reason) => self.push_refusal(id, reason),
@@ -121,15 +108,19 @@ impl Channel {
     fn push_refusal(&mut self, id: u32, reason: u8) -> Result<(), AllocError>
         ensures ok { OnOk result (self.new ≡ record self.old { lane = with_refusal id (Some reason) self.old.lane }) }
         ensures err { OnErr result (self.new ≡ self.old) }
+        ensures longer { length self.new.lane ≤ length self.old.lane + 1 }
     {
         if self.refusals() >= MOST_REFUSALS {
             return Ok(());
         }
-        self.destroys.push(Destroy {
+        let refusal = Destroy {
             id,
             reason,
             is_refusal: true,
-        })?;
+        };
+        if self.destroys.push_back(refusal).is_err() {
+            return Err(AllocError);
+        }
         Ok(())
     }
 
@@ -154,12 +145,20 @@ impl Channel {
     pub fn next_destroy(&mut self) -> Option<Cell>
         ensures some { IfSome result (λ cell. FirstLeaves self.old self.new cell) }
         ensures none { IfNone result ((self.old.lane ≡ []) × (self.new ≡ self.old)) }
+        ensures shorter { length self.new.lane ≤ length self.old.lane }
         ensures well_formed { IfSome result IsWellFormed }
     {
-        if self.destroys.is_empty() {
-            return None;
-        }
-        let destroy = self.destroys.remove(0);
+        let destroy = self.destroys.pop_front()?;
         Some(destroy_cell(destroy.id, destroy.reason))
+    }
+
+    /// Puts more DESTROYs into the lane, in the memory that they have.
+    pub fn append(&mut self, destroys: LinkedList<Destroy>)
+        requires lane { length self.old.lane < 2 ^ 62 }
+        requires more { length destroys < 2 ^ 62 }
+        ensures { self.new ≡ record self.old { lane = self.old.lane ++ destroys } }
+    {
+        let mut destroys = destroys;
+        let _ = self.destroys.append(&mut destroys);
     }
 }

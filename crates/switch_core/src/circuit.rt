@@ -4,6 +4,7 @@ ghost use Rattle.cell_codec.specs.Cells.{IsWellFormed};
 ghost use Rattle.switch_machine.specs.Machine.{leg_at};
 ghost use Rattle.switch_machine.specs.Calls.NextCell.{waits_on, count_of_found, first_cell};
 ghost use Rattle.switch_machine.specs.Calls.OpenCircuit.{circuit_has_id};
+ghost use Rattle.switch_core.specs.Meaning.{circuit_of};
 ghost use Rattle.switch_core.specs.Picking.{FirstSent};
 
 use crate::leg::Leg;
@@ -60,5 +61,13 @@ impl Circuit {
         ensures well_formed { IfSome result IsWellFormed }
     {
         self.leg.send_first(now)
+    }
+
+    /// The leg towards the previous hop, without the circuit.
+    pub fn into_leg(self) -> Leg
+        ensures { self ≡ circuit_of result }
+    {
+        let Circuit { leg } = self;
+        leg
     }
 }

@@ -1,6 +1,6 @@
 //! The leg of a circuit towards the previous hop: its CircID on a channel, the reply that waits on
 //! it, and its decaying count of cells.
-ghost use Rattle.std.specs.Prelude.{◌≡◌, ◌≤◌, IfSome, Some, IsTrue, false, length};
+ghost use Rattle.std.specs.Prelude.{◌≡◌, ◌≤◌, ◌∷◌, [], IfOk, IfSome, Some, IsTrue, false, length};
 ghost use Rattle.cell_codec.specs.Cells.{is_var, IsWellFormed};
 ghost use Rattle.switch_machine.specs.Machine.{has_port};
 ghost use Rattle.switch_machine.specs.Calls.NextCell.{waits_on, count_of, first_cell, sent_first};
@@ -8,7 +8,10 @@ ghost use Rattle.switch_machine.specs.Calls.OpenCircuit.{first_leg};
 ghost use Rattle.switch_model.specs.Waiting.Counts.{halved};
 ghost use Rattle.tor_spec.specs.CellCommands.{opens_circuit};
 
+use crate::destroy::Destroy;
 use cell_codec::{Body, Cell};
+use std::alloc::{AllocError, Global};
+use std::collections::LinkedList;
 use std::marker::Model;
 use tr_io::names::ChanNo;
 
@@ -45,28 +48,41 @@ pub struct Leg {
     reply: Option<Reply>,
     count: u64,
     counted_at: u64,
+    /// The DESTROY of the leg's teardown, so that this takes no memory.
+    destroy: LinkedList<Destroy>,
 }
 
 impl Model for Leg {
-    ghost use Rattle.std.specs.Prelude.{option_to_list};
+    ghost use Rattle.std.specs.Prelude.{◌≡◌, ◌∷◌, [], false, option_to_list};
     ghost use Rattle.switch_machine.specs.State.{LegState};
 
     ghost Value = { LegState };
 
     ghost view = { λ l. record { chan = l.chan.0; id = l.id; queue = option_to_list l.reply; count = l.count; counted_at = l.counted_at } };
+
+    ghost invariant = { λ l. l.destroy ≡ record { id = l.id; reason = 0; refusal = false } ∷ [] };
 }
 
 impl Leg {
     /// A leg on which the reply to an opening waits.
-    pub fn new(chan: ChanNo, id: u32, reply: &Cell) -> Leg
+    pub fn new(alloc: Global, chan: ChanNo, id: u32, reply: &Cell) -> Result<Leg, AllocError>
         requires fixed { is_var reply.now.body ≡ false }
         requires command { IsTrue (opens_circuit reply.now.command) }
-        ensures { result ≡ first_leg chan.0 id reply.now }
+        ensures { IfOk result (λ leg. leg ≡ first_leg chan.0 id reply.now) }
     {
         let Body::Fixed(payload) = &reply.body else {
             unreachable!()
         };
-        Leg {
+        let mut destroy = LinkedList::new(alloc);
+        let blank = Destroy {
+            id,
+            reason: 0,
+            is_refusal: false,
+        };
+        if destroy.push_back(blank).is_err() {
+            return Err(AllocError);
+        }
+        Ok(Leg {
             chan,
             id,
             reply: Some(Reply {
@@ -75,7 +91,33 @@ impl Leg {
             }),
             count: 0,
             counted_at: 0,
+            destroy,
+        })
+    }
+
+    /// The channel on which the leg lies.
+    pub fn chan(&self) -> ChanNo
+        ensures { result.0 ≡ self.now.chan }
+    {
+        self.chan
+    }
+
+    /// The leg ends: the DESTROY with this reason, in memory that the leg had.
+    pub fn into_destroy(self, reason: u8) -> LinkedList<Destroy>
+        ensures { result ≡ record { id = self.id; reason = reason; refusal = false } ∷ [] }
+    {
+        let Leg {
+            chan: _,
+            id: _,
+            reply: _,
+            count: _,
+            counted_at: _,
+            mut destroy,
+        } = self;
+        if let Some(only) = destroy.front_mut() {
+            only.reason = reason;
         }
+        destroy
     }
 
     /// Whether this CircID of this channel is the leg's.

@@ -7,11 +7,13 @@
 mod cells;
 mod channel;
 mod circuit;
+mod destroy;
 mod leg;
 mod opening;
 mod parts;
 mod pick;
 mod relay;
+mod slot;
 mod switch;
 #[cfg(test)]
 mod tests;

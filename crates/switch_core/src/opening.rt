@@ -1,15 +1,14 @@
-//! Opens a circuit in the switch's lists, and keeps its relay.
-ghost use Rattle.std.specs.Prelude.{◌≡◌, ◌<◌, ◌^◌, ⊤, IfSome, IsTrue, false};
+//! The relays of circuits that are opened, and of those that are gone.
+ghost use Rattle.std.specs.Prelude.{vec_len, vec_capacity, ◌≡◌, ◌<◌, ◌^◌, ⊤, IfSome, IsTrue, false};
 ghost use Rattle.cell_codec.specs.Cells.{is_var};
 ghost use Rattle.circ_relay.specs.Values.{rules_of};
 ghost use Rattle.tor_spec.specs.CellCommands.{opens_circuit};
 ghost use Rattle.switch_machine.specs.Adds.{OpenCase};
 ghost use Rattle.switch_machine.specs.Calls.OpenCircuit.{open_result, open_state};
-ghost use Rattle.switch_core.specs.Opened.{KeepsRelay, KeepsBy};
+ghost use Rattle.switch_core.specs.Opened.{Forgets, KeepsRelay, KeepsBy};
 
 use crate::parts::Parts;
 use crate::relay::Relay;
-use cell_codec::List;
 use circ_relay::Rules;
 use hop_handshake::Opening;
 use tr_io::answers::OpenAnswer;
@@ -18,7 +17,7 @@ use tr_io::names::{ChanNo, CircNo};
 /// Opens a circuit, or refuses to; an opened circuit's relay is kept under its number.
 pub fn open_with_relay(
     parts: &mut Parts,
-    relays: &mut List<Option<Relay>>,
+    relays: &mut Vec<Option<Relay>>,
     rules: &Rules,
     chan: ChanNo,
     id: u32,
@@ -43,12 +42,22 @@ pub fn open_with_relay(
 }
 
 /// Keeps the relay of the circuit of an opening, if its handshake was good.
-fn keep_relay(relays: &mut List<Option<Relay>>, rules: &Rules, number: CircNo, opening: &Opening)
-    requires { 0 < relays.old.spare }
+fn keep_relay(relays: &mut Vec<Option<Relay>>, rules: &Rules, number: CircNo, opening: &Opening)
+    requires { vec_len relays.old < vec_capacity relays.old }
     ensures { KeepsRelay opening.now.keys opening.now.pad (rules_of rules.now) relays.old.items relays.new.items }
 {
     let Some(keys) = &opening.keys else {
         return;
     };
     relays.push_reserved(Some(Relay::new(number, keys, opening.pad, rules)));
+}
+
+/// Forgets the relay of a circuit that is gone.
+pub fn forget_relay(relays: &mut Vec<Option<Relay>>, circ: CircNo)
+    ensures { Forgets relays.old.items relays.new.items circ.0 }
+{
+    if circ.0 >= relays.len() as u64 {
+        return;
+    }
+    relays[circ.0 as usize] = None;
 }

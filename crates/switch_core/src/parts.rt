@@ -5,6 +5,7 @@ ghost use Rattle.switch_machine.specs.Machine.{new_state};
 mod channels;
 mod circuits;
 mod sending;
+mod teardown;
 
 use crate::channel::Channel;
 use crate::circuit::Circuit;
@@ -17,23 +18,25 @@ const MOST_CHANNELS: u32 = 64;
 /// How many circuits may be live.
 const MOST_CIRCUITS: u32 = 512;
 
-/// The channels and circuits of a switch, each list by number. None of them is gone yet.
+/// The channels and circuits of a switch, each list by number. No channel is gone yet.
 #[derive(Drop)]
 pub struct Parts {
     alloc: Global,
     steps: u64,
     tick: u64,
     channels: Vec<Channel>,
-    circuits: Vec<Circuit>,
+    circuits: Vec<Option<Circuit>>,
 }
 
 impl Model for Parts {
     ghost use Rattle.switch_machine.specs.State.{State};
-    ghost use Rattle.switch_core.specs.Meaning.{state_of};
+    ghost use Rattle.switch_core.specs.Meaning.{LanesFit, state_of};
 
     ghost Value = { State };
 
     ghost view = { λ p. state_of p.steps p.tick p.channels.items p.circuits.items };
+
+    ghost invariant = { λ p. LanesFit p.steps p.channels.items };
 }
 
 #[tactic(auto, using(crate::proofs::Plain::plain_lists))]

@@ -2,25 +2,26 @@
 ghost use Rattle.std.specs.Prelude.{◌≡◌, ◌+◌, ◌<◌, ◌≤◌, ◌^◌, ⊤, [], IfOk, IfSome, IsTrue, false};
 ghost use Rattle.cell_codec.specs.Cells.{is_var, IsWellFormed};
 ghost use Rattle.tor_spec.specs.CellCommands.{opens_circuit};
-ghost use Rattle.tr_io.specs.declared.step.Step.TheVariants.{ChannelUp, OpenCircuit, NextCell};
+ghost use Rattle.tr_io.specs.declared.step.Step.TheVariants.{ChannelUp, OpenCircuit, NextCell, TearDown};
 ghost use Rattle.switch_machine.specs.Adds.{Adds, UpCase, OpenCase};
 ghost use Rattle.switch_machine.specs.Machine.{new_state};
 ghost use Rattle.switch_machine.specs.Calls.ChannelUp.{channel_up_result};
 ghost use Rattle.switch_machine.specs.Calls.OpenCircuit.{open_result};
 ghost use Rattle.switch_machine.specs.Calls.NextCell.{next_cell_result};
+ghost use Rattle.switch_machine.specs.Calls.TearDown.{tear_down_result};
 ghost use Rattle.switch_core.specs.Meaning.{start_of};
 ghost use Rattle.switch_core.specs.Started.{SwitchAdds};
 
-use crate::opening::open_with_relay;
+use crate::opening::{forget_relay, open_with_relay};
 use crate::parts::Parts;
 use crate::relay::Relay;
-use cell_codec::{Cell, List};
+use cell_codec::Cell;
 use circ_relay::Rules;
 use hop_handshake::Opening;
 use std::alloc::{AllocError, Global};
 use std::marker::Model;
-use tr_io::answers::{OpenAnswer, UpAnswer};
-use tr_io::names::{ChanNo, Side};
+use tr_io::answers::{BackAnswer, OpenAnswer, UpAnswer};
+use tr_io::names::{ChanNo, CircNo, Side};
 
 /// The switch of a relay.
 ///
@@ -34,7 +35,7 @@ pub struct Switch {
     rules: Rules,
     parts: Parts,
     /// By circuit number.
-    relays: List<Option<Relay>>,
+    relays: Vec<Option<Relay>>,
 }
 
 impl Model for Switch {
@@ -64,7 +65,7 @@ impl Switch {
             name,
             rules,
             parts: Parts::new(alloc)?,
-            relays: List::new(alloc),
+            relays: Vec::new(alloc),
         })
     }
 
@@ -123,5 +124,19 @@ impl Switch {
         ensures well_formed { IfSome result IsWellFormed }
     {
         self.parts.next_cell(chan, tick)
+    }
+
+    /// Tears a circuit down for a reason: its cells go, and DESTROY with the reason waits for the previous hop.
+    /// `Gone` where it isn't live. It takes no memory.
+    pub fn tear_down(&mut self, circ: CircNo, reason: u8) -> BackAnswer
+        requires { self.old.state.steps < 2 ^ 62 }
+        ensures start { self.new.start ≡ self.old.start }
+        ensures steps { self.new.state.steps ≡ self.old.state.steps + 1 }
+        ensures whole { SwitchAdds self.old self.new (TearDown circ reason result) }
+        ensures answer { result ≡ tear_down_result self.old.state circ.0 reason }
+    {
+        let answer = self.parts.tear_down(circ, reason);
+        forget_relay(&mut self.relays, circ);
+        answer
     }
 }

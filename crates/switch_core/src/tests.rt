@@ -9,7 +9,7 @@ use circ_relay::Rules;
 use hop_handshake::{FastHandshake, Opening, opening_of};
 use std::alloc::{AllocError, Global};
 use std::test::Fail;
-use tr_io::answers::{OpenAnswer, OpenRefusal, UpAnswer};
+use tr_io::answers::{BackAnswer, OpenAnswer, OpenRefusal, UpAnswer};
 use tr_io::names::{ChanNo, CircNo, Side};
 
 fn new_switch(alloc: Global) -> Result<Switch, AllocError>
@@ -91,6 +91,32 @@ fn a_bad_handshake_is_destroyed(rt: HostRuntime) -> Result<(), Fail> {
     assert_eq!(rt; cell.circ, 0x8000_0001);
     assert_eq!(rt; cell.command, 4);
     assert!(rt; switch.next_cell(ChanNo(0), 0).is_none());
+    Ok(())
+}
+
+#[test]
+fn a_torn_circuit_sends_its_destroy_alone(rt: HostRuntime) -> Result<(), Fail> {
+    let mut switch = new_switch(rt.alloc())?;
+    let opening = opening(rt.alloc(), 0x8000_0001, 5)?;
+    assert_eq!(rt;
+        switch.channel_up(0, Side::PeerOpened),
+        UpAnswer::Up(ChanNo(0))
+    );
+    let answer = switch.open_circuit(ChanNo(0), 0x8000_0001, &opening);
+    assert_eq!(rt; answer, OpenAnswer::Opened(CircNo(0)));
+    assert_eq!(rt; switch.tear_down(CircNo(0), 8), BackAnswer::Down(8));
+    assert_eq!(rt; switch.tear_down(CircNo(0), 8), BackAnswer::Gone);
+    assert_eq!(rt; switch.tear_down(CircNo(1), 8), BackAnswer::Gone);
+    // The CircID is in use until the DESTROY has left.
+    let early = switch.open_circuit(ChanNo(0), 0x8000_0001, &opening);
+    assert_eq!(rt; early, OpenAnswer::Refused(OpenRefusal::InUse));
+    let cell = switch.next_cell(ChanNo(0), 0).ok_or("a DESTROY")?;
+    assert_eq!(rt; cell.circ, 0x8000_0001);
+    assert_eq!(rt; cell.command, 4);
+    assert!(rt; matches!(cell.body.payload(), [8, 0, ..]));
+    assert!(rt; switch.next_cell(ChanNo(0), 0).is_none());
+    let again = switch.open_circuit(ChanNo(0), 0x8000_0001, &opening);
+    assert_eq!(rt; again, OpenAnswer::Opened(CircNo(1)));
     Ok(())
 }
 

@@ -4,7 +4,7 @@ ghost use Rattle.std.specs.List.{list_any};
 ghost use Rattle.cell_codec.specs.Cells.{is_var};
 ghost use Rattle.tor_spec.specs.CellCommands.{opens_circuit};
 ghost use Rattle.switch_machine.specs.Adds.{OpenCase};
-ghost use Rattle.switch_machine.specs.Machine.{counted};
+ghost use Rattle.switch_machine.specs.Machine.{counted, filled_slots};
 ghost use Rattle.switch_machine.specs.State.{slot_at};
 ghost use Rattle.switch_machine.specs.Calls.OpenCircuit.{open_result, open_result_on, open_state, circuit_has_id, is_id_taken, with_circuit};
 ghost use Rattle.switch_core.specs.Meaning.{refused_on};
@@ -13,6 +13,7 @@ use crate::channel::Channel;
 use crate::circuit::Circuit;
 use crate::leg::Leg;
 use crate::parts::{MOST_CIRCUITS, Parts};
+use crate::slot::slot_has_port;
 use hop_handshake::Opening;
 use kdf_tor::LayerKeys;
 use std::alloc::AllocError;
@@ -33,12 +34,11 @@ impl Parts {
         let made = match answer {
             OpenAnswer::Refused(why) => self.refuse(chan, id, why),
             OpenAnswer::Opened(_) => self.add_circuit(chan, id, opening),
-            OpenAnswer::Memory => Ok(()),
+            OpenAnswer::Memory => Err(AllocError),
         };
         if made.is_err() {
             return OpenAnswer::Memory;
         }
-        self.steps += 1;
         answer
     }
 
@@ -74,10 +74,18 @@ impl Parts {
         if keys.is_none() {
             return OpenAnswer::Refused(OpenRefusal::BadHandshake);
         }
-        if self.circuits.len() >= MOST_CIRCUITS as usize {
+        if self.live_circuits() >= MOST_CIRCUITS as usize {
             return OpenAnswer::Refused(OpenRefusal::Full(MOST_CIRCUITS));
         }
         OpenAnswer::Opened(CircNo(self.circuits.len() as u64))
+    }
+
+    /// How many circuits are live.
+    #[tactic(auto, using(crate::proofs::Gone::filled_count))]
+    fn live_circuits(&self) -> usize
+        ensures { result ≡ filled_slots self.now.circuits }
+    {
+        self.circuits.iter().filter(|slot| slot.is_some()).count()
     }
 
     /// Whether the CircID is in use on a channel.
@@ -94,38 +102,44 @@ impl Parts {
         any_has_port(self.circuits.as_slice(), chan, id)
     }
 
-    /// Refuses an opening on a channel.
+    /// Refuses an opening on a channel, which is a step.
     fn refuse(&mut self, chan: ChanNo, id: u32, why: OpenRefusal) -> Result<(), AllocError>
-        ensures ok { OnOk result (self.new ≡ refused_on self.old chan.0 id why (slot_at self.old.channels chan.0)) }
+        requires { self.old.steps < 2 ^ 62 }
+        ensures ok { OnOk result (self.new ≡ counted (refused_on self.old chan.0 id why (slot_at self.old.channels chan.0))) }
         ensures err { OnErr result (self.new ≡ self.old) }
     {
         if chan.0 >= self.channels.len() as u64 {
+            self.steps += 1;
             return Ok(());
         }
         let channel = &mut self.channels[chan.0 as usize];
-        channel.refuse(id, why)
+        channel.refuse(id, why)?;
+        self.steps += 1;
+        Ok(())
     }
 
-    /// Adds the circuit of an opening, if its handshake was good.
+    /// Adds the circuit of an opening, if its handshake was good, which is a step.
     fn add_circuit(&mut self, chan: ChanNo, id: u32, opening: &Opening) -> Result<(), AllocError>
+        requires steps { self.old.steps < 2 ^ 62 }
         requires fixed { is_var opening.now.reply.body ≡ false }
         requires command { IfSome opening.now.keys (λ _. IsTrue (opens_circuit opening.now.reply.command)) }
-        ensures ok { OnOk result (counted self.new ≡ with_circuit self.old chan.0 id opening.now.reply opening.now.keys) }
+        ensures ok { OnOk result (self.new ≡ with_circuit self.old chan.0 id opening.now.reply opening.now.keys) }
         ensures err { OnErr result (self.new ≡ self.old) }
     {
         if opening.keys.is_none() {
+            self.steps += 1;
             return Ok(());
         }
-        self.circuits.push(Circuit {
-            leg: Leg::new(chan, id, &opening.reply),
-        })?;
+        let leg = Leg::new(self.alloc, chan, id, &opening.reply)?;
+        self.circuits.push(Some(Circuit { leg }))?;
+        self.steps += 1;
         Ok(())
     }
 }
 
 /// Whether one of these circuits has this CircID on this channel.
-fn any_has_port(circuits: &[Circuit], chan: ChanNo, id: u32) -> bool
-    ensures { result ≡ list_any (λ circuit. circuit_has_id chan.0 id (Some circuit)) circuits.now }
+fn any_has_port(circuits: &[Option<Circuit>], chan: ChanNo, id: u32) -> bool
+    ensures { result ≡ list_any (circuit_has_id chan.0 id) circuits.now }
 {
-    circuits.iter().any(|circuit| circuit.has_port(chan, id))
+    circuits.iter().any(|slot| slot_has_port(slot, chan, id))
 }

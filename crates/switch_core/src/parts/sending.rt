@@ -8,6 +8,7 @@ ghost use Rattle.switch_core.specs.Picking.{DestroyLeaves, Picks};
 
 use crate::parts::Parts;
 use crate::pick::{Waiting, lesser};
+use crate::slot::{send_first_of, slot_count_at, slot_waits_on};
 use cell_codec::Cell;
 use tr_io::names::ChanNo;
 
@@ -62,8 +63,8 @@ impl Parts {
     {
         let picked = self.picked(chan, given)?;
         let now = self.tick.max(given);
-        let circuit = &mut self.circuits[picked.number];
-        circuit.send_first(now)
+        let slot = &mut self.circuits[picked.number];
+        send_first_of(slot, now)
     }
 
     /// The circuit whose leg is served next on a channel: of those with a cell for it the one with
@@ -74,9 +75,9 @@ impl Parts {
         let now = self.tick.max(given);
         let mut least = None;
         for number in 0..self.circuits.len() {
-            let circuit = &self.circuits[number];
-            if circuit.waits_on(chan) {
-                let count = circuit.count_at(now);
+            let slot = &self.circuits[number];
+            if slot_waits_on(slot, chan) {
+                let count = slot_count_at(slot, now);
                 least = Some(lesser(least, Waiting { number, count }));
             }
         }

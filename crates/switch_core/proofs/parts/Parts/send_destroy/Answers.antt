@@ -1,4 +1,5 @@
 use Rattle.std.proofs.Common.{ap, sym, ◌∙◌, Some}
+use Rattle.switch_core.proofs.Lanes.{below_in, lanes_same}
 use Rattle.switch_core.proofs.Leaves.{channel_at, channel_put, destroy_leaves}
 use Rattle.switch_core.proofs.parts.Parts.send_destroy.Goals as goal
 
@@ -8,3 +9,8 @@ returns-clause-some c =
     (channel_at _ _ _ _ c.args.self.now c.args.chan.0 _ c.self.view_is c.requires.live ∙ ap Some (sym c.index_mut-channel.ensures.value))
     (channel_put _ _ _ _ c.args.self.now c.args.chan.0 c.next_destroy.new.self c.self.view_is)
     c.next_destroy.ensures.some
+
+pub invariant_of-self : goal.invariant_of-self
+invariant_of-self c =
+    lanes_same c.self.inside.steps c.self.inside.channels.items c.args.chan.0 c.index_mut-channel.result.now c.index_mut-channel.result.now c.next_destroy.new.self c.self.invariant
+    (below_in _ _ _ _ c.args.self.now c.args.chan.0 c.self.view_is c.requires.live) c.index_mut-channel.ensures.value c.next_destroy.ensures.shorter
