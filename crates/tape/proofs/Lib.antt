@@ -1,3 +1,5 @@
+pub mod Fields
+pub mod Teardowns
 pub mod Openings
 pub mod InputLaws
 pub mod Words

@@ -4,8 +4,7 @@ use Rattle.std.proofs.lemmas.List.{append-nil}
 use Rattle.circuit_model.specs.Rules.{Rules}
 use Rattle.tr_io.specs.declared.status.Status.{Status}
 use Rattle.tr_io.specs.declared.status.Status.TheVariants.{Done, Memory}
-use Rattle.switch_machine.specs.Stands.{Stands}
-use Rattle.switch_machine.specs.State.{State}
+use Rattle.switch_model.specs.Legal.{IsLegal}
 use Rattle.switch_model.proofs.SentBegins.{sent_is_prefix}
 use Rattle.tape.specs.declared.input.Ending.{Ending}
 use Rattle.tape.specs.declared.input.Ending.TheVariants.{End, Fault, Limit}
@@ -17,7 +16,7 @@ use Rattle.tape.specs.Steps.{tape_start, steps_of, IsRecords, output}
 use Rattle.tape.specs.Input.{EndCause, IsRead, NothingLeft, IsTape}
 use Rattle.tr_io.specs.Output.{IsWritten}
 use Rattle.tape.proofs.Tapes.{front_of_output}
-use Rattle.tape.specs.Runs.{status_by, status_at, Reads, Writes, BeginsNone, SameReading, IsOnlyReading, IsFrontOfOutput, FirstRecords, Played, NotBegun, EndsPlay, IsRun, IsDone, IsGood, rules_status}
+use Rattle.tape.specs.Runs.{status_by, status_at, Reads, Writes, BeginsNone, SameReading, IsOnlyReading, IsFrontOfOutput, SwitchBehind, FirstRecords, Played, NotBegun, EndsPlay, IsRun, IsDone, IsGood, rules_status}
 
 pub one_reading : (bytes : List ℕ) (a b : List Record) (x y : List ℕ) → IsRecords bytes a x → IsRecords bytes b y → BeginsNone x → BeginsNone y → SameReading a b x y
 unfolding IsRecords
@@ -147,14 +146,17 @@ front_answers rules first records rest read all end whole ends =
     let front : (behind : List ℕ) × (output rules (records ++ left.0) ≡ output rules records ++ behind) = front_of_output rules records left.0 in
     (front.0, ap (output rules) left.1 ∙ front.1)
 
-pub first_records : (rules : Rules) (tape first rest : List ℕ) (records : List Record) (state : State) → rules_ahead tape ≡ rules_and rules first → IsRecords first records rest →
-    Stands (tape_start rules) state (steps_of rules records) → FirstRecords rules tape first rest records
-first_records rules tape first rest records state ahead read stands = record {
+-- A switch stands for legal histories alone.
+legal_behind : (rules : Rules) (records : List Record) → SwitchBehind rules records → IsLegal (tape_start rules) (steps_of rules records)
+legal_behind rules records behind = subst (λ start. IsLegal start (steps_of rules records)) behind.start behind.stands.state.steps.legal
+
+pub first_records : (rules : Rules) (tape first rest : List ℕ) (records : List Record) → rules_ahead tape ≡ rules_and rules first → IsRecords first records rest →
+    SwitchBehind rules records → FirstRecords rules tape first rest records
+first_records rules tape first rest records ahead read behind = record {
   ahead = ahead;
   read = read;
-  state = state;
-  stands = stands;
-  legal = stands.steps.legal;
-  sends = sent_is_prefix (tape_start rules) (steps_of rules records) stands.steps.legal;
+  behind = behind;
+  legal = legal_behind rules records behind;
+  sends = sent_is_prefix (tape_start rules) (steps_of rules records) (legal_behind rules records behind);
   front = front_answers rules first records rest read;
 }

@@ -11,7 +11,7 @@ use Rattle.tor_spec.specs.CircuitWindow.{circuit_start, least_start}
 use Rattle.tape.specs.declared.rules.RulesFront.{RulesFront}
 use Rattle.tape.specs.Fronts.{field}
 use Rattle.tape.specs.TapeRules.{RulesFrontIs, rules_and, less_than_rules, no_rules, are_rules, said_rules, rules_ahead, rules_spelling, tape_rules, standard_rules, AreRules, SaysRules}
-use Rattle.tape.proofs.Spelled.{field_bytes, part}
+use Rattle.tape.proofs.Fields.{field_bytes, part}
 
 in_range : (window least : ℕ) → AreRules window least → are_rules window least 0 ≡ true
 in_range window least are =

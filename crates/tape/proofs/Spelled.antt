@@ -15,32 +15,14 @@ use Rattle.tape.specs.Records.{front_of}
 use Rattle.tape.specs.Kinds.ChannelUp.{channel_up_front}
 use Rattle.tape.specs.Kinds.OpenCircuit.{open_circuit_front, padded_circuit_front, opening_front, open_circuit_record, front_with_command, command_of}
 use Rattle.tape.specs.Kinds.NextCell.{next_cell_front}
+use Rattle.tape.specs.Kinds.TearDown.{tear_down_front}
 use Rattle.tor_spec.specs.CellStream.{IsBytes}
+use Rattle.tape.proofs.Fields.{field_bytes, field_4, field_8, part, drop_bytes}
+use Rattle.tape.proofs.Teardowns.{tear_down_spelled}
 use Rattle.tape.specs.declared.record.Front.{Front}
 use Rattle.tr_io.proofs.OutputLaws.{take_all}
 use Rattle.tape.specs.Kinds.OpenCircuit.{command_byte, opening_kind, pad_bytes}
 use Rattle.tape.specs.Spelling.{spelling}
-
-pub field_bytes : (at n : ℕ) (fields : List ℕ) → IsBytes fields → IsBytes (field at n fields)
-field_bytes at n fields bytes i = elim (cases_lt i n) [
-  | inl below ↦ rw (get_or-take n (drop at fields) i 0 below, get_or-drop at fields i 0) (bytes (at + i))
-  | inr above ↦ rw (get_or_past (take n (drop at fields)) i 0 (simp length-take (omega arith))) (lit< tt)
-]
-
--- The bytes of a number, from its place.
-field_4 : (at : ℕ) (fields : List ℕ) → IsBytes fields → at + 4 ≤ length fields → to_be_bytes w32 (from_be_bytes w32 (field at 4 fields)) ≡ field at 4 fields
-field_4 at fields bytes long =
-    let size : length (field at 4 fields) ≡ 4 = length-take-le 4 (drop at fields) (omega (arith, length-drop at fields)) in
-    be_bytes_4 (field at 4 fields) _ size (field_bytes at 4 fields bytes) refl
-
-field_8 : (at : ℕ) (fields : List ℕ) → IsBytes fields → at + 8 ≤ length fields → to_be_bytes w64 (from_be_bytes w64 (field at 8 fields)) ≡ field at 8 fields
-field_8 at fields bytes long =
-    let size : length (field at 8 fields) ≡ 8 = length-take-le 8 (drop at fields) (omega (arith, length-drop at fields)) in
-    be_bytes_8 (field at 8 fields) _ size (field_bytes at 8 fields bytes) refl
-
--- A field and what is behind it.
-pub part : (at n : ℕ) (fields : List ℕ) → drop at fields ≡ field at n fields ++ drop (at + n) fields
-part at n fields = sym (take-append-drop n (drop at fields)) ∙ ap (λ xs. field at n fields ++ xs) (drop-drop n at fields)
 
 up_whole : (fields : List ℕ) → IsBytes fields → 5 ≤ length fields → (side : ℕ) → slice_index fields 4 ≡ side →
     1 ∷ fields ≡ (1 ∷ (to_be_bytes w32 (from_be_bytes w32 (field 0 4 fields)) ++ side ∷ [])) ++ drop 5 fields
@@ -163,9 +145,6 @@ open_by false None fields pad cell r rest bytes cell_bytes long split is_short i
 open_by false (Some command) fields pad cell r rest bytes cell_bytes long split is_short is_found is =
     open_with _ fields pad cell command r rest bytes cell_bytes (long (ltb-false (length cell) 5 is_short)) split refl (byte_of_command _ _ is_found) is
 
-drop_bytes : (n : ℕ) (fields : List ℕ) → IsBytes fields → IsBytes (drop n fields)
-drop_bytes n fields bytes i = rw (get_or-drop n fields i 0) (bytes (n + i))
-
 opening_spelled : (fields : List ℕ) (pad : Option (List ℕ)) (n : ℕ) (r : Record) (rest : List ℕ) → IsBytes fields → 28 ≤ n → drop 28 fields ≡ pad_bytes pad ++ drop n fields →
     opening_front (take 28 fields) pad (drop n fields) ≡ record_and r rest →
     opening_kind pad ∷ fields ≡ spelling r ++ rest
@@ -174,25 +153,33 @@ opening_spelled fields pad n r rest bytes behind split is =
     open_by _ _ fields pad (drop n fields) r rest bytes (drop_bytes n fields bytes)
     (λ (long : 5 ≤ length (drop n fields)). omega (arith, long, length-drop n fields, behind)) split refl refl is
 
-front_by : (up opening next padded unbuilt_kind : Bool) (kind : ℕ) (fields : List ℕ) (r : Record) (rest : List ℕ) → IsBytes fields → (kind == 1) ≡ up → (kind == 3) ≡ opening → (kind == 8) ≡ next → (kind == 15) ≡ padded →
-    (if up then channel_up_front fields else (if opening then open_circuit_front fields else (if next then next_cell_front fields else (if padded then padded_circuit_front fields else (if unbuilt_kind then unbuilt kind else no_record))))) ≡ record_and r rest →
+front_by : (up opening next torn padded unbuilt_kind : Bool) (kind : ℕ) (fields : List ℕ) (r : Record) (rest : List ℕ) → IsBytes fields →
+    (kind == 1) ≡ up → (kind == 3) ≡ opening → (kind == 8) ≡ next → (kind == 14) ≡ torn → (kind == 15) ≡ padded →
+    (if up then channel_up_front fields
+    else (if opening then open_circuit_front fields
+    else (if next then next_cell_front fields
+    else (if torn then tear_down_front fields
+    else (if padded then padded_circuit_front fields
+    else (if unbuilt_kind then unbuilt kind else no_record)))))) ≡ record_and r rest →
     kind ∷ fields ≡ spelling r ++ rest
 unfolding channel_up_front next_cell_front
-front_by true opening next padded unbuilt_kind kind fields r rest bytes is_up is_opening is_next is_padded is =
+front_by true opening next torn padded unbuilt_kind kind fields r rest bytes is_up is_opening is_next is_torn is_padded is =
     ap (λ k. k ∷ fields) (eqb-true kind 1 is_up) ∙ up_by _ _ _ fields r rest bytes refl refl refl is
-front_by false true next padded unbuilt_kind kind fields r rest bytes is_up is_opening is_next is_padded is =
+front_by false true next torn padded unbuilt_kind kind fields r rest bytes is_up is_opening is_next is_torn is_padded is =
     ap (λ k. k ∷ fields) (eqb-true kind 3 is_opening) ∙ opening_spelled fields None 28 r rest bytes (omega arith) refl is
-front_by false false true padded unbuilt_kind kind fields r rest bytes is_up is_opening is_next is_padded is =
+front_by false false true torn padded unbuilt_kind kind fields r rest bytes is_up is_opening is_next is_torn is_padded is =
     ap (λ k. k ∷ fields) (eqb-true kind 8 is_next) ∙ next_by _ fields r rest bytes refl is
-front_by false false false true unbuilt_kind kind fields r rest bytes is_up is_opening is_next is_padded is =
+front_by false false false true padded unbuilt_kind kind fields r rest bytes is_up is_opening is_next is_torn is_padded is =
+    ap (λ k. k ∷ fields) (eqb-true kind 14 is_torn) ∙ tear_down_spelled fields r rest bytes is
+front_by false false false false true unbuilt_kind kind fields r rest bytes is_up is_opening is_next is_torn is_padded is =
     ap (λ k. k ∷ fields) (eqb-true kind 15 is_padded) ∙ opening_spelled fields (Some (field 28 16 fields)) 44 r rest bytes (omega arith) (part 28 16 fields) is
-front_by false false false false true kind fields r rest bytes is_up is_opening is_next is_padded is = cc
-front_by false false false false false kind fields r rest bytes is_up is_opening is_next is_padded is = cc
+front_by false false false false false true kind fields r rest bytes is_up is_opening is_next is_torn is_padded is = cc
+front_by false false false false false false kind fields r rest bytes is_up is_opening is_next is_torn is_padded is = cc
 
 pub read_is_spelled : (bytes : List ℕ) (r : Record) (rest : List ℕ) → IsBytes bytes → front_of bytes ≡ record_and r rest → bytes ≡ spelling r ++ rest
 unfolding front_of
 read_is_spelled [] r rest bytes is = cc
-read_is_spelled (kind ∷ fields) r rest bytes is = front_by _ _ _ _ _ kind fields r rest (λ i. bytes (suc i)) refl refl refl refl is
+read_is_spelled (kind ∷ fields) r rest bytes is = front_by _ _ _ _ _ _ kind fields r rest (λ i. bytes (suc i)) refl refl refl refl refl is
 
 pub front_is_spelled : (front : Front) (bytes : List ℕ) (r : Record) (rest : List ℕ) → IsBytes bytes → FrontIs front (front_of bytes) → FrontIs front (record_and r rest) → bytes ≡ spelling r ++ rest
 front_is_spelled front bytes r rest fits is read = read_is_spelled bytes r rest fits (sym is ∙ read)

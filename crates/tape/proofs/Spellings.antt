@@ -3,17 +3,17 @@ use Rattle.std.proofs.Common.{◌≡◌, ℕ, ◌+◌, ◌<◌, ◌≤◌, ◌^�
 use Rattle.std.proofs.lemmas.Bool.{le-ltb}
 use Rattle.std.proofs.lemmas.List.{append-nil}
 use Rattle.std.proofs.lemmas.Nat.{from_be_bytes-to_be_bytes_4, from_be_bytes-to_be_bytes_8}
-use Rattle.std.proofs.Math.Seq.{take-append_seam, drop-append_seam, get_or-append_seam}
 use Rattle.std.specs.Int.{w32, w64, from_be_bytes, to_be_bytes}
 use Rattle.tr_io.specs.declared.names.Side.{Side}
 use Rattle.tr_io.specs.declared.names.Side.TheVariants.{PeerOpened, WeOpened}
 use Rattle.tape.specs.declared.record.Record.{Record}
-use Rattle.tape.specs.declared.record.Record.TheVariants.{ChannelUp, OpenCircuit, NextCell}
+use Rattle.tape.specs.declared.record.Record.TheVariants.{ChannelUp, OpenCircuit, NextCell, TearDown}
 use Rattle.tape.specs.Fronts.{FrontOf, FrontIs, record_and, field}
 use Rattle.tape.specs.Records.{front_of}
 use Rattle.tape.specs.Kinds.ChannelUp.{channel_up_front}
 use Rattle.tape.specs.Kinds.OpenCircuit.{open_circuit_front, padded_circuit_front, opening_front, command_of}
 use Rattle.tape.specs.Kinds.NextCell.{next_cell_front}
+use Rattle.tape.specs.Kinds.TearDown.{tear_down_front}
 use Rattle.tape.specs.declared.record.CircuitRequest.{CircuitRequest}
 use Rattle.tape.specs.declared.record.CreateCommand.{CreateCommand}
 use Rattle.tape.specs.declared.record.CreateCommand.TheVariants.{Create, CreateFast, Create2}
@@ -21,26 +21,9 @@ use Rattle.tape.specs.declared.record.Front.{Front}
 use Rattle.tape.specs.Kinds.ChannelUp.{side_byte}
 use Rattle.tape.specs.Kinds.OpenCircuit.{command_byte}
 use Rattle.tape.specs.Spelling.{spelling, FitsFields}
+use Rattle.tape.proofs.Fields.{field_of, behind_of, byte_of, four, eight}
+use Rattle.tape.proofs.Teardowns.{tear_down_read}
 use Rattle.tape.proofs.Openings.{opened}
-
--- A field between what is before and behind it.
-field_of : (at n : ℕ) (before x behind : List ℕ) → length before ≡ at → length x ≡ n → field at n (before ++ (x ++ behind)) ≡ x
-field_of at n before x behind is_at is_n =
-    let dropped : drop at (before ++ (x ++ behind)) ≡ x ++ behind =
-    ap (λ k. drop k (before ++ (x ++ behind))) (sym is_at) ∙ drop-append_seam before (x ++ behind) in
-    ap (take n) dropped ∙ ap (λ k. take k (x ++ behind)) (sym is_n) ∙ take-append_seam x behind
-
-behind_of : (at : ℕ) (before behind : List ℕ) → length before ≡ at → drop at (before ++ behind) ≡ behind
-behind_of at before behind is = ap (λ k. drop k (before ++ behind)) (sym is) ∙ drop-append_seam before behind
-
-byte_of : (at : ℕ) (before : List ℕ) (x : ℕ) (behind : List ℕ) → length before ≡ at → slice_index (before ++ x ∷ behind) at ≡ x
-byte_of at before x behind is = ap (λ k. slice_index (before ++ x ∷ behind) k) (sym is) ∙ get_or-append_seam before x behind 0
-
-four : (n : ℕ) → length (to_be_bytes w32 n) ≡ 4
-four n = refl
-
-eight : (n : ℕ) → length (to_be_bytes w64 n) ≡ 8
-eight n = refl
 
 up_read : (slot : ℕ) (side : Side) (rest : List ℕ) → slot < 2 ^ 32 → channel_up_front (to_be_bytes w32 slot ++ side_byte side ∷ rest) ≡ record_and (ChannelUp slot side) rest
 unfolding channel_up_front
@@ -170,6 +153,8 @@ spelled_is_read (OpenCircuit chan y (Some pad) request) rest fits =
     ∙ read_at fields (Some pad) 44 chan.0 y pad request rest fits.0 fits.3 fits.4 parts (ap (λ n. 28 + n) fits.2)
 spelled_is_read (NextCell chan tick) rest fits =
     ap next_cell_front (append_assoc (to_be_bytes w64 chan.0) (to_be_bytes w64 tick) rest) ∙ next_read chan.0 tick rest fits.0 fits.1
+spelled_is_read (TearDown circ reason) rest fits =
+    ap tear_down_front (append_assoc (to_be_bytes w64 circ.0) (reason ∷ []) rest) ∙ tear_down_read circ.0 reason rest fits.0
 
 pub spelled_is_front : (front : Front) (bytes : List ℕ) (r : Record) (rest : List ℕ) → FrontIs front (front_of bytes) → FitsFields r → bytes ≡ spelling r ++ rest → FrontIs front (record_and r rest)
 spelled_is_front front bytes r rest is fits spells = is ∙ ap front_of spells ∙ spelled_is_read r rest fits

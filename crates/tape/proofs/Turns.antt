@@ -5,12 +5,13 @@ use Rattle.tr_io.specs.Faults.{Rose}
 use Rattle.tr_io.specs.declared.status.Status.{Status}
 use Rattle.tr_io.specs.declared.status.Status.TheVariants.{WriteFault, BadTape, NotBuilt, Memory}
 use Rattle.tr_io.specs.declared.step.Step.{Step}
-use Rattle.switch_core.specs.Started.{Started}
-use Rattle.switch_machine.specs.Stands.{Stands}
-use Rattle.switch_model.specs.Start.{Start}
-use Rattle.switch_machine.specs.State.{State}
+use Rattle.switch_core.specs.Relays.{RelaysStand}
+use Rattle.switch_core.specs.Started.{Started, SwitchStands}
+use Rattle.switch_core.specs.declared.relay.Relay.{Relay}
+use Rattle.switch_machine.specs.State.{State, slot_at}
 use Rattle.switch_machine.specs.Machine.{new_state}
 use Rattle.switch_machine.proofs.Laws.{stands_new}
+use Rattle.switch_model.specs.Start.{Start}
 use Rattle.tape.specs.declared.input.Ending.{Ending}
 use Rattle.tape.specs.declared.record.Record.{Record}
 use Rattle.tape.specs.Fronts.{record_and, less, no_record, unbuilt}
@@ -18,7 +19,7 @@ use Rattle.tape.specs.Records.{front_of}
 use Rattle.tape.specs.TapeRules.{rules_and, less_than_rules, no_rules, rules_ahead}
 use Rattle.tape.specs.Steps.{tape_start, answer_of, steps_behind, answers_behind, steps_of, output, IsRecords}
 use Rattle.tr_io.specs.Output.{IsWritten, IsPartWritten}
-use Rattle.tape.specs.Runs.{cut_status, status_by, status_at, rules_status, Writes, IsFlushed, FirstRecords, EndsPlay}
+use Rattle.tape.specs.Runs.{cut_status, status_by, status_at, rules_status, Writes, IsFlushed, SwitchBehind, FirstRecords, EndsPlay}
 use Rattle.tape.specs.Playing.{PlaysOn, HandedOn, Gathered, Stopped, Broken}
 use Rattle.tr_io.proofs.OutputLaws.{starts_empty, whole_behind, part_behind}
 use Rattle.tape.proofs.Readings.{status_stops, only_reading, first_records}
@@ -26,28 +27,39 @@ use Rattle.tape.proofs.Tapes.{records_more, steps_more, answers_more}
 
 -- What holds at each turn: the switch stands for the steps of the records that were played, of which
 -- there is at most one for each byte.
-pub record Turn (rules : Rules) (tape first rest : List ℕ) (made : Start) (state : State) (answers : List ℕ) (held now : Option (List ℕ)) (faults faults_now : ℕ) : Type 0 where
+pub record Turn (rules : Rules) (tape first rest : List ℕ) (switch : Started) (answers : List ℕ) (held now : Option (List ℕ)) (faults faults_now : ℕ) : Type 0 where
   pub counted : faults ≤ faults_now
-  pub paid : state.steps + length rest ≤ length tape
-  pub start : made ≡ tape_start rules
+  pub paid : switch.state.steps + length rest ≤ length tape
   pub records : List Record
-  pub stands : Stands (tape_start rules) state (steps_of rules records)
+  pub start : switch.start ≡ tape_start rules
+  pub stands : SwitchStands switch (steps_of rules records)
   pub gathered : Gathered rules first rest records answers held now
 
-pub first_turn : (rules : Rules) (tape first : List ℕ) (start : Start) (state : State) (answers : List ℕ) (held : Option (List ℕ)) (faults : ℕ) → length first ≤ length tape → start ≡ tape_start rules → state ≡ new_state → answers ≡ [] →
-    Turn rules tape first first start state answers held held faults faults
+behind_turn : (rules : Rules) (tape first rest : List ℕ) (switch : Started) (answers : List ℕ) (held now : Option (List ℕ)) (faults faults_now : ℕ) → (turn : Turn rules tape first rest switch answers held now faults faults_now) → SwitchBehind rules turn.records
+behind_turn rules tape first rest switch answers held now faults faults_now turn = record { switch = switch; start = turn.start; stands = turn.stands }
+
+-- A new switch stands for the history without steps.
+new_stands : (start : Start) (state : State) (relays : List (Option Relay)) → state ≡ new_state → relays ≡ [] → SwitchStands (record { start = start; state = state; relays = relays }) []
+unfolding slot_at
+new_stands start state relays new none = record {
+  state = stands_new start state new;
+  relays = rw none (record { count_is = refl; relay = λ c. refl });
+}
+
+pub first_turn : (rules : Rules) (tape first : List ℕ) (switch : Started) (answers : List ℕ) (held : Option (List ℕ)) (faults : ℕ) → length first ≤ length tape → switch.start ≡ tape_start rules → switch.state ≡ new_state → switch.relays ≡ [] → answers ≡ [] →
+    Turn rules tape first first switch answers held held faults faults
 unfolding IsRecords answers_behind steps_behind
-first_turn rules tape first start state answers held faults within started new none = record {
+first_turn rules tape first switch answers held faults within started new no_relays none = record {
   counted = omega arith;
-  paid = (let zero : state.steps ≡ 0 = ap (λ s. s.steps) new in omega (arith, zero, within));
-  start = started;
+  paid = (let zero : switch.state.steps ≡ 0 = ap (λ s. s.steps) new in omega (arith, zero, within));
   records = [];
-  stands = stands_new (tape_start rules) state new;
+  start = started;
+  stands = new_stands switch.start switch.state switch.relays new no_relays;
   gathered = record { read = refl; handed = record { piece = []; written = starts_empty held; whole = none } };
 }
 
 -- A record was played.
-pub played_more : (rules : Rules) (first rest behind : List ℕ) (records : List Record) (r : Record) (answers more : List ℕ) (h : List Step) (old new : State) (held now : Option (List ℕ)) → h ≡ steps_of rules records → Stands (tape_start rules) old h → PlaysOn rules r old new answers more →
+pub played_more : (rules : Rules) (first rest behind : List ℕ) (records : List Record) (r : Record) (answers more : List ℕ) (h : List Step) (old new : Started) (held now : Option (List ℕ)) → h ≡ steps_of rules records → SwitchStands old h → PlaysOn rules r old new answers more →
     front_of rest ≡ record_and r behind → Gathered rules first rest records answers held now → Gathered rules first behind (records ++ r ∷ []) more held now
 played_more rules first rest behind records r answers more h old new held now is stands plays front gathered = record {
   read = records_more first records rest behind r gathered.read front;
@@ -63,9 +75,9 @@ played_more rules first rest behind records r answers more h old new held now is
   };
 }
 
-pub stands_more : (rules : Rules) (records : List Record) (r : Record) (answers more : List ℕ) (old new : State) → Stands (tape_start rules) old (steps_of rules records) → PlaysOn rules r old new answers more → Stands (tape_start rules) new (steps_of rules (records ++ r ∷ []))
+pub stands_more : (rules : Rules) (records : List Record) (r : Record) (answers more : List ℕ) (old new : Started) → SwitchStands old (steps_of rules records) → PlaysOn rules r old new answers more → SwitchStands new (steps_of rules (records ++ r ∷ []))
 stands_more rules records r answers more old new stands plays =
-    subst (λ h. Stands (tape_start rules) new h) (sym (steps_more rules [] records r)) (plays.stands (steps_of rules records) stands)
+    subst (λ h. SwitchStands new h) (sym (steps_more rules [] records r)) (plays.stands (steps_of rules records) stands)
 
 -- Answers were handed on.
 pub handed_more : (rules : Rules) (first rest : List ℕ) (records : List Record) (answers left : List ℕ) (held now after : Option (List ℕ)) → Gathered rules first rest records answers held now → HandedOn answers left now after → Gathered rules first rest records left held after
@@ -82,13 +94,12 @@ handed_more rules first rest records answers left held now after gathered handed
 }
 
 -- The sink failed in the midst.
-pub breaks : (rules : Rules) (first rest : List ℕ) (records : List Record) (state : State) (answers : List ℕ) (held now after : Option (List ℕ)) (faults faults_now : ℕ) → Stands (tape_start rules) state (steps_of rules records) → Gathered rules first rest records answers held now → IsPartWritten now answers after → Rose faults faults_now → Broken rules first held after faults faults_now
-breaks rules first rest records state answers held now after faults faults_now stands gathered part rose = record {
+pub breaks : (rules : Rules) (first rest : List ℕ) (records : List Record) (answers : List ℕ) (held now after : Option (List ℕ)) (faults faults_now : ℕ) → SwitchBehind rules records → Gathered rules first rest records answers held now → IsPartWritten now answers after → Rose faults faults_now → Broken rules first held after faults faults_now
+breaks rules first rest records answers held now after faults faults_now behind gathered part rose = record {
   cause = rose;
   records = records;
   rest = rest;
-  state = state;
-  stands = stands;
+  behind = behind;
   read = gathered.read;
   written = part_behind held now after gathered.handed.piece answers (output rules records) gathered.handed.written part gathered.handed.whole;
 }
@@ -97,36 +108,39 @@ breaks rules first rest records state answers held now after faults faults_now s
 pub made_so : (rules : Rules) (made : Start) → made ≡ tape_start rules → made ≡ tape_start made.rules
 made_so rules made is = is ∙ ap (λ (s : Start). tape_start s.rules) (sym is)
 
-played_under : (rules : Rules) (made : Start) (r : Record) (old new : State) (answers more : List ℕ) → made ≡ tape_start rules → PlaysOn made.rules r old new answers more → PlaysOn rules r old new answers more
+played_under : (rules : Rules) (made : Start) (r : Record) (old new : Started) (answers more : List ℕ) → made ≡ tape_start rules → PlaysOn made.rules r old new answers more → PlaysOn rules r old new answers more
 played_under rules made r old new answers more is plays = subst (λ (s : Start). PlaysOn s.rules r old new answers more) is plays
 
 -- The next turn.
-pub next_turn : (rules : Rules) (tape first rest behind : List ℕ) (made made_now : Start) (old new : State) (r : Record) (answers more left : List ℕ) (held now after : Option (List ℕ)) (faults faults_now faults_after : ℕ) → Turn rules tape first rest made old answers held now faults faults_now →
-    record_and r behind ≡ front_of rest → length behind < length rest → PlaysOn made.rules r old new answers more → made_now ≡ made → new.steps ≤ old.steps + 1 → HandedOn more left now after → faults_now ≤ faults_after →
-    Turn rules tape first behind made_now new left held after faults faults_after
-next_turn rules tape first rest behind made made_now old new r answers more left held now after faults faults_now faults_after turn front shorter plays started step handed counted = record {
-  counted = omega (arith, turn.counted, counted);
-  paid = omega (arith, turn.paid, shorter, step);
-  start = started ∙ turn.start;
-  records = turn.records ++ r ∷ [];
-  stands = stands_more rules turn.records r answers more old new turn.stands (played_under rules made r old new answers more turn.start plays);
-  gathered = handed_more rules first behind (turn.records ++ r ∷ []) more left held now after
-      (played_more rules first rest behind turn.records r answers more (steps_of rules turn.records) old new held now refl turn.stands (played_under rules made r old new answers more turn.start plays) (sym front) turn.gathered)
-      handed;
-}
+pub next_turn : (rules : Rules) (tape first rest behind : List ℕ) (old new : Started) (r : Record) (answers more left : List ℕ) (held now after : Option (List ℕ)) (faults faults_now faults_after : ℕ) → Turn rules tape first rest old answers held now faults faults_now →
+    record_and r behind ≡ front_of rest → length behind < length rest → PlaysOn old.start.rules r old new answers more → new.start ≡ old.start → new.state.steps ≤ old.state.steps + 1 → HandedOn more left now after → faults_now ≤ faults_after →
+    Turn rules tape first behind new left held after faults faults_after
+next_turn rules tape first rest behind old new r answers more left held now after faults faults_now faults_after turn front shorter plays started step handed counted =
+    let on : PlaysOn rules r old new answers more = played_under rules old.start r old new answers more turn.start plays in
+    record {
+      counted = omega (arith, turn.counted, counted);
+      paid = omega (arith, turn.paid, shorter, step);
+      records = turn.records ++ r ∷ [];
+      start = started ∙ turn.start;
+      stands = stands_more rules turn.records r answers more old new turn.stands on;
+      gathered = handed_more rules first behind (turn.records ++ r ∷ []) more left held now after
+          (played_more rules first rest behind turn.records r answers more (steps_of rules turn.records) old new held now refl turn.stands on (sym front) turn.gathered)
+          handed;
+    }
 
 -- The same turn by what the switch was equal to.
-pub turn_of : (rules : Rules) (a b : Started) (tape first rest : List ℕ) (answers : List ℕ) (held now : Option (List ℕ)) (faults faults_now : ℕ) → a ≡ b → Turn rules tape first rest b.start b.state answers held now faults faults_now → Turn rules tape first rest a.start a.state answers held now faults faults_now
+pub turn_of : (rules : Rules) (a b : Started) (tape first rest : List ℕ) (answers : List ℕ) (held now : Option (List ℕ)) (faults faults_now : ℕ) → a ≡ b → Turn rules tape first rest b answers held now faults faults_now → Turn rules tape first rest a answers held now faults faults_now
 turn_of rules a b tape first rest answers held now faults faults_now is turn =
-    subst (λ s. Turn rules tape first rest s.start s.state answers held now faults faults_now) (sym is) turn
+    subst (λ s. Turn rules tape first rest s answers held now faults faults_now) (sym is) turn
 
 -- A turn in which the sink fails.
-pub turn_breaks : (rules : Rules) (tape first rest behind : List ℕ) (made : Start) (old new : State) (r : Record) (answers more : List ℕ) (held now after : Option (List ℕ)) (faults faults_now faults_after : ℕ) → Turn rules tape first rest made old answers held now faults faults_now →
-    record_and r behind ≡ front_of rest → PlaysOn made.rules r old new answers more → IsPartWritten now more after → Rose faults_now faults_after → Broken rules first held after faults faults_after
-turn_breaks rules tape first rest behind made old new r answers more held now after faults faults_now faults_after turn front plays part rose =
-    breaks rules first behind (turn.records ++ r ∷ []) new more held now after faults faults_after
-    (stands_more rules turn.records r answers more old new turn.stands (played_under rules made r old new answers more turn.start plays))
-    (played_more rules first rest behind turn.records r answers more (steps_of rules turn.records) old new held now refl turn.stands (played_under rules made r old new answers more turn.start plays) (sym front) turn.gathered)
+pub turn_breaks : (rules : Rules) (tape first rest behind : List ℕ) (old new : Started) (r : Record) (answers more : List ℕ) (held now after : Option (List ℕ)) (faults faults_now faults_after : ℕ) → Turn rules tape first rest old answers held now faults faults_now →
+    record_and r behind ≡ front_of rest → PlaysOn old.start.rules r old new answers more → new.start ≡ old.start → IsPartWritten now more after → Rose faults_now faults_after → Broken rules first held after faults faults_after
+turn_breaks rules tape first rest behind old new r answers more held now after faults faults_now faults_after turn front plays started part rose =
+    let on : PlaysOn rules r old new answers more = played_under rules old.start r old new answers more turn.start plays in
+    breaks rules first behind (turn.records ++ r ∷ []) more held now after faults faults_after
+    (record { switch = new; start = started ∙ turn.start; stands = stands_more rules turn.records r answers more old new turn.stands on })
+    (played_more rules first rest behind turn.records r answers more (steps_of rules turn.records) old new held now refl turn.stands on (sym front) turn.gathered)
     part (omega (arith, turn.counted, rose))
 
 -- The status at a place that begins no record which is built.
@@ -142,15 +156,15 @@ pub unbuilt_at : (ending : Ending) (tape rest : List ℕ) (kind : ℕ) → unbui
 unfolding status_at
 unbuilt_at ending tape rest kind front = ap (status_by ending (length tape - length rest) rest) (sym front)
 
-pub stops : (rules : Rules) (status : Status) (ending : Ending) (tape first rest : List ℕ) (made : Start) (state : State) (answers : List ℕ) (held now : Option (List ℕ)) (faults faults_now : ℕ) → Turn rules tape first rest made state answers held now faults faults_now →
+pub stops : (rules : Rules) (status : Status) (ending : Ending) (tape first rest : List ℕ) (switch : Started) (answers : List ℕ) (held now : Option (List ℕ)) (faults faults_now : ℕ) → Turn rules tape first rest switch answers held now faults faults_now →
     status_at ending (length tape - length rest) rest ≡ Some status → Stopped rules status ending tape first answers held now
-stops rules status ending tape first rest made state answers held now faults faults_now turn at =
-    record { records = turn.records; rest = rest; state = state; stands = turn.stands; gathered = turn.gathered; cause = inl at }
+stops rules status ending tape first rest switch answers held now faults faults_now turn at =
+    record { records = turn.records; rest = rest; behind = behind_turn _ _ _ _ _ _ _ _ _ _ turn; gathered = turn.gathered; cause = inl at }
 
-pub stops_short : (rules : Rules) (status : Status) (ending : Ending) (tape first rest : List ℕ) (made : Start) (state : State) (answers : List ℕ) (held now : Option (List ℕ)) (faults faults_now : ℕ) → Turn rules tape first rest made state answers held now faults faults_now →
+pub stops_short : (rules : Rules) (status : Status) (ending : Ending) (tape first rest : List ℕ) (switch : Started) (answers : List ℕ) (held now : Option (List ℕ)) (faults faults_now : ℕ) → Turn rules tape first rest switch answers held now faults faults_now →
     status ≡ Memory → Stopped rules status ending tape first answers held now
-stops_short rules status ending tape first rest made state answers held now faults faults_now turn memory =
-    record { records = turn.records; rest = rest; state = state; stands = turn.stands; gathered = turn.gathered; cause = inr memory }
+stops_short rules status ending tape first rest switch answers held now faults faults_now turn memory =
+    record { records = turn.records; rest = rest; behind = behind_turn _ _ _ _ _ _ _ _ _ _ turn; gathered = turn.gathered; cause = inr memory }
 
 -- The rules that a tape says are those of the switch that was made for them.
 pub ahead_of : (rules : Rules) (made : Start) (tape first : List ℕ) → made ≡ tape_start rules → rules_and rules first ≡ rules_ahead tape → rules_ahead tape ≡ rules_and made.rules first
@@ -162,7 +176,7 @@ ends_whole rules status ending tape first answers last now w ahead stopped all w
     let written : IsWritten now answers w.held_after = subst (λ xs. IsWritten now xs w.held_after) all written_last in
     let out : IsWritten w.held (output rules stopped.records) w.held_after =
     whole_behind w.held now w.held_after stopped.gathered.handed.piece answers (output rules stopped.records) stopped.gathered.handed.written written stopped.gathered.handed.whole in
-    let read : FirstRecords rules tape first stopped.rest stopped.records = first_records rules tape first stopped.rest stopped.records stopped.state ahead stopped.gathered.read stopped.stands in
+    let read : FirstRecords rules tape first stopped.rest stopped.records = first_records rules tape first stopped.rest stopped.records ahead stopped.gathered.read stopped.behind in
     elim stopped.cause [
       | inl at ↦ inl (record {
         rules = rules;
@@ -186,14 +200,14 @@ ends_cut rules status ending tape first w ahead is broken = inr (inl (record {
   first = first;
   records = broken.records;
   rest = broken.rest;
-  read = first_records rules tape first broken.rest broken.records broken.state ahead broken.read broken.stands;
+  read = first_records rules tape first broken.rest broken.records ahead broken.read broken.behind;
   written = broken.written;
 }))
 
 pub ends_broken : (rules : Rules) (status : Status) (ending : Ending) (tape first answers last : List ℕ) (now : Option (List ℕ)) (w : Writes) → rules_ahead tape ≡ rules_and rules first → Stopped rules status ending tape first answers w.held now → last ≡ answers → IsPartWritten now last w.held_after → Rose w.faults w.faults_after → EndsPlay WriteFault ending tape w
 ends_broken rules status ending tape first answers last now w ahead stopped all part rose =
     ends_cut rules WriteFault ending tape first w ahead refl
-    (breaks rules first stopped.rest stopped.records stopped.state answers w.held now w.held_after w.faults w.faults_after stopped.stands stopped.gathered
+    (breaks rules first stopped.rest stopped.records answers w.held now w.held_after w.faults w.faults_after stopped.behind stopped.gathered
     (subst (λ xs. IsPartWritten now xs w.held_after) all part) rose)
 
 -- Memory was wanting before the first record.
@@ -205,7 +219,7 @@ ends_early rules ending tape first w ahead same = inr (inr (inl (record {
   first = first;
   records = [];
   rest = first;
-  read = first_records rules tape first first [] new_state ahead refl (stands_new (tape_start rules) new_state refl);
+  read = first_records rules tape first first [] ahead refl (record { switch = _; start = refl; stands = new_stands (tape_start rules) new_state [] refl refl });
   written = subst (λ o. IsWritten w.held [] o) (sym same) (starts_empty w.held);
 })))
 

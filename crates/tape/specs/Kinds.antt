@@ -1,4 +1,6 @@
 -- The kinds of records, a file a kind.
+pub mod Back
 pub mod ChannelUp
 pub mod OpenCircuit
 pub mod NextCell
+pub mod TearDown

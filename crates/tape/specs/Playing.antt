@@ -5,19 +5,18 @@ use Rattle.tr_io.specs.declared.status.Status.{Status}
 use Rattle.tr_io.specs.declared.status.Status.TheVariants.{Memory}
 use Rattle.tr_io.specs.Faults.{Rose}
 use Rattle.tr_io.specs.declared.step.Step.{Step}
-use Rattle.switch_machine.specs.State.{State}
-use Rattle.switch_machine.specs.Stands.{Stands}
+use Rattle.switch_core.specs.Started.{Started, SwitchStands}
 use Rattle.tape.specs.declared.input.Ending.{Ending}
 use Rattle.tape.specs.declared.record.Record.{Record}
-use Rattle.tape.specs.Steps.{tape_start, step_of, steps_of, answer_of, output, IsRecords}
+use Rattle.tape.specs.Steps.{step_of, answer_of, output, IsRecords}
 use Rattle.tr_io.specs.Output.{IsWritten, IsPartWritten}
-use Rattle.tape.specs.Runs.{status_at}
+use Rattle.tape.specs.Runs.{status_at, SwitchBehind}
 
 -- Whatever history the switch stood for, it stands for it with the record's step, whose answer is
 -- behind the others.
-pub record PlaysOn (rules : Rules) (r : Record) (old new : State) (answers more : List ℕ) : Type 0 where
-  pub stands : (h : List Step) → Stands (tape_start rules) old h → Stands (tape_start rules) new (step_of rules h r ∷ h)
-  pub answer : (h : List Step) → Stands (tape_start rules) old h → more ≡ answers ++ answer_of rules h r
+pub record PlaysOn (rules : Rules) (r : Record) (old new : Started) (answers more : List ℕ) : Type 0 where
+  pub stands : (h : List Step) → SwitchStands old h → SwitchStands new (step_of rules h r ∷ h)
+  pub answer : (h : List Step) → SwitchStands old h → more ≡ answers ++ answer_of rules h r
 
 -- The front of the answers was written, and the others are left.
 pub record HandedOn (answers left : List ℕ) (held now : Option (List ℕ)) : Type 0 where
@@ -34,8 +33,7 @@ pub record Gathered (rules : Rules) (first rest : List ℕ) (records : List Reco
 pub record Stopped (rules : Rules) (status : Status) (ending : Ending) (tape first answers : List ℕ) (held now : Option (List ℕ)) : Type 0 where
   pub records : List Record
   pub rest : List ℕ
-  pub state : State
-  pub stands : Stands (tape_start rules) state (steps_of rules records)
+  pub behind : SwitchBehind rules records
   pub gathered : Gathered rules first rest records answers held now
   pub cause : (status_at ending (length tape - length rest) rest ≡ Some status) ⊎ (status ≡ Memory)
 
@@ -44,7 +42,6 @@ pub record Broken (rules : Rules) (first : List ℕ) (held now : Option (List �
   pub cause : Rose faults faults_now
   pub records : List Record
   pub rest : List ℕ
-  pub state : State
-  pub stands : Stands (tape_start rules) state (steps_of rules records)
+  pub behind : SwitchBehind rules records
   pub read : IsRecords first records rest
   pub written : IsPartWritten held (output rules records) now

@@ -15,9 +15,8 @@ use Rattle.tr_io.specs.declared.step.Step.{Step}
 use Rattle.switch_model.specs.History.Circuit.{sent}
 use Rattle.switch_model.specs.Waiting.Queues.{circuit_log}
 use Rattle.switch_model.specs.Legal.{IsLegal}
-use Rattle.switch_machine.specs.Stands.{Stands}
 use Rattle.switch_model.specs.Start.{Start}
-use Rattle.switch_machine.specs.State.{State}
+use Rattle.switch_core.specs.Started.{Started, SwitchStands}
 use Rattle.tape.specs.TapeRules.{RulesFrontOf, rules_and, less_than_rules, no_rules, rules_ahead}
 use Rattle.tape.specs.Steps.{tape_start, steps_of, IsRecords, output}
 use Rattle.tape.specs.Input.{tape_limit, EndCause, IsRead, IsTape}
@@ -98,14 +97,19 @@ abbrev pub BeginsOnLeg : Start → List Step → ℕ → ℕ → Type 0
 BeginsOnLeg start h c k =
     (rest : List CircuitCell) × (sent start.rules h c k ++ rest ≡ one (circuit_log start.rules h c) k)
 
+-- A switch with these rules that stands for the steps of these records, its relays and ciphers among it.
+pub record SwitchBehind (rules : Rules) (records : List Record) : Type 0 where
+  pub switch : Started
+  pub start : switch.start ≡ tape_start rules
+  pub stands : SwitchStands switch (steps_of rules records)
+
 -- Behind its rules the tape has these records. Their steps, each with its answer, are a legal history
--- of a switch with these rules, which some state of the switch stands for. What they send on any leg of
--- any circuit begins what the one-thread relay sends there.
+-- of a switch with these rules, and some such switch stands for them. What they send on any leg of any
+-- circuit begins what the one-thread relay sends there.
 pub record FirstRecords (rules : Rules) (tape first rest : List ℕ) (records : List Record) : Type 0 where
   pub ahead : rules_ahead tape ≡ rules_and rules first
   pub read : IsRecords first records rest
-  pub state : State
-  pub stands : Stands (tape_start rules) state (steps_of rules records)
+  pub behind : SwitchBehind rules records
   pub legal : IsLegal (tape_start rules) (steps_of rules records)
   pub sends : (c k : ℕ) → BeginsOnLeg (tape_start rules) (steps_of rules records) c k
   pub front : IsFrontOfOutput rules first (output rules records)

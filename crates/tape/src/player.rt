@@ -9,6 +9,7 @@ ghost use Rattle.tape.specs.TapeRules.{tape_rules};
 use crate::kinds::channel_up::write_up;
 use crate::kinds::next_cell::write_next;
 use crate::kinds::open_circuit::{opening_kind, write_open};
+use crate::kinds::tear_down::write_tear_down;
 use crate::record::Record;
 use crate::rules::TapeRules;
 use cell_codec::{Body, Bytes, Cell, List};
@@ -32,6 +33,7 @@ impl Player {
     pub fn new(alloc: Global, rules: &TapeRules) -> Result<Player, AllocError>
         ensures start { IfOk result (λ p. p.switch.start ≡ tape_start (tape_rules rules.now.window rules.now.least)) }
         ensures state { IfOk result (λ p. p.switch.state ≡ new_state) }
+        ensures relays { IfOk result (λ p. p.switch.relays ≡ []) }
         ensures answers { IfOk result (λ p. p.answers.items ≡ []) }
     {
         Ok(Player {
@@ -63,7 +65,7 @@ impl Player {
         requires steps { self.old.switch.state.steps < 2 ^ 62 }
         ensures start { self.new.switch.start ≡ self.old.switch.start }
         ensures steps { self.new.switch.state.steps ≤ self.old.switch.state.steps + 1 }
-        ensures ok { OnOk result (PlaysOn self.old.switch.start.rules «record» self.old.switch.state self.new.switch.state self.old.answers.items self.new.answers.items) }
+        ensures ok { OnOk result (PlaysOn self.old.switch.start.rules «record» self.old.switch self.new.switch self.old.answers.items self.new.answers.items) }
         ensures err { OnErr result (self.new.answers.items ≡ self.old.answers.items) }
     {
         match record {
@@ -86,6 +88,10 @@ impl Player {
             Record::NextCell(chan, tick) => {
                 let answer = self.switch.next_cell(chan, tick);
                 write_next(&answer, &mut self.answers)
+            }
+            Record::TearDown(circ, reason) => {
+                let answer = self.switch.tear_down(circ, reason);
+                write_tear_down(answer, &mut self.answers)
             }
         }
     }

@@ -5,7 +5,7 @@ ghost use Rattle.tape.specs.Fronts.{record_and, FrontIs, RestIsShorter};
 ghost use Rattle.tape.specs.Records.{front_of};
 ghost use Rattle.tape.specs.Spelling.{spelling, FitsFields};
 
-use crate::kinds::{channel_up, next_cell, open_circuit};
+use crate::kinds::{channel_up, next_cell, open_circuit, tear_down};
 use crate::record::Front;
 
 /// Reads the record at the front of the bytes: whatever spells one is read as it, and what is read
@@ -33,8 +33,9 @@ fn front(bytes: &[u8]) -> Front<'_>
         0x01 => channel_up::read(fields),
         0x03 => open_circuit::read(fields),
         0x08 => next_cell::read(fields),
+        0x0e => tear_down::read(fields),
         0x0f => open_circuit::read_padded(fields),
-        0x02 | 0x04..=0x07 | 0x09..=0x0e => Front::NotBuilt(*kind),
+        0x02 | 0x04..=0x07 | 0x09..=0x0d => Front::NotBuilt(*kind),
         _ => Front::Bad,
     }
 }

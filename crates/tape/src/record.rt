@@ -4,7 +4,7 @@ ghost use Rattle.tor_spec.specs.CellCommands.{asks_for_circuit};
 ghost use Rattle.tape.specs.Kinds.OpenCircuit.{command_byte};
 
 use cell_codec::command::{CREATE, CREATE_FAST, CREATE2};
-use tr_io::names::{ChanNo, Side};
+use tr_io::names::{ChanNo, CircNo, Side};
 
 /// The commands that ask for a circuit (tor-spec, "Cell format").
 #[derive(Clone, Copy)]
@@ -49,6 +49,8 @@ pub enum Record {
     OpenCircuit(ChanNo, [u8; 20], Option<[u8; 16]>, CircuitRequest),
     /// `next_cell`: the channel, the tick.
     NextCell(ChanNo, u64),
+    /// `tear_down`: the circuit, the reason.
+    TearDown(CircNo, u8),
 }
 
 /// What the bytes of a tape begin with.

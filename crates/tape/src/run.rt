@@ -123,6 +123,7 @@ fn play_records<K: Sink>(
     requires start { player.old.switch.start ≡ tape_start player.old.switch.start.rules }
     requires within { length first.now ≤ length input.now.bytes.items }
     requires state { player.old.switch.state ≡ new_state }
+    requires relays { player.old.switch.relays ≡ [] }
     requires answers { player.old.answers.items ≡ [] }
     ensures status { IfOk result IsRunStatus }
     ensures read { IfOk result (λ status. status ≡ Status.ReadFault → input.now.ending ≡ Ending.Fault) }

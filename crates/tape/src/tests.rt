@@ -2,6 +2,8 @@
 //! is SHA-1 of 41 zero bytes, computed elsewhere.
 ghost use Rattle.std.specs.Prelude.{◌≤◌};
 
+mod tear_down;
+
 use crate::tape_main;
 use std::alloc::{AllocError, Global};
 use std::test::Fail;
@@ -300,7 +302,8 @@ fn bytes_that_begin_no_built_record_end_the_tape(rt: HostRuntime) -> Result<(), 
         ([0x04, 0, 0, 0, 0, 0], Status::NotBuilt(4)),
         ([0x07, 0, 0, 0, 0, 0], Status::NotBuilt(7)),
         ([0x09, 0, 0, 0, 0, 0], Status::NotBuilt(9)),
-        ([0x0e, 0, 0, 0, 0, 0], Status::NotBuilt(14)),
+        ([0x0d, 0, 0, 0, 0, 0], Status::NotBuilt(13)),
+        ([0x0e, 0, 0, 0, 0, 0], Status::BadTape(6)),
     ] {
         let mut tape = Vec::new(rt.alloc());
         put(&mut tape, &[1, 0, 0, 0, 0, 0])?;

@@ -1,7 +1,9 @@
 //! The kinds of records, a file a kind: how the fields are read, and how the answer is spelled.
+mod back;
 pub mod channel_up;
 pub mod next_cell;
 pub mod open_circuit;
+pub mod tear_down;
 
 ghost use Rattle.std.specs.Prelude.{◌≡◌, ◌++◌, OnOk, OnErr};
 
