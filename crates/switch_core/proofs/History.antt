@@ -1,5 +1,5 @@
 -- Each call of the machine as a step of the histories that a switch stands for.
-use Rattle.std.proofs.Common.{List, ◌≡◌, ◌≤◌, ◌+◌, ℕ, [], Option, sym, ap, subst, arith}
+use Rattle.std.proofs.Common.{List, ◌≡◌, ◌≤◌, ◌+◌, ℕ, Option, ap, arith}
 use Rattle.std.specs.Prelude.{⊤, false, IfSome, IsTrue}
 use Rattle.cell_codec.specs.Cells.{is_var}
 use Rattle.cell_codec.specs.declared.cell.Cell.{Cell}
@@ -12,7 +12,6 @@ use Rattle.tr_io.specs.declared.names.Side.{Side}
 use Rattle.tr_io.specs.declared.step.Step.TheVariants.{ChannelUp, OpenCircuit, NextCell}
 use Rattle.switch_model.specs.Start.{Start}
 use Rattle.switch_machine.specs.State.{State}
-use Rattle.switch_machine.specs.Machine.{new_state}
 use Rattle.switch_machine.specs.Calls.ChannelUp.{channel_up_result, channel_up_state}
 use Rattle.switch_machine.specs.Calls.OpenCircuit.{open_result, open_state}
 use Rattle.switch_machine.specs.Adds.{Adds, UpCase, OpenCase}

@@ -1,8 +1,10 @@
 -- At most as many DESTROYs wait on a channel as steps were made.
-use Rattle.std.proofs.Common.{◌≡◌, ℕ, ◌+◌, ◌++◌, ◌<◌, ◌≤◌, ◌==◌, if◌then◌else◌, List, [], ◌∷◌, length, get_or, slice_get, slice_set, Option, Some, None, sym, ap, ◌∙◌, subst, arith, zero, suc, refl}
+use Rattle.std.proofs.Common.{◌≡◌, ℕ, ◌+◌, ◌++◌, ◌<◌, ◌≤◌, ◌==◌, not, filter, Bool, true, false, if◌then◌else◌, List, [], ◌∷◌, length, get_or, slice_get, slice_set, Option, Some, sym, ap, ◌∙◌, subst, arith, zero, suc, refl}
 use Rattle.switch_machine.specs.State.{ChannelState, CircuitState, State}
+use Rattle.switch_machine.specs.Calls.Take.{without_destroys}
 use Rattle.switch_machine.proofs.PlainLists.{length-all_there}
 use Rattle.switch_core.specs.Meaning.{LanesFit, state_of}
+use Rattle.switch_core.specs.declared.counters.Counters.{Counters}
 
 pub lanes_more : (m n : ℕ) (channels : List ChannelState) → m ≤ n → LanesFit m channels → LanesFit n channels
 lanes_more m n channels below old = record { fits = λ i channel there. omega (arith, below, old.fits i channel there) }
@@ -43,8 +45,8 @@ got-at (x ∷ channels) (suc i) d below = got-at channels i d (omega arith)
 pub lanes_at : (n : ℕ) (channels : List ChannelState) (i : ℕ) (d channel : ChannelState) → LanesFit n channels → i < length channels → channel ≡ get_or channels i d → length channel.lane ≤ n
 lanes_at n channels i d channel old below is = old.fits i channel (got-at channels i d below ∙ ap Some (sym is))
 
-pub below_in : (steps tick : ℕ) (channels : List ChannelState) (circuits : List (Option CircuitState)) (s : State) (n : ℕ) → state_of steps tick channels circuits ≡ s → n < length s.channels → n < length channels
-below_in steps tick channels circuits s n is below = subst (λ k. n < k) (ap (λ (x : State). length x.channels) (sym is) ∙ length-all_there channels) below
+pub below_in : (k : Counters) (channels : List ChannelState) (circuits : List (Option CircuitState)) (s : State) (n : ℕ) → state_of k channels circuits ≡ s → n < length s.channels → n < length channels
+below_in k channels circuits s n is below = subst (λ k. n < k) (ap (λ (x : State). length x.channels) (sym is) ∙ length-all_there channels) below
 
 -- one channel's lane grew by at most one, in a step
 pub lanes_step : (n : ℕ) (channels : List ChannelState) (i : ℕ) (d old new : ChannelState) → LanesFit n channels → i < length channels → old ≡ get_or channels i d → length new.lane ≤ length old.lane + 1 →
@@ -58,3 +60,15 @@ pub lanes_same : (n : ℕ) (channels : List ChannelState) (i : ℕ) (d old new :
     LanesFit n (slice_set channels i new)
 lanes_same n channels i d old new fits below is shorter =
     lanes_set n channels i new fits (let had : length old.lane ≤ n = lanes_at n channels i d old fits below is in omega (arith, had, shorter))
+
+fewer-by : {A : Type 0} (p : A → Bool) (x : A) (xs : List A) (b : Bool) → length (filter p xs) ≤ length xs → length (if b then x ∷ filter p xs else filter p xs) ≤ length (x ∷ xs)
+fewer-by p x xs true few = omega (arith, few)
+fewer-by p x xs false few = omega (arith, few)
+
+fewer : {A : Type 0} (p : A → Bool) (xs : List A) → length (filter p xs) ≤ length xs
+fewer p [] = omega arith
+fewer p (x ∷ xs) = fewer-by p x xs (p x) (fewer p xs)
+
+-- DESTROYs that are taken away
+pub freed_shorter : (id : ℕ) (old new : ChannelState) → new ≡ without_destroys id old → length new.lane ≤ length old.lane
+freed_shorter id old new is = subst (λ (x : ChannelState). length x.lane ≤ length old.lane) (sym is) (fewer (λ d. not (d.id == id)) old.lane)

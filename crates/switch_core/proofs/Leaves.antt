@@ -1,14 +1,15 @@
 -- What a cell that leaves makes of the switch's parts.
-use Rattle.std.proofs.Common.{◌≡◌, ◌<◌, ◌≤◌, ◌+◌, ◌-◌, ◌==◌, ℕ, Bool, true, false, if◌then◌else◌, option_to_list, List, [], ◌∷◌, length, get_or, max, Option, Some, None, IfSome, IfNone, slice_set, refl, sym, ap, subst, ◌∙◌, arith, zero, suc}
+use Rattle.std.proofs.Common.{◌≡◌, ◌<◌, ◌≤◌, ◌+◌, ◌-◌, ◌==◌, ℕ, Bool, true, false, if◌then◌else◌, List, [], ◌∷◌, length, get_or, max, Option, Some, None, IfSome, IfNone, slice_set, refl, sym, ap, subst, ◌∙◌, arith, zero, suc}
 use Rattle.cell_codec.specs.declared.cell.Cell.{Cell}
 use Rattle.circuit_model.specs.Events.{CircuitCell}
 use Rattle.tor_spec.specs.CellCommands.{destroy_command}
 use Rattle.switch_model.specs.Names.{Leg}
-use Rattle.switch_machine.specs.State.{ChannelState, LegState, CircuitState, State, slot_at, with_slot, all_there}
+use Rattle.switch_machine.specs.State.{ChannelState, LegState, WayState, CircuitState, State, slot_at, with_slot, all_there}
 use Rattle.switch_machine.specs.Machine.{leg_at, leg_in}
 use Rattle.switch_machine.specs.Calls.NextCell.{ticked, first_cell, cell_of_leg, picked_leg, sent_first, circuit_sent, with_leg, sent_from, lane_of, next_cell_result, next_cell_state}
 use Rattle.switch_machine.proofs.PlainLists.{length-all_there, with_slot-all_there}
-use Rattle.switch_core.specs.Meaning.{state_of, circuit_of, FirstLeaves}
+use Rattle.switch_core.specs.Meaning.{state_of, home_count, circuit_of, FirstLeaves}
+use Rattle.switch_core.specs.declared.counters.Counters.{Counters}
 use Rattle.switch_core.specs.Picking.{first_leg_of, FirstSent, SlotSent, DestroyLeaves}
 use Rattle.switch_core.proofs.Gone.{slot-get, slot-set, with-same}
 use Rattle.switch_core.proofs.Plain.{there}
@@ -20,26 +21,26 @@ there_in xs slots n d is below =
     ap (λ l. slot_at l n) (sym is)
     ∙ there xs n d (subst (λ k. n < k) (ap length (sym is) ∙ length-all_there xs) below)
 
-pub channel_at : (steps tick : ℕ) (channels : List ChannelState) (circuits : List (Option CircuitState)) (s : State) (n : ℕ) (d : ChannelState) → state_of steps tick channels circuits ≡ s → n < length s.channels →
+pub channel_at : (k : Counters) (channels : List ChannelState) (circuits : List (Option CircuitState)) (s : State) (n : ℕ) (d : ChannelState) → state_of k channels circuits ≡ s → n < length s.channels →
     slot_at s.channels n ≡ Some (get_or channels n d)
-channel_at steps tick channels circuits s n d is below = there_in channels s.channels n d (ap (λ x. x.channels) is) below
+channel_at k channels circuits s n d is below = there_in channels s.channels n d (ap (λ x. x.channels) is) below
 
-pub circuit_at : (steps tick : ℕ) (channels : List ChannelState) (circuits : List (Option CircuitState)) (s : State) (n : ℕ) (d : Option CircuitState) → state_of steps tick channels circuits ≡ s → n < length s.circuits →
+pub circuit_at : (k : Counters) (channels : List ChannelState) (circuits : List (Option CircuitState)) (s : State) (n : ℕ) (d : Option CircuitState) → state_of k channels circuits ≡ s → n < length s.circuits →
     slot_at s.circuits n ≡ get_or circuits n d
-circuit_at steps tick channels circuits s n d is below =
+circuit_at k channels circuits s n d is below =
     ap (λ (x : State). slot_at x.circuits n) (sym is)
     ∙ slot-get circuits n d (subst (λ (x : State). n < length x.circuits) (sym is) below)
 
-pub channel_put : (steps tick : ℕ) (channels : List ChannelState) (circuits : List (Option CircuitState)) (s : State) (n : ℕ) (new : ChannelState) → state_of steps tick channels circuits ≡ s →
-    state_of steps tick (slice_set channels n new) circuits ≡ record s { channels = with_slot s.channels n (Some new) }
-channel_put steps tick channels circuits s n new is =
-    ap {A = List (Option ChannelState)} (λ l. record (state_of steps tick channels circuits) { channels = l }) (sym (with_slot-all_there channels n new))
+pub channel_put : (k : Counters) (channels : List ChannelState) (circuits : List (Option CircuitState)) (s : State) (n : ℕ) (new : ChannelState) → state_of k channels circuits ≡ s →
+    state_of k (slice_set channels n new) circuits ≡ record s { channels = with_slot s.channels n (Some new) }
+channel_put k channels circuits s n new is =
+    ap {A = List (Option ChannelState)} (λ l. record (state_of k channels circuits) { channels = l }) (sym (with_slot-all_there channels n new))
     ∙ ap {A = State} (λ x. record x { channels = with_slot x.channels n (Some new) }) is
 
-pub circuit_put : (steps tick : ℕ) (channels : List ChannelState) (circuits : List (Option CircuitState)) (s : State) (n : ℕ) (new : Option CircuitState) → state_of steps tick channels circuits ≡ s →
-    state_of steps tick channels (slice_set circuits n new) ≡ record s { circuits = with_slot s.circuits n new }
-circuit_put steps tick channels circuits s n new is =
-    ap {A = List (Option CircuitState)} (λ l. record (state_of steps tick channels circuits) { circuits = l }) (sym (slot-set circuits n new))
+pub circuit_put : (k : Counters) (channels : List ChannelState) (circuits : List (Option CircuitState)) (s : State) (n : ℕ) (new : Option CircuitState) → state_of k channels circuits ≡ s →
+    state_of k channels (slice_set circuits n new) ≡ record s { circuits = with_slot s.circuits n new }
+circuit_put k channels circuits s n new is =
+    ap {A = List (Option CircuitState)} (λ l. record (state_of k channels circuits) { circuits = l }) (sym (slot-set circuits n new))
     ∙ ap {A = State} (λ x. record x { circuits = with_slot x.circuits n new }) is
 
 pub inside : {A : Type 0} (slots : List (Option A)) (n : ℕ) (x : A) → slot_at slots n ≡ Some x → n < length slots
@@ -50,11 +51,6 @@ inside (y ∷ slots) (suc n) x there = let rest : n < length slots = inside slot
 
 -- a leg's first cell
 
--- one cell at most waits on it
-pub at_most_one : {A : Type 0} (o : Option A) → length (option_to_list o) ≤ 1
-at_most_one None = omega arith
-at_most_one (Some x) = omega arith
-
 new-queue : (b : Bool) (old new : LegState) (cells : List CircuitCell) (count now : ℕ) → Some new ≡ (if b then None else Some (record old { queue = cells; count = count; counted_at = now })) → new.queue ≡ cells
 new-queue true old new cells count now e = absurd cc
 new-queue false old new cells count now e = cc
@@ -62,18 +58,29 @@ new-queue false old new cells count now e = cc
 circuit-same : (x : CircuitState) (m n : ℕ) (legs more : List (Option LegState)) → m ≡ n → legs ≡ more → ◌≡◌ {A = CircuitState} (record x { sent_count = m; legs = legs }) (record x { sent_count = n; legs = more })
 circuit-same x m n legs more e f = rw (e, f) refl
 
-sent-by : (old new : LegState) (now : ℕ) (cells : List CircuitCell) → length cells ≤ 1 → old.queue ≡ cells → Some new ≡ sent_first now old cells → circuit_of new ≡ circuit_sent now 0 (circuit_of old) old cells
+sent-by : (forth back : WayState) (old new : LegState) (now : ℕ) (cells : List CircuitCell) → length cells ≤ 1 + home_count back → old.queue ≡ cells → Some new ≡ sent_first now old cells →
+    circuit_of new forth back ≡ circuit_sent now 0 (circuit_of old forth back) old cells
 unfolding slot_at with_slot
-sent-by old new now [] single queued e = let same : new ≡ old = cc in ap circuit_of same
-sent-by old new now (cell ∷ []) single queued e =
-    let none : length new.queue ≡ 0 = ap length (new-queue (cell.command == destroy_command) old new [] _ now e) in
-    let one : length old.queue ≡ 1 = ap length queued in
-    circuit-same (circuit_of old) (1 - length new.queue) (1 - length old.queue + 1) (Some new ∷ []) (sent_first now old (cell ∷ []) ∷ []) (omega (arith, none, one)) (ap (λ o. o ∷ []) e)
-sent-by old new now (cell ∷ other ∷ cells) single queued e = absurd (omega (arith, single))
+sent-by forth back old new now [] fits queued e = let same : new ≡ old = cc in ap (λ leg. circuit_of leg forth back) same
+sent-by forth back old new now (cell ∷ cells) fits queued e =
+    let fewer : length new.queue ≡ length cells = ap length (new-queue (cell.command == destroy_command) old new cells _ now e) in
+    let all : length old.queue ≡ suc (length cells) = ap length queued in
+    circuit-same (circuit_of old forth back) (1 + home_count back - length new.queue) (1 + home_count back - length old.queue + 1) (Some new ∷ []) (sent_first now old (cell ∷ cells) ∷ []) (omega (arith, fewer, all, fits)) (ap (λ o. o ∷ []) e)
 
-pub first_sent : (old new : LegState) (now : ℕ) → length old.queue ≤ 1 → Some new ≡ sent_first now old old.queue → FirstSent now (circuit_of old) (circuit_of new)
+pub first_sent : (forth back : WayState) (old new : LegState) (now : ℕ) → length old.queue ≤ 1 + home_count back → Some new ≡ sent_first now old old.queue → FirstSent now (circuit_of old forth back) (circuit_of new forth back)
 unfolding slot_at
-first_sent old new now single e = record { found = old; first = refl; sent = sent-by old new now old.queue single refl e }
+first_sent forth back old new now fits e = record { found = old; first = refl; sent = sent-by forth back old new now old.queue fits refl e }
+
+fewer-by : (old new : LegState) (now : ℕ) (cells : List CircuitCell) → old.queue ≡ cells → Some new ≡ sent_first now old cells → length new.queue ≤ length old.queue
+fewer-by old new now [] queued e = let same : new ≡ old = cc in omega (arith, ap (λ (l : LegState). length l.queue) same)
+fewer-by old new now (cell ∷ cells) queued e =
+    let fewer : length new.queue ≡ length cells = ap length (new-queue (cell.command == destroy_command) old new cells _ now e) in
+    let all : length old.queue ≡ suc (length cells) = ap length queued in
+    omega (arith, fewer, all)
+
+-- no more cells wait than before
+pub fewer_wait : (old new : LegState) (now : ℕ) → Some new ≡ sent_first now old old.queue → length new.queue ≤ length old.queue
+fewer_wait old new now e = fewer-by old new now old.queue refl e
 
 sent-slot : (s t : State) (now n : ℕ) (old new : Option CircuitState) → slot_at s.circuits n ≡ old → SlotSent now old new →
     t ≡ record s { circuits = with_slot s.circuits n new } → t ≡ sent_from s now (Some (first_leg_of n))

@@ -8,3 +8,8 @@ pub mod Relays
 pub mod Whole
 pub mod Lanes
 pub mod TearDown
+pub mod Steps
+pub mod Finding
+pub mod Ways
+pub mod Taken
+pub mod Takes

@@ -3,14 +3,12 @@ use Rattle.std.proofs.Common.{◌≡◌, ℕ, ◌+◌, ◌==◌, ◌++◌, Bool,
 use Rattle.std.proofs.lemmas.Bool.Decides.{nat_tests}
 use Rattle.cell_codec.specs.declared.cell.Cell.{Cell}
 use Rattle.circ_relay.specs.CircuitOfLog.{IsCircuit}
-use Rattle.circ_relay.specs.declared.circuit.Circuit.{Circuit}
 use Rattle.circuit_model.specs.Effects.{open_effects}
 use Rattle.circuit_model.specs.Events.{Event, CircuitCell}
 use Rattle.circuit_model.specs.declared.event.Event.TheVariants.{Born}
 use Rattle.circuit_model.specs.Rules.{Rules}
 use Rattle.crypto_spec.specs.HopLayer.{fresh_opening}
 use Rattle.hop_crypto.specs.OpenerState.{opener_of}
-use Rattle.hop_crypto.specs.declared.cipher.Cipher.{Cipher}
 use Rattle.hop_crypto.specs.declared.cipher.Cipher.TheVariants.{Forth, Back}
 use Rattle.kdf_tor.specs.declared.LayerKeys.{LayerKeys}
 use Rattle.tr_io.specs.declared.step.Step.{Step}
@@ -18,7 +16,6 @@ use Rattle.switch_model.specs.Names.{circuit_cell}
 use Rattle.switch_model.specs.History.Circuit.{is_live_circuit, events}
 use Rattle.switch_model.specs.History.Legs.{circuits}
 use Rattle.switch_model.specs.History.Past.{Past, past}
-use Rattle.switch_model.specs.Waiting.Queues.{sealed_count}
 use Rattle.switch_model.proofs.Common.{self_eq, same-number}
 use Rattle.switch_machine.specs.State.{slot_at}
 use Rattle.switch_machine.specs.Stands.OneCircuit.{no_past}

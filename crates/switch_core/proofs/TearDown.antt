@@ -22,7 +22,8 @@ use Rattle.switch_machine.specs.Machine.{counted}
 use Rattle.switch_machine.specs.State.{ChannelState, LegState, CircuitState, State, slot_at, with_slot, all_there}
 use Rattle.switch_machine.specs.Stands.OneCircuit.{CircuitAt}
 use Rattle.switch_machine.proofs.TearDown.Law.{tear_down_adds}
-use Rattle.switch_core.specs.Meaning.{state_of, circuit_of, TakenOut}
+use Rattle.switch_core.specs.Meaning.{state_of, OfLeg, TakenOut}
+use Rattle.switch_core.specs.declared.counters.Counters.{Counters}
 use Rattle.switch_core.specs.Opened.{Forgets}
 use Rattle.switch_core.specs.Relays.{RelaysStand}
 use Rattle.switch_core.specs.Started.{SwitchAdds}
@@ -88,16 +89,16 @@ one_lane leg reason n channels d at inside = near leg reason 0 n channels d insi
 
 -- the lists behind it
 
-pub put_none : (steps tick : ℕ) (channels : List ChannelState) (circuits : List (Option CircuitState)) (s : State) (leg : LegState) (reason : ℕ) → state_of steps tick channels circuits ≡ s → length channels ≤ leg.chan →
-    state_of (steps + 1) tick channels circuits ≡ record (counted s) { channels = with_lanes (λ n. destroy_of n reason (Some leg)) 0 s.channels }
-put_none steps tick channels circuits s leg reason is beyond =
-    ap {A = List (Option ChannelState)} (λ l. record (counted (state_of steps tick channels circuits)) { channels = l }) (sym (no_lane leg reason channels beyond))
+pub put_none : (k : Counters) (channels : List ChannelState) (circuits : List (Option CircuitState)) (s : State) (leg : LegState) (reason : ℕ) → state_of k channels circuits ≡ s → length channels ≤ leg.chan →
+    state_of (record k { steps = k.steps + 1 }) channels circuits ≡ record (counted s) { channels = with_lanes (λ n. destroy_of n reason (Some leg)) 0 s.channels }
+put_none k channels circuits s leg reason is beyond =
+    ap {A = List (Option ChannelState)} (λ l. record (counted (state_of k channels circuits)) { channels = l }) (sym (no_lane leg reason channels beyond))
     ∙ ap {A = State} (λ x. record (counted x) { channels = with_lanes (λ n. destroy_of n reason (Some leg)) 0 x.channels }) is
 
-pub put_one : (steps tick : ℕ) (channels : List ChannelState) (circuits : List (Option CircuitState)) (s : State) (leg : LegState) (reason n : ℕ) (d new : ChannelState) → state_of steps tick channels circuits ≡ s → leg.chan ≡ n → n < length channels →
-    new ≡ with_more (get_or channels n d) (one_destroy leg reason) → state_of (steps + 1) tick (slice_set channels n new) circuits ≡ record (counted s) { channels = with_lanes (λ m. destroy_of m reason (Some leg)) 0 s.channels }
-put_one steps tick channels circuits s leg reason n d new is at inside put =
-    ap {A = List (Option ChannelState)} (λ l. record (counted (state_of steps tick channels circuits)) { channels = l })
+pub put_one : (k : Counters) (channels : List ChannelState) (circuits : List (Option CircuitState)) (s : State) (leg : LegState) (reason n : ℕ) (d new : ChannelState) → state_of k channels circuits ≡ s → leg.chan ≡ n → n < length channels →
+    new ≡ with_more (get_or channels n d) (one_destroy leg reason) → state_of (record k { steps = k.steps + 1 }) (slice_set channels n new) circuits ≡ record (counted s) { channels = with_lanes (λ m. destroy_of m reason (Some leg)) 0 s.channels }
+put_one k channels circuits s leg reason n d new is at inside put =
+    ap {A = List (Option ChannelState)} (λ l. record (counted (state_of k channels circuits)) { channels = l })
     (sym (with_slot-all_there channels n new) ∙ ap (λ x. with_slot (all_there channels) n (Some x)) put ∙ sym (one_lane leg reason n channels d at inside))
     ∙ ap {A = State} (λ x. record (counted x) { channels = with_lanes (λ m. destroy_of m reason (Some leg)) 0 x.channels }) is
 
@@ -108,28 +109,28 @@ longer_by old new more leg reason is one =
 
 -- a circuit that is taken out
 
-pub out_far : (steps tick : ℕ) (channels : List ChannelState) (circuits : List (Option CircuitState)) (s : State) (c : ℕ) → state_of steps tick channels circuits ≡ s → length circuits ≤ c → slot_at s.circuits c ≡ None
-out_far steps tick channels circuits s c is far = ap (λ (x : State). slot_at x.circuits c) (sym is) ∙ slot_at-past circuits c far
+pub out_far : (k : Counters) (channels : List ChannelState) (circuits : List (Option CircuitState)) (s : State) (c : ℕ) → state_of k channels circuits ≡ s → length circuits ≤ c → slot_at s.circuits c ≡ None
+out_far k channels circuits s c is far = ap (λ (x : State). slot_at x.circuits c) (sym is) ∙ slot_at-past circuits c far
 
-found-at : (steps tick : ℕ) (channels : List ChannelState) (circuits : List (Option CircuitState)) (s : State) (c : ℕ) (old o : Option CircuitState) → state_of steps tick channels circuits ≡ s → c < length circuits →
+found-at : (k : Counters) (channels : List ChannelState) (circuits : List (Option CircuitState)) (s : State) (c : ℕ) (old o : Option CircuitState) → state_of k channels circuits ≡ s → c < length circuits →
     old ≡ get_or circuits c old → o ≡ old → slot_at s.circuits c ≡ o
-found-at steps tick channels circuits s c old o is below at same = ap (λ (x : State). slot_at x.circuits c) (sym is) ∙ slot-get circuits c old below ∙ sym at ∙ sym same
+found-at k channels circuits s c old o is below at same = ap (λ (x : State). slot_at x.circuits c) (sym is) ∙ slot-get circuits c old below ∙ sym at ∙ sym same
 
-pub out_some : (steps tick : ℕ) (channels : List ChannelState) (circuits : List (Option CircuitState)) (s : State) (c : ℕ) (old o new : Option CircuitState) → state_of steps tick channels circuits ≡ s → c < length circuits →
-    old ≡ get_or circuits c old → o ≡ old → new ≡ None → IfSome o (λ x. TakenOut s (state_of steps tick channels (slice_set circuits c new)) c x)
-out_some steps tick channels circuits s c old None new is below at same none = tt
-out_some steps tick channels circuits s c old (Some x) new is below at same none = record {
-  live = found-at steps tick channels circuits s c old (Some x) is below at same;
-  left = circuit_put steps tick channels circuits s c new is ∙ ap (λ (y : Option CircuitState). record s { circuits = with_slot s.circuits c y }) none;
+pub out_some : (k : Counters) (channels : List ChannelState) (circuits : List (Option CircuitState)) (s : State) (c : ℕ) (old o new : Option CircuitState) → state_of k channels circuits ≡ s → c < length circuits →
+    old ≡ get_or circuits c old → o ≡ old → new ≡ None → IfSome o (λ x. TakenOut s (state_of k channels (slice_set circuits c new)) c x)
+out_some k channels circuits s c old None new is below at same none = tt
+out_some k channels circuits s c old (Some x) new is below at same none = record {
+  live = found-at k channels circuits s c old (Some x) is below at same;
+  left = circuit_put k channels circuits s c new is ∙ ap (λ (y : Option CircuitState). record s { circuits = with_slot s.circuits c y }) none;
   again = ap (λ (y : State). y.again) (sym is);
 }
 
-pub out_none : (steps tick : ℕ) (channels : List ChannelState) (circuits : List (Option CircuitState)) (s : State) (c : ℕ) (old o new : Option CircuitState) → state_of steps tick channels circuits ≡ s → c < length circuits →
-    old ≡ get_or circuits c old → o ≡ old → new ≡ None → IfNone o ((slot_at s.circuits c ≡ None) × (state_of steps tick channels (slice_set circuits c new) ≡ s))
-out_none steps tick channels circuits s c old (Some x) new is below at same none = tt
-out_none steps tick channels circuits s c old None new is below at same none =
-    let gone : slot_at s.circuits c ≡ None = found-at steps tick channels circuits s c old None is below at same in
-    (gone, circuit_put steps tick channels circuits s c new is ∙ ap (λ (y : Option CircuitState). record s { circuits = with_slot s.circuits c y }) (none ∙ sym gone) ∙ ap {A = List (Option CircuitState)} (λ l. record s { circuits = l }) (with-same s.circuits c))
+pub out_none : (k : Counters) (channels : List ChannelState) (circuits : List (Option CircuitState)) (s : State) (c : ℕ) (old o new : Option CircuitState) → state_of k channels circuits ≡ s → c < length circuits →
+    old ≡ get_or circuits c old → o ≡ old → new ≡ None → IfNone o ((slot_at s.circuits c ≡ None) × (state_of k channels (slice_set circuits c new) ≡ s))
+out_none k channels circuits s c old (Some x) new is below at same none = tt
+out_none k channels circuits s c old None new is below at same none =
+    let gone : slot_at s.circuits c ≡ None = found-at k channels circuits s c old None is below at same in
+    (gone, circuit_put k channels circuits s c new is ∙ ap (λ (y : Option CircuitState). record s { circuits = with_slot s.circuits c y }) (none ∙ sym gone) ∙ ap {A = List (Option CircuitState)} (λ l. record s { circuits = l }) (with-same s.circuits c))
 
 -- the machine's call
 
@@ -142,10 +143,10 @@ gone_result s c reason none = rw none refl
 pub torn_result : (s mid : State) (c reason : ℕ) (x : CircuitState) → TakenOut s mid c x → BackAnswer.Down reason ≡ tear_down_result s c reason
 torn_result s mid c reason x out = rw out.live refl
 
-pub torn_one : (rules : Rules) (ev : ℕ → List Event) (s mid new : State) (c reason : ℕ) (x : CircuitState) (leg : LegState) → TakenOut s mid c x → x ≡ circuit_of leg →
+pub torn_one : (rules : Rules) (ev : ℕ → List Event) (s mid new : State) (c reason : ℕ) (x : CircuitState) (leg : LegState) → TakenOut s mid c x → OfLeg x leg →
     new ≡ record (counted mid) { channels = with_lanes (λ n. destroy_of n reason (Some leg)) 0 mid.channels } → new ≡ tear_down_state rules ev s c reason
 unfolding slot_at
-torn_one rules ev s mid new c reason x leg out is put = put ∙ rw (out.left, out.live, is, out.again) refl
+torn_one rules ev s mid new c reason x leg out of put = put ∙ rw (out.left, out.live, of.is, out.again) refl
 
 -- the step
 

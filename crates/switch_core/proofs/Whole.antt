@@ -24,11 +24,10 @@ use Rattle.switch_machine.specs.Calls.ChannelUp.{channel_up_result, channel_up_s
 use Rattle.switch_machine.specs.Calls.NextCell.{next_cell_result, next_cell_state}
 use Rattle.switch_machine.specs.Calls.OpenCircuit.{is_id_taken, has_peers_bit, open_result, open_result_on, open_state}
 use Rattle.switch_machine.specs.Adds.{Adds, UpCase, OpenCase}
-use Rattle.switch_machine.specs.Stands.{Stands}
 use Rattle.switch_machine.proofs.Laws.{stands_new, channel_up_adds, open_adds, next_cell_adds}
 use Rattle.switch_core.specs.Opened.{OneRelayMore, KeepsBy}
 use Rattle.switch_core.specs.Relays.{RelaysStand}
-use Rattle.switch_core.specs.Started.{Started, SwitchStands, SwitchStandsForSome, SwitchAdds}
+use Rattle.switch_core.specs.Started.{Started, SwitchStandsForSome, SwitchAdds}
 use Rattle.switch_core.specs.declared.relay.Relay.{Relay}
 use Rattle.switch_core.proofs.Relays.{opened_relays}
 

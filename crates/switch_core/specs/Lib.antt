@@ -3,3 +3,4 @@ pub mod Picking
 pub mod Relays
 pub mod Opened
 pub mod Started
+pub mod Taking

@@ -5,6 +5,7 @@ use Rattle.circuit_model.specs.declared.event.Event.TheVariants.{Born}
 use Rattle.circuit_model.specs.Rules.{Rules}
 use Rattle.kdf_tor.specs.declared.LayerKeys.{LayerKeys}
 use Rattle.tr_io.specs.declared.answers.OpenAnswer.{OpenAnswer}
+use Rattle.tr_io.specs.declared.answers.TakeAnswer.{TakeAnswer}
 use Rattle.switch_machine.specs.State.{slot_at}
 use Rattle.switch_core.specs.Relays.{RelayStands}
 use Rattle.switch_core.specs.declared.relay.Relay.{Relay}
@@ -30,3 +31,10 @@ pub record Forgets (old new : List (Option Relay)) (c : ℕ) : Type 0 where
   pub count : length new ≡ length old
   pub gone : slot_at new c ≡ None
   pub others : (d : ℕ) → (d == c) ≡ false → slot_at new d ≡ slot_at old d
+
+-- A cell that tears its circuit down has the relay forgotten, and no other has.
+abbrev pub TakeForgets : TakeAnswer → List (Option Relay) → List (Option Relay) → Type 0
+TakeForgets (TakeAnswer.Down circ reason) old new = Forgets old new circ.0
+TakeForgets TakeAnswer.Queued old new = new ≡ old
+TakeForgets (TakeAnswer.PassedOver why) old new = new ≡ old
+TakeForgets TakeAnswer.Memory old new = new ≡ old

@@ -1,5 +1,5 @@
 -- When what is kept of the circuits for the one-thread relay is what a history says of them.
-use Rattle.std.specs.Prelude.{ℕ, ◌≡◌, ⊤, List, length, Bool, true, false, Option, Some, None}
+use Rattle.std.specs.Prelude.{ℕ, ◌≡◌, List, length, Bool, true, false, Option, Some, None}
 use Rattle.circuit_model.specs.Batches.{next_layer}
 use Rattle.circuit_model.specs.Events.{Event}
 use Rattle.circuit_model.specs.Opened.{born_keys}

@@ -1,5 +1,5 @@
 -- What contracts see of a switch, and when that stands for a history.
-use Rattle.std.specs.Prelude.{ℕ, ◌≡◌, ◌+◌, List, ◌∷◌, Option}
+use Rattle.std.specs.Prelude.{◌≡◌, ◌+◌, List, ◌∷◌, Option}
 use Rattle.tr_io.specs.declared.step.Step.{Step}
 use Rattle.switch_model.specs.History.Legs.{circuits}
 use Rattle.switch_model.specs.History.Past.{past}

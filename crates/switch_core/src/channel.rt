@@ -4,15 +4,17 @@ ghost use Rattle.std.specs.List.{list_any};
 ghost use Rattle.cell_codec.specs.Cells.{IsWellFormed};
 ghost use Rattle.switch_model.specs.History.Channels.{is_ours};
 ghost use Rattle.switch_machine.specs.Calls.OpenCircuit.{has_peers_bit, refusing};
+ghost use Rattle.switch_machine.specs.Calls.Take.{without_destroys};
 ghost use Rattle.switch_model.specs.Waiting.Lanes.{refusal_reason, with_refusal};
 ghost use Rattle.switch_core.specs.Meaning.{channel_of, FirstLeaves};
 
 use crate::cells::destroy_cell;
-use crate::destroy::Destroy;
+use crate::destroy::{Destroy, without_id};
 use cell_codec::{Cell, destroy_reason};
 use std::alloc::{AllocError, Global};
 use std::collections::LinkedList;
 use std::marker::Model;
+use std::mem::replace;
 use tr_io::answers::OpenRefusal;
 use tr_io::names::Side;
 
@@ -160,5 +162,15 @@ impl Channel {
     {
         let mut destroys = destroys;
         let _ = self.destroys.append(&mut destroys);
+    }
+
+    /// The DESTROYs for a CircID are taken away: the peer has ended it. It takes no memory.
+    pub fn free(&mut self, id: u32)
+        requires { length self.old.lane < 2 ^ 62 }
+        ensures { self.new ≡ without_destroys id self.old }
+    {
+        let empty = LinkedList::new(*self.destroys.allocator());
+        let destroys = replace(&mut self.destroys, empty);
+        self.destroys = without_id(destroys, id);
     }
 }

@@ -1,5 +1,10 @@
 //! A DESTROY that waits to leave on a channel.
+ghost use Rattle.std.specs.Prelude.{◌≡◌, ◌==◌, ◌<◌, ◌^◌, ◌∷◌, List, not, filter, length};
+ghost use Rattle.switch_model.specs.Waiting.Lanes.{Destroy as WaitingDestroy};
+
+use std::collections::LinkedList;
 use std::marker::Model;
+use std::mem::replace;
 
 /// A DESTROY that waits to leave. Until it has left, its CircID is in use.
 #[derive(Drop)]
@@ -18,4 +23,34 @@ impl Model for Destroy {
     ghost Value = { WaitingDestroy };
 
     ghost view = { λ d. record { id = d.id; reason = d.reason; refusal = d.is_refusal } };
+}
+
+/// The DESTROYs for other CircIDs than this, in the memory that they have.
+pub fn without_id(destroys: LinkedList<Destroy>, id: u32) -> LinkedList<Destroy>
+    requires { length destroys < 2 ^ 62 }
+    ensures { result ≡ filter (λ d. not (d.id == id)) destroys }
+{
+    let mut left = LinkedList::new(*destroys.allocator());
+    let mut rest = destroys;
+    while !rest.is_empty() {
+        let Ok(behind) = rest.split_off(1) else {
+            unreachable!()
+        };
+        let mut first = replace(&mut rest, behind);
+        if !is_for(&first, id) {
+            let _ = left.append(&mut first);
+        }
+    }
+    left
+}
+
+/// Whether the first is for this CircID.
+fn is_for(destroys: &LinkedList<Destroy>, id: u32) -> bool
+    requires { 0 < length destroys.now }
+    ensures { (rest : List WaitingDestroy) → (first : WaitingDestroy) → destroys.now ≡ first ∷ rest → result ≡ (first.id == id) }
+{
+    match destroys.front() {
+        Some(destroy) => destroy.id == id,
+        None => false,
+    }
 }

@@ -1,4 +1,4 @@
-//! The leg of a circuit towards the previous hop: its CircID on a channel, the reply that waits on
+//! The leg of a circuit towards the previous hop: its CircID on a channel, the cells that wait on
 //! it, and its decaying count of cells.
 ghost use Rattle.std.specs.Prelude.{◌≡◌, ◌≤◌, ◌∷◌, [], IfOk, IfSome, Some, IsTrue, false, length};
 ghost use Rattle.cell_codec.specs.Cells.{is_var, IsWellFormed};
@@ -9,7 +9,7 @@ ghost use Rattle.switch_model.specs.Waiting.Counts.{halved};
 ghost use Rattle.tor_spec.specs.CellCommands.{opens_circuit};
 
 use crate::destroy::Destroy;
-use cell_codec::{Body, Cell};
+use cell_codec::{Body, Cell, Queue};
 use std::alloc::{AllocError, Global};
 use std::collections::LinkedList;
 use std::marker::Model;
@@ -18,34 +18,33 @@ use tr_io::names::ChanNo;
 /// What a cell that leaves adds to its leg's count.
 const CELL_CHARGE: u64 = 65_536;
 
-/// The cell that answers an opening, without its CircID.
+/// A cell that waits on a leg, without its CircID. A DESTROY is none: it waits on the channel.
 #[derive(Drop)]
-struct Reply {
-    command: u8,
-    payload: [u8; 509],
+pub(crate) struct QueuedCell {
+    pub(crate) command: u8,
+    pub(crate) payload: [u8; 509],
 }
 
-impl Model for Reply {
-    ghost use Rattle.std.specs.Prelude.{IsTrue};
+impl Model for QueuedCell {
     ghost use Rattle.circuit_model.specs.Events.{CircuitCell};
-    ghost use Rattle.tor_spec.specs.CellCommands.{opens_circuit};
+    ghost use Rattle.switch_core.specs.Meaning.{MayQueue};
 
     ghost Value = { CircuitCell };
 
-    ghost view = { λ r. record { command = r.command; body = r.payload } };
+    ghost view = { λ q. record { command = q.command; body = q.payload } };
 
-    ghost invariant = { λ r. IsTrue (opens_circuit r.command) };
+    ghost invariant = { λ q. MayQueue q.command };
 }
 
 /// The first leg of a circuit.
 ///
-/// Contracts see it as the machine's. The count is kept as it was when its last cell left, with
-/// that cell's tick, so that a tick changes no leg.
+/// Contracts see it as the machine's, and for how many more cells it has room. The count is kept as it was
+/// when its last cell left, with that cell's tick, so that a tick changes no leg.
 #[derive(Drop)]
 pub struct Leg {
     chan: ChanNo,
     id: u32,
-    reply: Option<Reply>,
+    cells: Queue<QueuedCell>,
     count: u64,
     counted_at: u64,
     /// The DESTROY of the leg's teardown, so that this takes no memory.
@@ -53,12 +52,13 @@ pub struct Leg {
 }
 
 impl Model for Leg {
-    ghost use Rattle.std.specs.Prelude.{◌≡◌, ◌∷◌, [], false, option_to_list};
+    ghost use Rattle.std.specs.Prelude.{◌≡◌, ◌∷◌, [], false};
     ghost use Rattle.switch_machine.specs.State.{LegState};
+    ghost use Rattle.switch_core.specs.Meaning.{WithRoom};
 
-    ghost Value = { LegState };
+    ghost Value = { WithRoom LegState };
 
-    ghost view = { λ l. record { chan = l.chan.0; id = l.id; queue = option_to_list l.reply; count = l.count; counted_at = l.counted_at } };
+    ghost view = { λ l. record { state = record { chan = l.chan.0; id = l.id; queue = l.cells.items; count = l.count; counted_at = l.counted_at }; spare = l.cells.spare } };
 
     ghost invariant = { λ l. l.destroy ≡ record { id = l.id; reason = 0; refusal = false } ∷ [] };
 }
@@ -68,7 +68,7 @@ impl Leg {
     pub fn new(alloc: Global, chan: ChanNo, id: u32, reply: &Cell) -> Result<Leg, AllocError>
         requires fixed { is_var reply.now.body ≡ false }
         requires command { IsTrue (opens_circuit reply.now.command) }
-        ensures { IfOk result (λ leg. leg ≡ first_leg chan.0 id reply.now) }
+        ensures { IfOk result (λ leg. leg.state ≡ first_leg chan.0 id reply.now) }
     {
         let Body::Fixed(payload) = &reply.body else {
             unreachable!()
@@ -82,13 +82,15 @@ impl Leg {
         if destroy.push_back(blank).is_err() {
             return Err(AllocError);
         }
+        let mut cells = Queue::new(alloc);
+        cells.push(QueuedCell {
+            command: reply.command,
+            payload: *payload,
+        })?;
         Ok(Leg {
             chan,
             id,
-            reply: Some(Reply {
-                command: reply.command,
-                payload: *payload,
-            }),
+            cells,
             count: 0,
             counted_at: 0,
             destroy,
@@ -97,19 +99,19 @@ impl Leg {
 
     /// The channel on which the leg lies.
     pub fn chan(&self) -> ChanNo
-        ensures { result.0 ≡ self.now.chan }
+        ensures { result.0 ≡ self.now.state.chan }
     {
         self.chan
     }
 
     /// The leg ends: the DESTROY with this reason, in memory that the leg had.
     pub fn into_destroy(self, reason: u8) -> LinkedList<Destroy>
-        ensures { result ≡ record { id = self.id; reason = reason; refusal = false } ∷ [] }
+        ensures { result ≡ record { id = self.state.id; reason = reason; refusal = false } ∷ [] }
     {
         let Leg {
             chan: _,
             id: _,
-            reply: _,
+            cells: _,
             count: _,
             counted_at: _,
             mut destroy,
@@ -122,40 +124,39 @@ impl Leg {
 
     /// Whether this CircID of this channel is the leg's.
     pub fn has_port(&self, chan: ChanNo, id: u32) -> bool
-        ensures { result ≡ has_port chan.0 id (Some self.now) }
+        ensures { result ≡ has_port chan.0 id (Some self.now.state) }
     {
         self.chan.0 == chan.0 && self.id == id
     }
 
     /// Whether a cell waits on the leg for this channel.
     pub fn waits_on(&self, chan: ChanNo) -> bool
-        ensures { result ≡ waits_on chan.0 (Some self.now) }
+        ensures { result ≡ waits_on chan.0 (Some self.now.state) }
     {
-        self.chan.0 == chan.0 && self.reply.is_some()
+        self.chan.0 == chan.0 && !self.cells.is_empty()
     }
 
     /// The leg's count where this tick is in force: each tick since the last cell left halves it.
     pub fn count_at(&self, now: u64) -> u64
-        ensures { result ≡ count_of now self.now }
+        ensures { result ≡ count_of now self.now.state }
     {
         halved(self.count, now.saturating_sub(self.counted_at))
     }
 
     /// The first cell that waits leaves at this tick, and is charged.
-    #[tactic(auto, using(crate::proofs::Leaves::at_most_one))]
     pub fn send_first(&mut self, now: u64) -> Option<Cell>
-        ensures cell { result ≡ first_cell (Some self.old) }
-        ensures state { Some self.new ≡ sent_first now self.old self.old.queue }
-        ensures single { length self.old.queue ≤ 1 }
+        ensures cell { result ≡ first_cell (Some self.old.state) }
+        ensures state { Some self.new.state ≡ sent_first now self.old.state self.old.state.queue }
+        ensures spare { self.old.spare ≤ self.new.spare }
         ensures well_formed { IfSome result IsWellFormed }
     {
-        let reply = self.reply.take()?;
+        let first = self.cells.take_first()?;
         self.count = self.count_at(now).saturating_add(CELL_CHARGE);
         self.counted_at = now;
         Some(Cell {
             circ: self.id,
-            command: reply.command,
-            body: Body::Fixed(reply.payload),
+            command: first.command,
+            body: Body::Fixed(first.payload),
         })
     }
 }

@@ -7,6 +7,7 @@
 mod cells;
 mod channel;
 mod circuit;
+mod counters;
 mod destroy;
 mod leg;
 mod opening;
@@ -17,5 +18,6 @@ mod slot;
 mod switch;
 #[cfg(test)]
 mod tests;
+mod way;
 
 pub use switch::Switch;

@@ -4,11 +4,14 @@ ghost use Rattle.switch_machine.specs.Machine.{new_state};
 
 mod channels;
 mod circuits;
+mod finding;
 mod sending;
+mod taking;
 mod teardown;
 
 use crate::channel::Channel;
 use crate::circuit::Circuit;
+use crate::counters::Counters;
 use std::alloc::{AllocError, Global};
 use std::marker::Model;
 
@@ -22,21 +25,20 @@ const MOST_CIRCUITS: u32 = 512;
 #[derive(Drop)]
 pub struct Parts {
     alloc: Global,
-    steps: u64,
-    tick: u64,
+    counters: Counters,
     channels: Vec<Channel>,
     circuits: Vec<Option<Circuit>>,
 }
 
 impl Model for Parts {
     ghost use Rattle.switch_machine.specs.State.{State};
-    ghost use Rattle.switch_core.specs.Meaning.{LanesFit, state_of};
+    ghost use Rattle.switch_core.specs.Meaning.{StepsFit, state_of};
 
     ghost Value = { State };
 
-    ghost view = { λ p. state_of p.steps p.tick p.channels.items p.circuits.items };
+    ghost view = { λ p. state_of p.counters p.channels.items p.circuits.items };
 
-    ghost invariant = { λ p. LanesFit p.steps p.channels.items };
+    ghost invariant = { λ p. StepsFit p.counters p.channels.items p.circuits.items };
 }
 
 #[tactic(auto, using(crate::proofs::Plain::plain_lists))]
@@ -47,8 +49,7 @@ impl Parts {
     {
         Ok(Parts {
             alloc,
-            steps: 0,
-            tick: 0,
+            counters: Counters::new(),
             channels: Vec::with_capacity(alloc, MOST_CHANNELS as usize)?,
             circuits: Vec::with_capacity(alloc, MOST_CIRCUITS as usize)?,
         })
@@ -58,6 +59,6 @@ impl Parts {
     pub fn steps(&self) -> u64
         ensures { result ≡ self.now.steps }
     {
-        self.steps
+        self.counters.steps
     }
 }

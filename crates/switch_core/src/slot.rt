@@ -1,18 +1,22 @@
 //! A circuit by its number, which may be gone.
-ghost use Rattle.std.specs.Prelude.{◌≡◌, IfSome};
+ghost use Rattle.std.specs.Prelude.{◌≡◌, ⊤, IfSome};
 ghost use Rattle.cell_codec.specs.Cells.{IsWellFormed};
-ghost use Rattle.switch_machine.specs.Machine.{leg_at};
+ghost use Rattle.switch_machine.specs.Machine.{has_port, leg_at};
 ghost use Rattle.switch_machine.specs.Calls.NextCell.{waits_on, count_of_found, first_cell};
 ghost use Rattle.switch_machine.specs.Calls.OpenCircuit.{circuit_has_id};
 ghost use Rattle.switch_core.specs.Picking.{HasOneLeg, SlotSent};
+ghost use Rattle.switch_core.specs.Taking.{TakeCase, body_count, queued_answer, slot_with_body};
 
 use crate::circuit::Circuit;
 use cell_codec::Cell;
+use tr_io::answers::{TakeAnswer, Why};
 use tr_io::names::ChanNo;
 
 /// Whether this CircID of this channel is that of the circuit's leg.
 pub fn slot_has_port(slot: &Option<Circuit>, chan: ChanNo, id: u32) -> bool
-    ensures { result ≡ circuit_has_id chan.0 id slot.now }
+    ensures any { result ≡ circuit_has_id chan.0 id slot.now }
+    ensures port { result ≡ has_port chan.0 id (leg_at slot.now 0) }
+    ensures one_leg { HasOneLeg slot.now }
 {
     match slot {
         Some(circuit) => circuit.has_port(chan, id),
@@ -50,5 +54,34 @@ pub fn send_first_of(slot: &mut Option<Circuit>, now: u64) -> Option<Cell>
     match slot {
         Some(circuit) => circuit.send_first(now),
         None => None,
+    }
+}
+
+/// How many bodies of the circuit are out or wait forth.
+pub fn slot_body_count(slot: &Option<Circuit>) -> usize
+    ensures { result ≡ body_count slot.now }
+{
+    match slot {
+        Some(circuit) => circuit.body_count(),
+        None => 0,
+    }
+}
+
+/// One more body waits forth on the circuit.
+pub fn push_forth_of(
+    slot: &mut Option<Circuit>,
+    number: u128,
+    command: u8,
+    payload: &[u8; 509],
+) -> TakeAnswer
+    ensures state { TakeCase result (slot.new ≡ slot.old) (slot.new ≡ slot_with_body number (record { command = command; body = payload.now }) slot.old) }
+    ensures answer { TakeCase result ⊤ (result ≡ queued_answer slot.old) }
+{
+    match slot {
+        Some(circuit) => match circuit.push_forth(number, command, payload) {
+            Ok(()) => TakeAnswer::Queued,
+            Err(_) => TakeAnswer::Memory,
+        },
+        None => TakeAnswer::PassedOver(Why::NoCircuit),
     }
 }

@@ -1,18 +1,22 @@
 //! The switch: each call adds one step to every history that it stands for.
-ghost use Rattle.std.specs.Prelude.{◌≡◌, ◌+◌, ◌<◌, ◌≤◌, ◌^◌, ⊤, [], IfOk, IfSome, IsTrue, false};
+ghost use Rattle.std.specs.Prelude.{◌≡◌, ◌+◌, ◌<◌, ◌≤◌, ◌^◌, ⊤, ℕ, List, [], IfOk, IfSome, IsTrue, false};
 ghost use Rattle.cell_codec.specs.Cells.{is_var, IsWellFormed};
+ghost use Rattle.circuit_model.specs.Events.{Event};
+ghost use Rattle.circuit_model.specs.Rules.{Rules as ModelRules};
 ghost use Rattle.tor_spec.specs.CellCommands.{opens_circuit};
-ghost use Rattle.tr_io.specs.declared.step.Step.TheVariants.{ChannelUp, OpenCircuit, NextCell, TearDown};
+ghost use Rattle.tr_io.specs.declared.step.Step.TheVariants.{ChannelUp, OpenCircuit, NextCell, Take, TearDown};
 ghost use Rattle.switch_machine.specs.Adds.{Adds, UpCase, OpenCase};
 ghost use Rattle.switch_machine.specs.Machine.{new_state};
 ghost use Rattle.switch_machine.specs.Calls.ChannelUp.{channel_up_result};
 ghost use Rattle.switch_machine.specs.Calls.OpenCircuit.{open_result};
 ghost use Rattle.switch_machine.specs.Calls.NextCell.{next_cell_result};
+ghost use Rattle.switch_machine.specs.Calls.Take.{take_result};
 ghost use Rattle.switch_machine.specs.Calls.TearDown.{tear_down_result};
 ghost use Rattle.switch_core.specs.Meaning.{start_of};
 ghost use Rattle.switch_core.specs.Started.{SwitchAdds};
+ghost use Rattle.switch_core.specs.Taking.{TakeCase};
 
-use crate::opening::{forget_relay, open_with_relay};
+use crate::opening::{forget_relay, forget_taken, open_with_relay};
 use crate::parts::Parts;
 use crate::relay::Relay;
 use cell_codec::Cell;
@@ -20,7 +24,7 @@ use circ_relay::Rules;
 use hop_handshake::Opening;
 use std::alloc::{AllocError, Global};
 use std::marker::Model;
-use tr_io::answers::{BackAnswer, OpenAnswer, UpAnswer};
+use tr_io::answers::{BackAnswer, OpenAnswer, TakeAnswer, UpAnswer};
 use tr_io::names::{ChanNo, CircNo, Side};
 
 /// The switch of a relay.
@@ -110,6 +114,23 @@ impl Switch {
             id,
             opening,
         )
+    }
+
+    /// Takes a cell that a channel brings. A RELAY or RELAY_EARLY cell waits for a claim; DESTROY, a cell that its
+    /// circuit can't take, and one where as many cells wait as may tear the circuit down. A DESTROY for a
+    /// CircID on which ours waits takes ours away. `Memory` where memory is wanting, and then the switch stays
+    /// as it was.
+    pub fn take(&mut self, chan: ChanNo, cell: &Cell) -> TakeAnswer
+        requires steps { self.old.state.steps < 2 ^ 62 }
+        requires formed { IsWellFormed cell.now }
+        ensures start { self.new.start ≡ self.old.start }
+        ensures steps { self.new.state.steps ≤ self.old.state.steps + 1 }
+        ensures answer { TakeCase result ⊤ ((rules : ModelRules) (ev : ℕ → List Event) → result ≡ take_result rules ev self.old.state chan.0 cell.now) }
+        ensures whole { TakeCase result (self.new ≡ self.old) (SwitchAdds self.old self.new (Take chan cell.now result)) }
+    {
+        let answer = self.parts.take(chan, cell);
+        forget_taken(&mut self.relays, answer);
+        answer
     }
 
     /// The next cell that leaves on a channel, where this tick is given: the oldest DESTROY of its

@@ -3,6 +3,8 @@ ghost use Rattle.std.specs.Prelude.{◌≡◌, IfOk, IfSome, IsTrue, false};
 ghost use Rattle.cell_codec.specs.Cells.{is_var};
 ghost use Rattle.tor_spec.specs.CellCommands.{asks_for_circuit, opens_circuit};
 
+mod taking;
+
 use super::*;
 use cell_codec::{Body, Cell, List};
 use circ_relay::Rules;
@@ -27,7 +29,7 @@ fn new_switch(alloc: Global) -> Result<Switch, AllocError>
 }
 
 /// The opening that this command asks for at this CircID, with a payload of zeros, where Y is zero.
-fn opening(alloc: Global, id: u32, command: u8) -> Result<Opening, AllocError>
+fn opening_at(alloc: Global, id: u32, command: u8) -> Result<Opening, AllocError>
     requires { IsTrue (asks_for_circuit command) }
     ensures fixed { IfOk result (λ o. is_var o.reply.body ≡ false) }
     ensures command { IfOk result (λ o. IfSome o.keys (λ _. IsTrue (opens_circuit o.reply.command))) }
@@ -43,7 +45,7 @@ fn opening(alloc: Global, id: u32, command: u8) -> Result<Opening, AllocError>
 #[test]
 fn a_circuit_answers_once(rt: HostRuntime) -> Result<(), Fail> {
     let mut switch = new_switch(rt.alloc())?;
-    let opening = opening(rt.alloc(), 0x8000_0001, 5)?;
+    let opening = opening_at(rt.alloc(), 0x8000_0001, 5)?;
     assert_eq!(rt;
         switch.channel_up(3, Side::PeerOpened),
         UpAnswer::Up(ChanNo(0))
@@ -63,7 +65,7 @@ fn a_circuit_answers_once(rt: HostRuntime) -> Result<(), Fail> {
 #[test]
 fn a_refused_id_is_destroyed(rt: HostRuntime) -> Result<(), Fail> {
     let mut switch = new_switch(rt.alloc())?;
-    let opening = opening(rt.alloc(), 1, 5)?;
+    let opening = opening_at(rt.alloc(), 1, 5)?;
     assert_eq!(rt;
         switch.channel_up(0, Side::PeerOpened),
         UpAnswer::Up(ChanNo(0))
@@ -80,7 +82,7 @@ fn a_refused_id_is_destroyed(rt: HostRuntime) -> Result<(), Fail> {
 #[test]
 fn a_bad_handshake_is_destroyed(rt: HostRuntime) -> Result<(), Fail> {
     let mut switch = new_switch(rt.alloc())?;
-    let opening = opening(rt.alloc(), 0x8000_0001, 10)?;
+    let opening = opening_at(rt.alloc(), 0x8000_0001, 10)?;
     assert_eq!(rt;
         switch.channel_up(0, Side::PeerOpened),
         UpAnswer::Up(ChanNo(0))
@@ -97,7 +99,7 @@ fn a_bad_handshake_is_destroyed(rt: HostRuntime) -> Result<(), Fail> {
 #[test]
 fn a_torn_circuit_sends_its_destroy_alone(rt: HostRuntime) -> Result<(), Fail> {
     let mut switch = new_switch(rt.alloc())?;
-    let opening = opening(rt.alloc(), 0x8000_0001, 5)?;
+    let opening = opening_at(rt.alloc(), 0x8000_0001, 5)?;
     assert_eq!(rt;
         switch.channel_up(0, Side::PeerOpened),
         UpAnswer::Up(ChanNo(0))

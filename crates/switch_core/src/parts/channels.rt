@@ -19,13 +19,13 @@ impl Parts {
     {
         let number = self.channels.len();
         if number >= MOST_CHANNELS as usize {
-            self.steps += 1;
+            self.counters.steps += 1;
             return UpAnswer::Full(MOST_CHANNELS);
         }
         if self.channels.push(Channel::new(self.alloc, side)).is_err() {
             return UpAnswer::Memory;
         }
-        self.steps += 1;
+        self.counters.steps += 1;
         UpAnswer::Up(ChanNo(number as u64))
     }
 

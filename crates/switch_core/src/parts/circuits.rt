@@ -109,12 +109,12 @@ impl Parts {
         ensures err { OnErr result (self.new ≡ self.old) }
     {
         if chan.0 >= self.channels.len() as u64 {
-            self.steps += 1;
+            self.counters.steps += 1;
             return Ok(());
         }
         let channel = &mut self.channels[chan.0 as usize];
         channel.refuse(id, why)?;
-        self.steps += 1;
+        self.counters.steps += 1;
         Ok(())
     }
 
@@ -127,12 +127,12 @@ impl Parts {
         ensures err { OnErr result (self.new ≡ self.old) }
     {
         if opening.keys.is_none() {
-            self.steps += 1;
+            self.counters.steps += 1;
             return Ok(());
         }
         let leg = Leg::new(self.alloc, chan, id, &opening.reply)?;
-        self.circuits.push(Some(Circuit { leg }))?;
-        self.steps += 1;
+        self.circuits.push(Some(Circuit::new(self.alloc, leg)))?;
+        self.counters.steps += 1;
         Ok(())
     }
 }

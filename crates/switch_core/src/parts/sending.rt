@@ -22,8 +22,8 @@ impl Parts {
         ensures well_formed { IfSome result IsWellFormed }
     {
         let cell = self.leave(chan, given);
-        self.steps += 1;
-        self.tick = self.tick.max(given);
+        self.counters.steps += 1;
+        self.counters.tick = self.counters.tick.max(given);
         cell
     }
 
@@ -62,7 +62,7 @@ impl Parts {
         ensures well_formed { IfSome result IsWellFormed }
     {
         let picked = self.picked(chan, given)?;
-        let now = self.tick.max(given);
+        let now = self.counters.tick.max(given);
         let slot = &mut self.circuits[picked.number];
         send_first_of(slot, now)
     }
@@ -72,7 +72,7 @@ impl Parts {
     fn picked(&self, chan: ChanNo, given: u64) -> Option<Waiting>
         ensures { Picks self.now given (length self.now.circuits) result (picked_leg self.now chan.0 given) }
     {
-        let now = self.tick.max(given);
+        let now = self.counters.tick.max(given);
         let mut least = None;
         for number in 0..self.circuits.len() {
             let slot = &self.circuits[number];

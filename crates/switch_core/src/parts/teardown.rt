@@ -22,7 +22,7 @@ impl Parts {
         ensures answer { result ≡ tear_down_result self.old circ.0 reason }
     {
         let Some(circuit) = self.take_out(circ) else {
-            self.steps += 1;
+            self.counters.steps += 1;
             return BackAnswer::Gone;
         };
         let leg = circuit.into_leg();
@@ -31,7 +31,7 @@ impl Parts {
     }
 
     /// Takes a circuit out of the list, if it is live.
-    fn take_out(&mut self, circ: CircNo) -> Option<Circuit>
+    pub(super) fn take_out(&mut self, circ: CircNo) -> Option<Circuit>
         ensures some { IfSome result (λ circuit. TakenOut self.old self.new circ.0 circuit) }
         ensures none { IfNone result ((slot_at self.old.circuits circ.0 ≡ None) × (self.new ≡ self.old)) }
     {
@@ -45,15 +45,15 @@ impl Parts {
     /// A leg's DESTROY waits on its channel, which is a step.
     fn put_destroy(&mut self, leg: Leg, reason: u8)
         requires { self.old.steps < 2 ^ 62 }
-        ensures { self.new ≡ record (counted self.old) { channels = with_lanes (λ n. destroy_of n reason (Some leg)) 0 self.old.channels } }
+        ensures { self.new ≡ record (counted self.old) { channels = with_lanes (λ n. destroy_of n reason (Some leg.state)) 0 self.old.channels } }
     {
         let chan = leg.chan();
         if chan.0 >= self.channels.len() as u64 {
-            self.steps += 1;
+            self.counters.steps += 1;
             return;
         }
         let channel = &mut self.channels[chan.0 as usize];
         channel.append(leg.into_destroy(reason));
-        self.steps += 1;
+        self.counters.steps += 1;
     }
 }

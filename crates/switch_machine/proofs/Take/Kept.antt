@@ -110,7 +110,7 @@ found-by start s h chan cell x (Some leg) st found on = leg-of start s h chan ce
 -- any cell
 
 -- the commands that a circuit takes are not of the other kinds
-record IsOfCircuit (n : ℕ) : Type 0 where
+pub record IsOfCircuit (n : ℕ) : Type 0 where
   pub padding : is_padding n ≡ false
   pub opening : asks_for_circuit n ≡ false
   pub link : is_link n ≡ false
@@ -125,7 +125,7 @@ for-by n false false true d is3 is4 is9 is11 some = by-number n 9 is9 (record { 
 for-by n false false false true is3 is4 is9 is11 some = by-number n 11 is11 (record { padding = refl; opening = refl; link = refl })
 for-by n false false false false is3 is4 is9 is11 some = absurd cc
 
-for-circuit : (n : ℕ) → is_for_circuit n ≡ true → IsOfCircuit n
+pub for-circuit : (n : ℕ) → is_for_circuit n ≡ true → IsOfCircuit n
 for-circuit n some = for-by n (n == 3) (n == 4) (n == 9) (n == 11) refl refl refl refl some
 
 no-destroy_by : (a b c d : Bool) → (a || (b || (c || d))) ≡ false → b ≡ false
