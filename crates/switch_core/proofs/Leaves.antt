@@ -10,6 +10,7 @@ use Rattle.switch_machine.specs.Calls.NextCell.{ticked, first_cell, cell_of_leg,
 use Rattle.switch_machine.proofs.PlainLists.{length-all_there, with_slot-all_there}
 use Rattle.switch_core.specs.Meaning.{state_of, home_count, circuit_of, FirstLeaves}
 use Rattle.switch_core.specs.declared.counters.Counters.{Counters}
+use Rattle.switch_core.specs.Ordering.{OrdersState}
 use Rattle.switch_core.specs.Picking.{first_leg_of, FirstSent, SlotSent, DestroyLeaves}
 use Rattle.switch_core.proofs.Gone.{slot-get, slot-set, with-same}
 use Rattle.switch_core.proofs.Plain.{there}
@@ -58,18 +59,18 @@ new-queue false old new cells count now e = cc
 circuit-same : (x : CircuitState) (m n : ℕ) (legs more : List (Option LegState)) → m ≡ n → legs ≡ more → ◌≡◌ {A = CircuitState} (record x { sent_count = m; legs = legs }) (record x { sent_count = n; legs = more })
 circuit-same x m n legs more e f = rw (e, f) refl
 
-sent-by : (forth back : WayState) (old new : LegState) (now : ℕ) (cells : List CircuitCell) → length cells ≤ 1 + home_count back → old.queue ≡ cells → Some new ≡ sent_first now old cells →
-    circuit_of new forth back ≡ circuit_sent now 0 (circuit_of old forth back) old cells
+sent-by : (forth back : WayState) (orders : OrdersState) (old new : LegState) (now : ℕ) (cells : List CircuitCell) → length cells ≤ 1 + home_count back → old.queue ≡ cells → Some new ≡ sent_first now old cells →
+    circuit_of new forth back orders ≡ circuit_sent now 0 (circuit_of old forth back orders) old cells
 unfolding slot_at with_slot
-sent-by forth back old new now [] fits queued e = let same : new ≡ old = cc in ap (λ leg. circuit_of leg forth back) same
-sent-by forth back old new now (cell ∷ cells) fits queued e =
+sent-by forth back orders old new now [] fits queued e = let same : new ≡ old = cc in ap (λ leg. circuit_of leg forth back orders) same
+sent-by forth back orders old new now (cell ∷ cells) fits queued e =
     let fewer : length new.queue ≡ length cells = ap length (new-queue (cell.command == destroy_command) old new cells _ now e) in
     let all : length old.queue ≡ suc (length cells) = ap length queued in
-    circuit-same (circuit_of old forth back) (1 + home_count back - length new.queue) (1 + home_count back - length old.queue + 1) (Some new ∷ []) (sent_first now old (cell ∷ cells) ∷ []) (omega (arith, fewer, all, fits)) (ap (λ o. o ∷ []) e)
+    circuit-same (circuit_of old forth back orders) (1 + home_count back - length new.queue) (1 + home_count back - length old.queue + 1) (Some new ∷ []) (sent_first now old (cell ∷ cells) ∷ []) (omega (arith, fewer, all, fits)) (ap (λ o. o ∷ []) e)
 
-pub first_sent : (forth back : WayState) (old new : LegState) (now : ℕ) → length old.queue ≤ 1 + home_count back → Some new ≡ sent_first now old old.queue → FirstSent now (circuit_of old forth back) (circuit_of new forth back)
+pub first_sent : (forth back : WayState) (orders : OrdersState) (old new : LegState) (now : ℕ) → length old.queue ≤ 1 + home_count back → Some new ≡ sent_first now old old.queue → FirstSent now (circuit_of old forth back orders) (circuit_of new forth back orders)
 unfolding slot_at
-first_sent forth back old new now fits e = record { found = old; first = refl; sent = sent-by forth back old new now old.queue fits refl e }
+first_sent forth back orders old new now fits e = record { found = old; first = refl; sent = sent-by forth back orders old new now old.queue fits refl e }
 
 fewer-by : (old new : LegState) (now : ℕ) (cells : List CircuitCell) → old.queue ≡ cells → Some new ≡ sent_first now old cells → length new.queue ≤ length old.queue
 fewer-by old new now [] queued e = let same : new ≡ old = cc in omega (arith, ap (λ (l : LegState). length l.queue) same)

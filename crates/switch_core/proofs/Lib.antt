@@ -4,6 +4,7 @@ pub mod Gone
 pub mod Picks
 pub mod Leaves
 pub mod History
+pub mod Homes
 pub mod Relays
 pub mod Whole
 pub mod Lanes
@@ -13,3 +14,15 @@ pub mod Finding
 pub mod Ways
 pub mod Taken
 pub mod Takes
+pub mod Settles
+pub mod Settled
+pub mod ForthHome
+pub mod ForthWhole
+pub mod Claims
+pub mod Offers
+pub mod Claimed
+pub mod Serving
+pub mod Seals
+pub mod BackWhole
+pub mod Returns
+pub mod GivenBack

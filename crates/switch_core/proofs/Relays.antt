@@ -22,15 +22,16 @@ use Rattle.switch_machine.specs.Stands.OneCircuit.{no_past}
 use Rattle.switch_machine.proofs.OpenCircuit.Past.{opening, past-other}
 use Rattle.switch_machine.proofs.Slots.{slot_at-push}
 use Rattle.switch_core.specs.Opened.{Forgets}
+use Rattle.switch_core.specs.Settling.{CallsFit}
 use Rattle.switch_core.specs.Relays.{RelayStands, RelayAt, RelayOfPast, RelaysStand}
 use Rattle.switch_core.specs.declared.relay.Relay.{Relay}
 
 -- the relay of a circuit that was just opened
 pub born_stands : (relay : Relay) (rules : Rules) (keys : LayerKeys) (pad : Option (List ℕ)) (reply : CircuitCell) →
     IsCircuit relay.circuit rules (Born reply keys pad ∷ []) → relay.forth ≡ Forth (opener_of (fresh_opening keys.kf keys.df)) →
-    relay.back ≡ Back (record { key = keys.kb; position = 0 }) → RelayStands relay rules (Born reply keys pad ∷ []) 0
+    relay.back ≡ Back (record { key = keys.kb; position = 0 }) → CallsFit 0 relay.circuit → RelayStands relay rules (Born reply keys pad ∷ []) 0
 unfolding open_effects
-born_stands relay rules keys pad reply circuit forth back = record { circuit = circuit; forth = forth; back = back }
+born_stands relay rules keys pad reply circuit forth back calls = record { circuit = circuit; forth = forth; back = back; calls = calls }
 
 -- what the history says of the circuit of an opening
 

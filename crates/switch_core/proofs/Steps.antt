@@ -32,7 +32,7 @@ use Rattle.switch_machine.proofs.Claim.Law.{claim_adds}
 use Rattle.switch_machine.proofs.Take.FoundLeg.{at-found}
 use Rattle.switch_machine.proofs.Take.Frames.{events-first, events-passed}
 use Rattle.switch_machine.proofs.Take.Law.{take_adds}
-use Rattle.switch_core.specs.Opened.{Forgets, TakeForgets}
+use Rattle.switch_core.specs.Opened.{ForgetsDown, TakeForgets}
 use Rattle.switch_core.specs.Relays.{RelayAt, RelaysStand}
 use Rattle.switch_core.specs.Picking.{first_leg_of}
 use Rattle.switch_core.specs.Started.{Started, SwitchAdds, SwitchStandsForSome}
@@ -58,13 +58,6 @@ claim_whole start old new relays worker a known state answer =
     }
 
 -- abandon
-
--- a teardown forgets the relay, and nothing else does
-abbrev pub ForgetsDown : BackAnswer → List (Option Relay) → List (Option Relay) → ℕ → Type 0
-ForgetsDown (BackAnswer.Down reason) relays after c = Forgets relays after c
-ForgetsDown BackAnswer.Settled relays after c = after ≡ relays
-ForgetsDown BackAnswer.Gone relays after c = after ≡ relays
-ForgetsDown (BackAnswer.Stranger why) relays after c = after ≡ relays
 
 abandoned-live : (rules : Rules) (h : List Step) (note : ClaimNote) (place : Option ℕ) (reason : ℕ) → is_live_circuit rules (Abandon note place (BackAnswer.Down reason) ∷ h) note.circ.0 ≡ false
 abandoned-live rules h note place reason = simp (self_eq note.circ.0)

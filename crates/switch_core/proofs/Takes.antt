@@ -361,7 +361,7 @@ down-of false true full c first second third circ reason is = cc
 down-of false false true c first second third circ reason is = cc
 down-of false false false c first second third circ reason is = cc
 
-abbrev no_rules : Rules
+abbrev pub no_rules : Rules
 no_rules = record { allow = []; window = 0; least = 0 }
 
 down-on : (x : Option CircuitState) (c : ℕ) (cell : CircuitCell) (circ : CircNo) (reason : ℕ) → TakeAnswer.Down circ reason ≡ leg_result no_rules [] (first_leg_of c) cell x → circ.0 ≡ c

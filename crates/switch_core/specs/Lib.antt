@@ -1,6 +1,12 @@
+pub mod Ordering
+pub mod Settling
 pub mod Meaning
 pub mod Picking
 pub mod Relays
 pub mod Opened
 pub mod Started
 pub mod Taking
+pub mod Claiming
+pub mod Sealing
+pub mod Returning
+pub mod Homecoming

@@ -17,6 +17,7 @@ use Rattle.switch_machine.specs.Calls.Take.{kept_length}
 use Rattle.tr_io.specs.declared.answers.OpenRefusal.{OpenRefusal}
 use Rattle.circ_relay.specs.declared.rules.Rules.{Rules as RuleList}
 use Rattle.circ_relay.specs.Values.{rules_of}
+use Rattle.switch_core.specs.Ordering.{OrdersState, RoomyOrders}
 use Rattle.switch_core.specs.declared.counters.Counters.{Counters}
 
 -- What a switch was made with.
@@ -53,31 +54,34 @@ home_count way = way.claimed - kept_length way.kept
 
 -- A circuit with its first leg alone. The answer to the opening and the bodies that came home sealed wait on
 -- the leg or were sent.
-abbrev pub circuit_of : LegState → WayState → WayState → CircuitState
-circuit_of leg forth back = record {
+abbrev pub circuit_of : LegState → WayState → WayState → OrdersState → CircuitState
+circuit_of leg forth back orders = record {
   sent_count = 1 + home_count back - length leg.queue;
   legs = Some leg ∷ [];
   forth = forth;
   back = back;
-  reach_orders = [];
-  carry_orders = [];
-  close_orders = [];
-  dial = None;
+  reach_orders = orders.reach;
+  carry_orders = orders.carry;
+  close_orders = orders.close;
+  dial = orders.dial;
 }
 
 -- The circuit has this leg, and no other.
 pub record OfLeg (x : CircuitState) (leg : LegState) : Type 0 where
   pub forth : WayState
   pub back : WayState
-  pub is : x ≡ circuit_of leg forth back
+  pub orders : OrdersState
+  pub is : x ≡ circuit_of leg forth back orders
 
 -- What waits on the leg was the answer to the opening or came home. Each body that came home forth has
 -- packaged one body back at most. There is room for what the bodies that are out will need.
-pub record CircuitFits (leg : WithRoom LegState) (forth back : WithRoom WayState) : Type 0 where
+pub record CircuitFits (leg : WithRoom LegState) (forth back : WithRoom WayState) (orders : RoomyOrders) : Type 0 where
   pub queued : length leg.state.queue ≤ 1 + home_count back.state
   pub packaged : back.state.claimed + length back.state.waiting + kept_length forth.state.kept ≤ forth.state.claimed
   pub room_sealed : kept_length back.state.kept ≤ leg.spare
   pub room_packaged : kept_length forth.state.kept ≤ back.spare
+  pub room_ordered : kept_length forth.state.kept ≤ orders.spare
+  pub rooms : kept_length forth.state.kept ≤ orders.rooms
 
 abbrev pub no_counts : Counters
 no_counts = record { steps = 0; tick = 0; bodies = 0; claims = 0; dial_orders = 0 }

@@ -4,6 +4,7 @@ use Rattle.circuit_model.specs.Events.{CircuitCell}
 use Rattle.circuit_model.specs.declared.event.Event.TheVariants.{Born}
 use Rattle.circuit_model.specs.Rules.{Rules}
 use Rattle.kdf_tor.specs.declared.LayerKeys.{LayerKeys}
+use Rattle.tr_io.specs.declared.answers.BackAnswer.{BackAnswer}
 use Rattle.tr_io.specs.declared.answers.OpenAnswer.{OpenAnswer}
 use Rattle.tr_io.specs.declared.answers.TakeAnswer.{TakeAnswer}
 use Rattle.switch_machine.specs.State.{slot_at}
@@ -38,3 +39,10 @@ TakeForgets (TakeAnswer.Down circ reason) old new = Forgets old new circ.0
 TakeForgets TakeAnswer.Queued old new = new ≡ old
 TakeForgets (TakeAnswer.PassedOver why) old new = new ≡ old
 TakeForgets TakeAnswer.Memory old new = new ≡ old
+
+-- A return that tears its circuit down has the relay forgotten, and no other has.
+abbrev pub ForgetsDown : BackAnswer → List (Option Relay) → List (Option Relay) → ℕ → Type 0
+ForgetsDown (BackAnswer.Down reason) old new c = Forgets old new c
+ForgetsDown BackAnswer.Settled old new c = new ≡ old
+ForgetsDown BackAnswer.Gone old new c = new ≡ old
+ForgetsDown (BackAnswer.Stranger why) old new c = new ≡ old

@@ -10,6 +10,8 @@ use Rattle.hop_crypto.specs.OpenerState.{opener_of}
 use Rattle.hop_crypto.specs.SealerState.{sealer_of}
 use Rattle.hop_crypto.specs.declared.cipher.Cipher.TheVariants.{Forth, Back}
 use Rattle.switch_model.specs.History.Past.{Past}
+use Rattle.switch_model.specs.History.Relayed.{settled_forth}
+use Rattle.switch_core.specs.Settling.{CallsFit}
 use Rattle.switch_machine.specs.State.{slot_at}
 use Rattle.switch_core.specs.declared.relay.Relay.{Relay}
 
@@ -19,6 +21,8 @@ pub record RelayStands (relay : Relay) (rules : Rules) (events : List Event) (se
   pub circuit : IsCircuit relay.circuit rules events
   pub forth : relay.forth ≡ Forth (opener_of (next_layer (log rules events)))
   pub back : relay.back ≡ Back (sealer_of (record { key = (born_keys (log rules events)).kb; sealed = sealed }))
+  -- it counted no more than the forward bodies
+  pub calls : CallsFit (length (settled_forth (log rules events))) relay.circuit
 
 -- A live circuit has its relay, and nothing is kept of another.
 abbrev pub RelayAt : Bool → Option Relay → Rules → List Event → ℕ → Type 0

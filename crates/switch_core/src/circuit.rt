@@ -6,11 +6,18 @@ ghost use Rattle.switch_machine.specs.Calls.NextCell.{waits_on, count_of_found, 
 ghost use Rattle.switch_machine.specs.Calls.OpenCircuit.{circuit_has_id};
 ghost use Rattle.switch_machine.specs.Calls.OpenCircuit.{no_bodies};
 ghost use Rattle.switch_core.specs.Meaning.{circuit_of, OfLeg};
+ghost use Rattle.switch_core.specs.Ordering.{no_orders};
 ghost use Rattle.switch_core.specs.Picking.{FirstSent};
 ghost use Rattle.switch_core.specs.Taking.{body_count};
 ghost use Rattle.switch_machine.specs.Calls.Take.{forth_waits};
 
+mod claims;
+mod home;
+mod seals;
+mod settles;
+
 use crate::leg::Leg;
+use crate::orders::Orders;
 use crate::way::Way;
 use cell_codec::Cell;
 use std::alloc::{AllocError, Global};
@@ -29,6 +36,8 @@ pub struct Circuit {
     pub(crate) forth: Way,
     /// The direction towards the client.
     pub(crate) back: Way,
+    /// Its orders that were not handed out.
+    pub(crate) orders: Orders,
 }
 
 impl Model for Circuit {
@@ -37,9 +46,9 @@ impl Model for Circuit {
 
     ghost Value = { CircuitState };
 
-    ghost view = { λ c. circuit_of c.leg.state c.forth.state c.back.state };
+    ghost view = { λ c. circuit_of c.leg.state c.forth.state c.back.state c.orders.state };
 
-    ghost invariant = { λ c. CircuitFits c.leg c.forth c.back };
+    ghost invariant = { λ c. CircuitFits c.leg c.forth c.back c.orders };
 }
 
 #[tactic(auto, using(crate::proofs::Plain::or_false), unfolding(switch_machine::specs::State::slot_at))]
@@ -47,12 +56,13 @@ impl Circuit {
     /// A circuit that was just opened, with its leg.
     pub fn new(alloc: Global, leg: Leg) -> Circuit
         requires { length leg.state.queue ≡ 1 }
-        ensures { result ≡ circuit_of leg.state no_bodies no_bodies }
+        ensures { result ≡ circuit_of leg.state no_bodies no_bodies no_orders }
     {
         Circuit {
             leg,
             forth: Way::new(alloc),
             back: Way::new(alloc),
+            orders: Orders::new(alloc),
         }
     }
 
@@ -117,6 +127,7 @@ impl Circuit {
             leg,
             forth: _,
             back: _,
+            orders: _,
         } = self;
         leg
     }

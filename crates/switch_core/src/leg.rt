@@ -1,15 +1,16 @@
 //! The leg of a circuit towards the previous hop: its CircID on a channel, the cells that wait on
 //! it, and its decaying count of cells.
-ghost use Rattle.std.specs.Prelude.{◌≡◌, ◌≤◌, ◌∷◌, [], IfOk, IfSome, Some, IsTrue, false, length};
+ghost use Rattle.std.specs.Prelude.{◌≡◌, ◌+◌, ◌<◌, ◌≤◌, ◌∷◌, [], IfOk, OnOk, OnErr, IfSome, Some, IsTrue, false, length};
 ghost use Rattle.cell_codec.specs.Cells.{is_var, IsWellFormed};
 ghost use Rattle.switch_machine.specs.Machine.{has_port};
 ghost use Rattle.switch_machine.specs.Calls.NextCell.{waits_on, count_of, first_cell, sent_first};
 ghost use Rattle.switch_machine.specs.Calls.OpenCircuit.{first_leg};
 ghost use Rattle.switch_model.specs.Waiting.Counts.{halved};
-ghost use Rattle.tor_spec.specs.CellCommands.{opens_circuit};
+ghost use Rattle.switch_machine.specs.Calls.Settling.{more_queued};
+ghost use Rattle.tor_spec.specs.CellCommands.{opens_circuit, relay_command};
 
 use crate::destroy::Destroy;
-use cell_codec::{Body, Cell, Queue};
+use cell_codec::{Body, Cell, Queue, command};
 use std::alloc::{AllocError, Global};
 use std::collections::LinkedList;
 use std::marker::Model;
@@ -104,6 +105,25 @@ impl Leg {
         self.chan
     }
 
+    /// A sealed body waits to leave as a RELAY cell, in a spare place.
+    pub fn push_sealed(&mut self, body: &[u8; 509])
+        requires { 0 < self.old.spare }
+        ensures state { self.new.state ≡ more_queued (record { command = relay_command; body = body.now } ∷ []) self.old.state }
+        ensures spare { self.new.spare + 1 ≡ self.old.spare }
+    {
+        self.cells.push_reserved(QueuedCell {
+            command: command::RELAY,
+            payload: *body,
+        });
+    }
+
+    /// How many cells wait.
+    pub fn len(&self) -> usize
+        ensures { result ≡ length self.now.state.queue }
+    {
+        self.cells.len()
+    }
+
     /// The leg ends: the DESTROY with this reason, in memory that the leg had.
     pub fn into_destroy(self, reason: u8) -> LinkedList<Destroy>
         ensures { result ≡ record { id = self.state.id; reason = reason; refusal = false } ∷ [] }
@@ -120,6 +140,16 @@ impl Leg {
             only.reason = reason;
         }
         destroy
+    }
+
+    /// Takes room for `more` further cells.
+    pub fn reserve(&mut self, more: usize) -> Result<(), AllocError>
+        ensures state { self.new.state ≡ self.old.state }
+        ensures ok { OnOk result (more ≤ self.new.spare) }
+        ensures kept { self.old.spare ≤ self.new.spare }
+        ensures err { OnErr result (self.new ≡ self.old) }
+    {
+        self.cells.reserve(more)
     }
 
     /// Whether this CircID of this channel is the leg's.

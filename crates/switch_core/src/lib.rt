@@ -1,19 +1,26 @@
 //! The switch: the channels of a relay, the circuits on them, and which cell leaves next.
 //!
-//! A cell that opens a circuit comes in by `open_circuit`; what a channel sends leaves by
-//! `next_cell`, first the DESTROY cells of its lane, then the cells of its circuits.
+//! A cell that opens a circuit comes in by `open_circuit`, another by `take`. A crypto worker gets the bodies
+//! that wait in a direction of a circuit by `claim`, and brings them home by `give_back`, or undone by `abandon`.
+//! What a channel sends leaves by `next_cell`, first the DESTROY cells of its lane, then the cells of its circuits.
 #![tactic(auto)]
 
 mod cells;
 mod channel;
 mod circuit;
+mod claiming;
 mod counters;
 mod destroy;
+mod homecoming;
 mod leg;
+mod offer;
 mod opening;
+mod orders;
 mod parts;
 mod pick;
 mod relay;
+mod returning;
+mod settling;
 mod slot;
 mod switch;
 #[cfg(test)]

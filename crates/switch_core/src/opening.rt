@@ -5,13 +5,13 @@ ghost use Rattle.circ_relay.specs.Values.{rules_of};
 ghost use Rattle.tor_spec.specs.CellCommands.{opens_circuit};
 ghost use Rattle.switch_machine.specs.Adds.{OpenCase};
 ghost use Rattle.switch_machine.specs.Calls.OpenCircuit.{open_result, open_state};
-ghost use Rattle.switch_core.specs.Opened.{Forgets, KeepsRelay, KeepsBy, TakeForgets};
+ghost use Rattle.switch_core.specs.Opened.{Forgets, KeepsRelay, KeepsBy, TakeForgets, ForgetsDown};
 
 use crate::parts::Parts;
 use crate::relay::Relay;
 use circ_relay::Rules;
 use hop_handshake::Opening;
-use tr_io::answers::{OpenAnswer, TakeAnswer};
+use tr_io::answers::{BackAnswer, OpenAnswer, TakeAnswer};
 use tr_io::names::{ChanNo, CircNo};
 
 /// Opens a circuit, or refuses to; an opened circuit's relay is kept under its number.
@@ -67,6 +67,15 @@ pub fn forget_taken(relays: &mut Vec<Option<Relay>>, answer: TakeAnswer)
     ensures { TakeForgets answer relays.old.items relays.new.items }
 {
     if let TakeAnswer::Down(circ, _) = answer {
+        forget_relay(relays, circ);
+    }
+}
+
+/// Forgets the relay of a circuit that was torn down by this answer, if it was.
+pub fn forget_torn(relays: &mut Vec<Option<Relay>>, circ: CircNo, answer: BackAnswer)
+    ensures { ForgetsDown answer relays.old.items relays.new.items circ.0 }
+{
+    if let BackAnswer::Down(_) = answer {
         forget_relay(relays, circ);
     }
 }

@@ -4,8 +4,12 @@ ghost use Rattle.switch_machine.specs.Machine.{new_state};
 
 mod channels;
 mod circuits;
+mod claiming;
 mod finding;
+mod returning;
+mod sealing;
 mod sending;
+mod settling;
 mod taking;
 mod teardown;
 
@@ -17,6 +21,9 @@ use std::marker::Model;
 
 /// How many channels may be live.
 const MOST_CHANNELS: u32 = 64;
+
+/// How many cells a direction of a circuit holds at most.
+pub(crate) const MOST_BODIES: usize = 1500;
 
 /// How many circuits may be live.
 const MOST_CIRCUITS: u32 = 512;

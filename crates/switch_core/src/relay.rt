@@ -2,13 +2,14 @@
 ghost use Rattle.circ_relay.specs.Values.{rules_of};
 ghost use Rattle.circuit_model.specs.Events.{CircuitCell};
 ghost use Rattle.circuit_model.specs.declared.event.Event.TheVariants.{Born};
-ghost use Rattle.std.specs.Prelude.{[], ◌∷◌};
+ghost use Rattle.std.specs.Prelude.{◌≡◌, [], ◌∷◌};
+ghost use Rattle.switch_core.specs.Claiming.{cipher_at};
 ghost use Rattle.switch_core.specs.Relays.{RelayStands};
 
 use circ_relay::{Circuit, Rules};
 use hop_crypto::{Cipher, Opener, Sealer};
 use kdf_tor::LayerKeys;
-use tr_io::names::CircNo;
+use tr_io::names::{CircNo, Dir};
 
 /// The one-thread relay's state of a circuit, and the ciphers of its two directions as they are behind
 /// the bodies that came home.
@@ -34,6 +35,16 @@ impl Relay {
             circuit,
             forth: Cipher::Forth(opener),
             back: Cipher::Back(sealer),
+        }
+    }
+
+    /// The cipher of a direction.
+    pub fn cipher(&self, dir: Dir) -> &Cipher
+        ensures { result.now ≡ cipher_at self.now dir }
+    {
+        match dir {
+            Dir::Forth => &self.forth,
+            Dir::Back => &self.back,
         }
     }
 }

@@ -1,5 +1,9 @@
 //! A circuit by its number, which may be gone.
-ghost use Rattle.std.specs.Prelude.{◌≡◌, ⊤, IfSome};
+ghost use Rattle.std.specs.Prelude.{◌≡◌, ◌+◌, ◌<◌, ◌≤◌, ◌^◌, ⊤, IfSome, IsTrue, is_some, length, option_map};
+ghost use Rattle.circ_relay.specs.Values.{rules_of};
+ghost use Rattle.switch_machine.specs.Calls.Take.{kept_length};
+ghost use Rattle.switch_core.specs.Sealing.{sealed_cells_of, with_sealed};
+ghost use Rattle.switch_core.specs.Settling.{CallsGrow, HasCallsFor, SlotSettles};
 ghost use Rattle.cell_codec.specs.Cells.{IsWellFormed};
 ghost use Rattle.switch_machine.specs.Machine.{has_port, leg_at};
 ghost use Rattle.switch_machine.specs.Calls.NextCell.{waits_on, count_of_found, first_cell};
@@ -8,7 +12,10 @@ ghost use Rattle.switch_core.specs.Picking.{HasOneLeg, SlotSent};
 ghost use Rattle.switch_core.specs.Taking.{TakeCase, body_count, queued_answer, slot_with_body};
 
 use crate::circuit::Circuit;
+use crate::counters::Counters;
 use cell_codec::Cell;
+use circ_relay::{Circuit as RelayCircuit, Rules};
+use relay_cell::Opened;
 use tr_io::answers::{TakeAnswer, Why};
 use tr_io::names::ChanNo;
 
@@ -83,5 +90,44 @@ pub fn push_forth_of(
             Err(_) => TakeAnswer::Memory,
         },
         None => TakeAnswer::PassedOver(Why::NoCircuit),
+    }
+}
+
+/// The bodies of a live circuit's forward claim come home as these.
+pub fn settle_forth_of(
+    slot: &mut Option<Circuit>,
+    relay: &mut RelayCircuit,
+    rules: &Rules,
+    counters: &mut Counters,
+    opened: &[Opened],
+) -> Option<u8>
+    requires live { IsTrue (is_some slot.old) }
+    requires count { IfSome slot.old (λ x. length opened.now ≡ kept_length x.forth.kept) }
+    requires most { length opened.now ≤ 32 }
+    requires calls { HasCallsFor 32 relay.old }
+    requires bodies { counters.old.bodies < 2 ^ 99 }
+    requires dials { counters.old.dial_orders < 2 ^ 99 }
+    ensures settles { SlotSettles (rules_of rules.now) slot.old slot.new counters.old counters.new relay.old relay.new opened.now result }
+    ensures grown { CallsGrow (length opened.now) relay.old relay.new }
+    ensures counts { counters.new ≡ record counters.old { bodies = counters.new.bodies; dial_orders = counters.new.dial_orders } }
+    ensures bodies { counters.new.bodies ≤ counters.old.bodies + 32 }
+    ensures dials { counters.new.dial_orders ≤ counters.old.dial_orders + 32 }
+{
+    match slot {
+        Some(circuit) => circuit.settle_forth(relay, rules, counters, opened),
+        None => unreachable!(),
+    }
+}
+
+/// The bodies of a live circuit's backward claim come home sealed as these.
+pub fn seal_back_of(slot: &mut Option<Circuit>, sealed: &[Opened])
+    requires live { IsTrue (is_some slot.old) }
+    requires count { IfSome slot.old (λ x. length sealed.now ≡ kept_length x.back.kept) }
+    requires out { IfSome slot.old (λ x. kept_length x.back.kept ≤ x.back.claimed) }
+    ensures { slot.new ≡ option_map (with_sealed (sealed_cells_of sealed.now)) slot.old }
+{
+    match slot {
+        Some(circuit) => circuit.seal_back(sealed),
+        None => unreachable!(),
     }
 }

@@ -16,6 +16,9 @@ ghost use Rattle.switch_core.specs.Meaning.{start_of};
 ghost use Rattle.switch_core.specs.Started.{SwitchAdds};
 ghost use Rattle.switch_core.specs.Taking.{TakeCase};
 
+mod claims;
+mod returns;
+
 use crate::opening::{forget_relay, forget_taken, open_with_relay};
 use crate::parts::Parts;
 use crate::relay::Relay;

@@ -3,6 +3,9 @@ ghost use Rattle.std.specs.Prelude.{◌≡◌, IfOk, IfSome, IsTrue, false};
 ghost use Rattle.cell_codec.specs.Cells.{is_var};
 ghost use Rattle.tor_spec.specs.CellCommands.{asks_for_circuit, opens_circuit};
 
+mod claims;
+mod homecoming;
+mod returns;
 mod taking;
 
 use super::*;

@@ -4,6 +4,10 @@ ghost use Rattle.switch_machine.specs.Calls.OpenCircuit.{no_bodies};
 ghost use Rattle.switch_machine.specs.Calls.Settling.{more_waits};
 ghost use Rattle.switch_machine.specs.Calls.Take.{kept_length};
 
+mod home;
+mod out;
+mod settles;
+
 use std::alloc::{AllocError, Global};
 use std::collections::VecDeque;
 use std::marker::Model;

@@ -13,14 +13,11 @@ ghost use Rattle.switch_machine.specs.Calls.TearDown.{tear_down_state};
 ghost use Rattle.switch_core.specs.Picking.{first_leg_of, HasOneLeg};
 ghost use Rattle.switch_core.specs.Taking.{why_other, why_not_taken, TakeCase, IsOnLeg, closed_answer, queued_answer, forth_queued_state, body_count};
 
-use crate::parts::Parts;
+use crate::parts::{MOST_BODIES, Parts};
 use crate::slot::{push_forth_of, slot_body_count};
 use cell_codec::{Body, Cell, command, destroy_reason};
 use tr_io::answers::{BackAnswer, TakeAnswer, Why};
 use tr_io::names::{ChanNo, CircNo};
-
-/// How many cells a direction holds.
-const MOST_BODIES: usize = 1500;
 
 impl Parts {
     /// Takes a cell that a channel brings.

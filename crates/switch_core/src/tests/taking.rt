@@ -11,10 +11,10 @@ use std::test::Fail;
 use tr_io::answers::{BackAnswer, OpenAnswer, OpenRefusal, TakeAnswer, Why};
 use tr_io::names::{ChanNo, CircNo, Side};
 
-const CHANNEL: ChanNo = ChanNo(0);
+pub(super) const CHANNEL: ChanNo = ChanNo(0);
 
 /// The CircID of a circuit that its client has given this number.
-fn circ_id(number: u32) -> u32 {
+pub(super) fn circ_id(number: u32) -> u32 {
     0x8000_0001 + number % 512
 }
 
@@ -31,7 +31,7 @@ fn cell(id: u32, command: u8) -> Cell
 }
 
 /// A switch with a channel that the peer opened and two circuits on it.
-fn with_two_circuits(alloc: Global) -> Result<Switch, AllocError>
+pub(super) fn with_two_circuits(alloc: Global) -> Result<Switch, AllocError>
     ensures { IfOk result (λ s. s.state.steps ≤ 3) }
 {
     let mut switch = new_switch(alloc)?;

@@ -1,0 +1,19 @@
+use Rattle.std.proofs.Common.{◌≡◌, length, ap, arith}
+use Rattle.switch_machine.specs.Calls.Take.{kept_length}
+use Rattle.switch_machine.specs.State.{WayState}
+use Rattle.switch_core.specs.Meaning.{WithRoom, way_of}
+use Rattle.switch_core.proofs.Ways.{whole_length}
+use Rattle.switch_core.proofs.way.Way.claim_size.Goals as goal
+
+pub overflow_sub-waiting : goal.overflow_sub-waiting
+overflow_sub-waiting c =
+    let whole = whole_length c.self.inside.claimed c.self.inside.claim c.self.inside.bodies.items c.self.invariant in
+    let out : kept_length (way_of c.self.inside.claimed c.self.inside.claim c.self.inside.bodies.items).kept ≡ kept_length c.args.self.now.state.kept = ap (λ (w : WithRoom WayState). kept_length w.state.kept) c.self.view_is in
+    omega (arith, whole, out, c.out_count.ensures, c.len.ensures, c.self.inside.bodies.ok.0)
+
+pub returns : goal.returns
+returns c =
+    let whole = whole_length c.self.inside.claimed c.self.inside.claim c.self.inside.bodies.items c.self.invariant in
+    let out : kept_length (way_of c.self.inside.claimed c.self.inside.claim c.self.inside.bodies.items).kept ≡ kept_length c.args.self.now.state.kept = ap (λ (w : WithRoom WayState). kept_length w.state.kept) c.self.view_is in
+    let waits : length (way_of c.self.inside.claimed c.self.inside.claim c.self.inside.bodies.items).waiting ≡ length c.args.self.now.state.waiting = ap (λ (w : WithRoom WayState). length w.state.waiting) c.self.view_is in
+    omega (arith, whole, out, waits, c.out_count.ensures, c.len.ensures, c.self.inside.bodies.ok.0, c.min.ensures)
