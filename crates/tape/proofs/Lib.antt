@@ -1,5 +1,7 @@
 pub mod Fields
 pub mod Teardowns
+pub mod Takes
+pub mod SpareRoom
 pub mod Openings
 pub mod InputLaws
 pub mod Words

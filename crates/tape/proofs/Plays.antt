@@ -8,6 +8,7 @@ use Rattle.hop_handshake.specs.Opening.{cell_with, opening_under}
 use Rattle.hop_handshake.specs.declared.opening.Opening.{Opening}
 use Rattle.tr_io.specs.declared.answers.BackAnswer.{BackAnswer}
 use Rattle.tr_io.specs.declared.answers.OpenAnswer.{OpenAnswer}
+use Rattle.tr_io.specs.declared.answers.TakeAnswer.{TakeAnswer}
 use Rattle.tr_io.specs.declared.answers.UpAnswer.{UpAnswer}
 use Rattle.tr_io.specs.declared.names.ChanNo.{ChanNo}
 use Rattle.tr_io.specs.declared.names.CircNo.{CircNo}
@@ -16,17 +17,21 @@ use Rattle.tr_io.specs.declared.step.Step.{Step}
 use Rattle.tr_io.specs.declared.step.Step.TheVariants as Steps
 use Rattle.switch_machine.specs.Adds.{UpCase, OpenCase}
 use Rattle.switch_model.specs.Legal.{IsAnswered}
+use Rattle.switch_core.specs.Taking.{TakeCase}
 use Rattle.switch_core.specs.Started.{Started, SwitchStands, SwitchAdds}
 use Rattle.tape.specs.declared.record.CircuitRequest.{CircuitRequest}
 use Rattle.tape.specs.declared.record.Record.{Record}
-use Rattle.tape.specs.declared.record.Record.TheVariants.{ChannelUp, OpenCircuit, NextCell, TearDown}
+use Rattle.tape.specs.declared.record.Record.TheVariants.{ChannelUp, OpenCircuit, Take, NextCell, TearDown}
 use Rattle.tape.specs.Kinds.OpenCircuit.{command_byte, opening_kind}
 use Rattle.tape.specs.Kinds.ChannelUp.{up_bytes}
 use Rattle.tape.specs.Kinds.OpenCircuit.{open_bytes}
+use Rattle.tape.specs.Kinds.Take.{take_bytes}
 use Rattle.tape.specs.Kinds.NextCell.{next_bytes}
 use Rattle.tape.specs.Kinds.TearDown.{tear_down_bytes}
+use Rattle.tape.specs.Fronts.{bare, bare_cell}
 use Rattle.tape.specs.Playing.{PlaysOn}
 use Rattle.tape.specs.Steps.{tape_start, step_of, answer_of}
+use Rattle.tape.proofs.SpareRoom.{bare_adds}
 use Rattle.tape.specs.Kinds.OpenCircuit.{opening_for}
 
 -- An answer other than Memory has the second fact.
@@ -39,6 +44,12 @@ open_second : (P Q : Type 0) (a : OpenAnswer) → (a ≡ OpenAnswer.Memory → �
 open_second P Q OpenAnswer.Memory other case = absurd (other refl)
 open_second P Q (OpenAnswer.Opened n) other case = case
 open_second P Q (OpenAnswer.Refused why) other case = case
+
+take_second : (P Q : Type 0) (a : TakeAnswer) → (a ≡ TakeAnswer.Memory → ⊥) → TakeCase a P Q → Q
+take_second P Q TakeAnswer.Memory other case = absurd (other refl)
+take_second P Q TakeAnswer.Queued other case = case
+take_second P Q (TakeAnswer.PassedOver why) other case = case
+take_second P Q (TakeAnswer.Down circ reason) other case = case
 
 -- What follows where an answer was written.
 pub on_ok : {T E : Type 0} (P Q : Type 0) (r : Result T E) → OnOk r P → (P → Q) → OnOk r Q
@@ -88,6 +99,12 @@ open_plays rules old new chan y pad request opening a kind answers more is opens
     (λ h said. record { makes = ap (Steps.OpenCircuit chan request.id o.reply o.keys o.pad) said; answers = ap (open_bytes (opening_kind pad)) said })
     (written ∙ ap (λ n. answers ++ open_bytes n a) as_kind)
 
+pub take_plays : (rules : Rules) (old new : Started) (chan : ChanNo) (cell : Cell) (a : TakeAnswer) (answers more : List ℕ) → old.start ≡ tape_start rules → (a ≡ TakeAnswer.Memory → ⊥) →
+    TakeCase a (new ≡ old) (SwitchAdds old new (Steps.Take chan cell a)) → more ≡ answers ++ take_bytes a → PlaysOn rules (Take chan (bare_cell cell)) old new answers more
+take_plays rules old new chan cell a answers more is other case written =
+    plays rules (Take chan (bare_cell cell)) old new (Steps.Take chan (bare_cell cell) a) (take_bytes a) answers more is (bare_adds old new chan cell a (take_second _ _ a other case))
+    (λ h said. record { makes = ap (Steps.Take chan (bare_cell cell)) said; answers = ap take_bytes said }) written
+
 pub next_plays : (rules : Rules) (old new : Started) (chan : ChanNo) (tick : ℕ) (a : Option Cell) (answers more : List ℕ) → old.start ≡ tape_start rules →
     SwitchAdds old new (Steps.NextCell chan tick a) → more ≡ answers ++ next_bytes a → PlaysOn rules (NextCell chan tick) old new answers more
 next_plays rules old new chan tick a answers more is adds written =
@@ -100,5 +117,5 @@ tear_down_plays rules old new circ reason a answers more is adds written =
     plays rules (TearDown circ reason) old new (Steps.TearDown circ reason a) (tear_down_bytes a) answers more is adds
     (λ h said. record { makes = ap (Steps.TearDown circ reason) said; answers = ap tear_down_bytes said }) written
 
-pub plays_as : (rules : Rules) (r q : Record) (old new : Started) (answers more : List ℕ) → r ≡ q → PlaysOn rules q old new answers more → PlaysOn rules r old new answers more
-plays_as rules r q old new answers more is by = subst (λ x. PlaysOn rules x old new answers more) (sym is) by
+pub plays_as : (rules : Rules) (r q : Record) (old new : Started) (answers more : List ℕ) → r ≡ q → PlaysOn rules (bare q) old new answers more → PlaysOn rules (bare r) old new answers more
+plays_as rules r q old new answers more is by = subst (λ x. PlaysOn rules (bare x) old new answers more) (sym is) by

@@ -1,5 +1,6 @@
 -- What is read as a record spells it.
 use Rattle.std.proofs.Common.{◌≡◌, ℕ, suc, ◌+◌, ◌≤◌, ◌==◌, if◌then◌else◌, nat_lt, List, [], ◌∷◌, ◌++◌, length, take, drop, slice_index, Bool, true, false, Option, Some, None, refl, sym, ap, ◌∙◌, arith, append_assoc, length-drop, length-take, lit<, inl, inr}
+use Rattle.std.specs.Prelude.{Result, Ok, Err, IfOk}
 use Rattle.std.proofs.lemmas.Bool.{ltb-false, eqb-true, cases_lt}
 use Rattle.std.proofs.lemmas.List.{take-append-drop, length-take-le, drop-drop, get_or-take, get_or-drop, get_or_past}
 use Rattle.std.proofs.Math.Seq.{drop-cons}
@@ -14,10 +15,12 @@ use Rattle.tape.specs.Fronts.{FrontIs, record_and, less, no_record, unbuilt, fie
 use Rattle.tape.specs.Records.{front_of}
 use Rattle.tape.specs.Kinds.ChannelUp.{channel_up_front}
 use Rattle.tape.specs.Kinds.OpenCircuit.{open_circuit_front, padded_circuit_front, opening_front, open_circuit_record, front_with_command, command_of}
+use Rattle.tape.specs.Kinds.Take.{take_front}
 use Rattle.tape.specs.Kinds.NextCell.{next_cell_front}
 use Rattle.tape.specs.Kinds.TearDown.{tear_down_front}
 use Rattle.tor_spec.specs.CellStream.{IsBytes}
 use Rattle.tape.proofs.Fields.{field_bytes, field_4, field_8, part, drop_bytes}
+use Rattle.tape.proofs.Takes.{take_spelled}
 use Rattle.tape.proofs.Teardowns.{tear_down_spelled}
 use Rattle.tape.specs.declared.record.Front.{Front}
 use Rattle.tr_io.proofs.OutputLaws.{take_all}
@@ -153,33 +156,38 @@ opening_spelled fields pad n r rest bytes behind split is =
     open_by _ _ fields pad (drop n fields) r rest bytes (drop_bytes n fields bytes)
     (λ (long : 5 ≤ length (drop n fields)). omega (arith, long, length-drop n fields, behind)) split refl refl is
 
-front_by : (up opening next torn padded unbuilt_kind : Bool) (kind : ℕ) (fields : List ℕ) (r : Record) (rest : List ℕ) → IsBytes fields →
-    (kind == 1) ≡ up → (kind == 3) ≡ opening → (kind == 8) ≡ next → (kind == 14) ≡ torn → (kind == 15) ≡ padded →
+front_by : (up opening taken next torn padded unbuilt_kind : Bool) (kind : ℕ) (fields : List ℕ) (r : Record) (rest : List ℕ) → IsBytes fields →
+    (kind == 1) ≡ up → (kind == 3) ≡ opening → (kind == 4) ≡ taken → (kind == 8) ≡ next → (kind == 14) ≡ torn → (kind == 15) ≡ padded →
     (if up then channel_up_front fields
     else (if opening then open_circuit_front fields
+    else (if taken then take_front fields
     else (if next then next_cell_front fields
     else (if torn then tear_down_front fields
     else (if padded then padded_circuit_front fields
-    else (if unbuilt_kind then unbuilt kind else no_record)))))) ≡ record_and r rest →
+    else (if unbuilt_kind then unbuilt kind else no_record))))))) ≡ record_and r rest →
     kind ∷ fields ≡ spelling r ++ rest
 unfolding channel_up_front next_cell_front
-front_by true opening next torn padded unbuilt_kind kind fields r rest bytes is_up is_opening is_next is_torn is_padded is =
+front_by true opening taken next torn padded unbuilt_kind kind fields r rest bytes is_up is_opening is_taken is_next is_torn is_padded is =
     ap (λ k. k ∷ fields) (eqb-true kind 1 is_up) ∙ up_by _ _ _ fields r rest bytes refl refl refl is
-front_by false true next torn padded unbuilt_kind kind fields r rest bytes is_up is_opening is_next is_torn is_padded is =
+front_by false true taken next torn padded unbuilt_kind kind fields r rest bytes is_up is_opening is_taken is_next is_torn is_padded is =
     ap (λ k. k ∷ fields) (eqb-true kind 3 is_opening) ∙ opening_spelled fields None 28 r rest bytes (omega arith) refl is
-front_by false false true torn padded unbuilt_kind kind fields r rest bytes is_up is_opening is_next is_torn is_padded is =
+front_by false false true next torn padded unbuilt_kind kind fields r rest bytes is_up is_opening is_taken is_next is_torn is_padded is =
+    ap (λ k. k ∷ fields) (eqb-true kind 4 is_taken) ∙ take_spelled fields r rest bytes is
+front_by false false false true torn padded unbuilt_kind kind fields r rest bytes is_up is_opening is_taken is_next is_torn is_padded is =
     ap (λ k. k ∷ fields) (eqb-true kind 8 is_next) ∙ next_by _ fields r rest bytes refl is
-front_by false false false true padded unbuilt_kind kind fields r rest bytes is_up is_opening is_next is_torn is_padded is =
+front_by false false false false true padded unbuilt_kind kind fields r rest bytes is_up is_opening is_taken is_next is_torn is_padded is =
     ap (λ k. k ∷ fields) (eqb-true kind 14 is_torn) ∙ tear_down_spelled fields r rest bytes is
-front_by false false false false true unbuilt_kind kind fields r rest bytes is_up is_opening is_next is_torn is_padded is =
+front_by false false false false false true unbuilt_kind kind fields r rest bytes is_up is_opening is_taken is_next is_torn is_padded is =
     ap (λ k. k ∷ fields) (eqb-true kind 15 is_padded) ∙ opening_spelled fields (Some (field 28 16 fields)) 44 r rest bytes (omega arith) (part 28 16 fields) is
-front_by false false false false false true kind fields r rest bytes is_up is_opening is_next is_torn is_padded is = cc
-front_by false false false false false false kind fields r rest bytes is_up is_opening is_next is_torn is_padded is = cc
+front_by false false false false false false true kind fields r rest bytes is_up is_opening is_taken is_next is_torn is_padded is = cc
+front_by false false false false false false false kind fields r rest bytes is_up is_opening is_taken is_next is_torn is_padded is = cc
 
 pub read_is_spelled : (bytes : List ℕ) (r : Record) (rest : List ℕ) → IsBytes bytes → front_of bytes ≡ record_and r rest → bytes ≡ spelling r ++ rest
 unfolding front_of
 read_is_spelled [] r rest bytes is = cc
-read_is_spelled (kind ∷ fields) r rest bytes is = front_by _ _ _ _ _ _ kind fields r rest (λ i. bytes (suc i)) refl refl refl refl refl is
+read_is_spelled (kind ∷ fields) r rest bytes is = front_by _ _ _ _ _ _ _ kind fields r rest (λ i. bytes (suc i)) refl refl refl refl refl refl is
 
-pub front_is_spelled : (front : Front) (bytes : List ℕ) (r : Record) (rest : List ℕ) → IsBytes bytes → FrontIs front (front_of bytes) → FrontIs front (record_and r rest) → bytes ≡ spelling r ++ rest
-front_is_spelled front bytes r rest fits is read = read_is_spelled bytes r rest fits (sym is ∙ read)
+pub front_is_spelled : {E : Type 0} (r : Result Front E) (bytes : List ℕ) → IsBytes bytes → IfOk r (λ front. FrontIs front (front_of bytes)) →
+    IfOk r (λ front. (q : Record) (rest : List ℕ) → FrontIs front (record_and q rest) → bytes ≡ spelling q ++ rest)
+front_is_spelled (Ok front) bytes fits is = λ q rest read. read_is_spelled bytes q rest fits (sym is ∙ read)
+front_is_spelled (Err e) bytes fits is = tt

@@ -1,5 +1,6 @@
 -- What spells a record is read as it, and what is read as a record spells it.
 use Rattle.std.proofs.Common.{◌≡◌, ℕ, ◌+◌, ◌<◌, ◌≤◌, ◌^◌, List, [], ◌∷◌, ◌++◌, length, take, drop, slice_index, Option, Some, None, refl, sym, ap, ◌∙◌, arith, append_assoc, length-append}
+use Rattle.std.specs.Prelude.{Result, Ok, Err, IfOk}
 use Rattle.std.proofs.lemmas.Bool.{le-ltb}
 use Rattle.std.proofs.lemmas.List.{append-nil}
 use Rattle.std.proofs.lemmas.Nat.{from_be_bytes-to_be_bytes_4, from_be_bytes-to_be_bytes_8}
@@ -7,11 +8,14 @@ use Rattle.std.specs.Int.{w32, w64, from_be_bytes, to_be_bytes}
 use Rattle.tr_io.specs.declared.names.Side.{Side}
 use Rattle.tr_io.specs.declared.names.Side.TheVariants.{PeerOpened, WeOpened}
 use Rattle.tape.specs.declared.record.Record.{Record}
-use Rattle.tape.specs.declared.record.Record.TheVariants.{ChannelUp, OpenCircuit, NextCell, TearDown}
+use Rattle.tape.specs.declared.record.Record.TheVariants.{ChannelUp, OpenCircuit, Take, NextCell, TearDown}
 use Rattle.tape.specs.Fronts.{FrontOf, FrontIs, record_and, field}
 use Rattle.tape.specs.Records.{front_of}
 use Rattle.tape.specs.Kinds.ChannelUp.{channel_up_front}
 use Rattle.tape.specs.Kinds.OpenCircuit.{open_circuit_front, padded_circuit_front, opening_front, command_of}
+use Rattle.cell_codec.specs.Cells.{wire_cell}
+use Rattle.tor_spec.specs.CellEncoding.{encoding}
+use Rattle.tape.specs.Kinds.Take.{take_front}
 use Rattle.tape.specs.Kinds.NextCell.{next_cell_front}
 use Rattle.tape.specs.Kinds.TearDown.{tear_down_front}
 use Rattle.tape.specs.declared.record.CircuitRequest.{CircuitRequest}
@@ -22,6 +26,7 @@ use Rattle.tape.specs.Kinds.ChannelUp.{side_byte}
 use Rattle.tape.specs.Kinds.OpenCircuit.{command_byte}
 use Rattle.tape.specs.Spelling.{spelling, FitsFields}
 use Rattle.tape.proofs.Fields.{field_of, behind_of, byte_of, four, eight}
+use Rattle.tape.proofs.Takes.{take_read}
 use Rattle.tape.proofs.Teardowns.{tear_down_read}
 use Rattle.tape.proofs.Openings.{opened}
 
@@ -151,10 +156,14 @@ spelled_is_read (OpenCircuit chan y (Some pad) request) rest fits =
     ap padded_circuit_front (in_front c y pad (to_be_bytes w32 request.id) (command_byte request.command) request.payload rest)
     ∙ ap (λ xs. opening_front (take 28 fields) (Some xs) (drop 44 fields)) read_pad
     ∙ read_at fields (Some pad) 44 chan.0 y pad request rest fits.0 fits.3 fits.4 parts (ap (λ n. 28 + n) fits.2)
+spelled_is_read (Take chan cell) rest fits =
+    ap take_front (append_assoc (to_be_bytes w64 chan.0) (encoding (wire_cell cell)) rest) ∙ take_read chan.0 cell rest fits
 spelled_is_read (NextCell chan tick) rest fits =
     ap next_cell_front (append_assoc (to_be_bytes w64 chan.0) (to_be_bytes w64 tick) rest) ∙ next_read chan.0 tick rest fits.0 fits.1
 spelled_is_read (TearDown circ reason) rest fits =
     ap tear_down_front (append_assoc (to_be_bytes w64 circ.0) (reason ∷ []) rest) ∙ tear_down_read circ.0 reason rest fits.0
 
-pub spelled_is_front : (front : Front) (bytes : List ℕ) (r : Record) (rest : List ℕ) → FrontIs front (front_of bytes) → FitsFields r → bytes ≡ spelling r ++ rest → FrontIs front (record_and r rest)
-spelled_is_front front bytes r rest is fits spells = is ∙ ap front_of spells ∙ spelled_is_read r rest fits
+pub spelled_is_front : {E : Type 0} (r : Result Front E) (bytes : List ℕ) → IfOk r (λ front. FrontIs front (front_of bytes)) →
+    IfOk r (λ front. (q : Record) (rest : List ℕ) → FitsFields q → bytes ≡ spelling q ++ rest → FrontIs front (record_and q rest))
+spelled_is_front (Ok front) bytes is = λ q rest fits spells. is ∙ ap front_of spells ∙ spelled_is_read q rest fits
+spelled_is_front (Err e) bytes is = tt

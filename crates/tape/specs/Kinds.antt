@@ -3,4 +3,5 @@ pub mod Back
 pub mod ChannelUp
 pub mod OpenCircuit
 pub mod NextCell
+pub mod Take
 pub mod TearDown

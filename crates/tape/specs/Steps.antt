@@ -6,14 +6,16 @@ use Rattle.tr_io.specs.declared.step.Step.TheVariants as Steps
 use Rattle.switch_model.specs.Start.{Start}
 use Rattle.switch_model.specs.Answers.ChannelUp.{channel_up_answer}
 use Rattle.switch_model.specs.Answers.OpenCircuit.{open_answer}
+use Rattle.switch_model.specs.Answers.Take.{take_answer}
 use Rattle.switch_model.specs.Answers.NextCell.{next_cell_answer}
 use Rattle.switch_model.specs.Answers.TearDown.{tear_down_answer}
 use Rattle.tape.specs.declared.record.Record.{Record}
-use Rattle.tape.specs.declared.record.Record.TheVariants.{ChannelUp, OpenCircuit, NextCell, TearDown}
+use Rattle.tape.specs.declared.record.Record.TheVariants.{ChannelUp, OpenCircuit, Take, NextCell, TearDown}
 use Rattle.tape.specs.Fronts.{record_and}
 use Rattle.tape.specs.Records.{front_of}
 use Rattle.tape.specs.Kinds.ChannelUp.{up_bytes}
 use Rattle.tape.specs.Kinds.OpenCircuit.{opening_for, open_bytes, opening_kind}
+use Rattle.tape.specs.Kinds.Take.{take_bytes}
 use Rattle.tape.specs.Kinds.NextCell.{next_bytes}
 use Rattle.tape.specs.Kinds.TearDown.{tear_down_bytes}
 
@@ -27,6 +29,7 @@ step_of rules h (ChannelUp slot side) = Steps.ChannelUp slot side (channel_up_an
 step_of rules h (OpenCircuit chan y pad request) =
     Steps.OpenCircuit chan request.id (opening_for request y pad).reply (opening_for request y pad).keys (opening_for request y pad).pad
     (open_answer rules h chan.0 request.id (opening_for request y pad).keys)
+step_of rules h (Take chan cell) = Steps.Take chan cell (take_answer rules h chan.0 cell)
 step_of rules h (NextCell chan tick) = Steps.NextCell chan tick (next_cell_answer rules h chan.0 tick)
 step_of rules h (TearDown circ reason) = Steps.TearDown circ reason (tear_down_answer rules h circ.0 reason)
 
@@ -35,6 +38,7 @@ abbrev pub answer_of : Rules → List Step → Record → List ℕ
 answer_of rules h (ChannelUp slot side) = up_bytes (channel_up_answer h)
 answer_of rules h (OpenCircuit chan y pad request) =
     open_bytes (opening_kind pad) (open_answer rules h chan.0 request.id (opening_for request y pad).keys)
+answer_of rules h (Take chan cell) = take_bytes (take_answer rules h chan.0 cell)
 answer_of rules h (NextCell chan tick) = next_bytes (next_cell_answer rules h chan.0 tick)
 answer_of rules h (TearDown circ reason) = tear_down_bytes (tear_down_answer rules h circ.0 reason)
 

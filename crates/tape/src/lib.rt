@@ -7,6 +7,7 @@
 #![tactic(auto)]
 
 mod field;
+mod first_cell;
 pub mod input;
 pub mod kinds;
 mod player;

@@ -2,6 +2,7 @@
 ghost use Rattle.std.specs.Prelude.{◌≡◌, ◌+◌, ◌<◌, ◌≤◌, ◌^◌, [], IfOk, OnOk, OnErr};
 ghost use Rattle.circ_relay.specs.Values.{rules_of};
 ghost use Rattle.switch_machine.specs.Machine.{new_state};
+ghost use Rattle.tape.specs.Fronts.{bare, MeetsCall};
 ghost use Rattle.tape.specs.Playing.{PlaysOn};
 ghost use Rattle.tape.specs.Steps.{tape_start};
 ghost use Rattle.tape.specs.TapeRules.{tape_rules};
@@ -9,6 +10,7 @@ ghost use Rattle.tape.specs.TapeRules.{tape_rules};
 use crate::kinds::channel_up::write_up;
 use crate::kinds::next_cell::write_next;
 use crate::kinds::open_circuit::{opening_kind, write_open};
+use crate::kinds::take::write_take;
 use crate::kinds::tear_down::write_tear_down;
 use crate::record::Record;
 use crate::rules::TapeRules;
@@ -17,7 +19,7 @@ use circ_relay::{Allow, Rules};
 use hop_handshake::{FastHandshake, opening_of};
 use std::alloc::{AllocError, Global};
 use switch_core::Switch;
-use tr_io::answers::{OpenAnswer, UpAnswer};
+use tr_io::answers::{OpenAnswer, TakeAnswer, UpAnswer};
 use tr_io::names::Dest;
 
 /// A switch that a tape is played on, and the answers that aren't written yet.
@@ -43,6 +45,11 @@ impl Player {
         })
     }
 
+    /// The allocator of its switch.
+    pub fn alloc(&self) -> Global {
+        self.alloc
+    }
+
     /// The answers that aren't written yet.
     pub fn answers(&self) -> &[u8]
         ensures { result.now ≡ self.now.answers.items }
@@ -63,9 +70,10 @@ impl Player {
     pub fn play(&mut self, record: Record) -> Result<(), AllocError>
         requires start { self.old.switch.start ≡ tape_start self.old.switch.start.rules }
         requires steps { self.old.switch.state.steps < 2 ^ 62 }
+        requires meets { MeetsCall «record» }
         ensures start { self.new.switch.start ≡ self.old.switch.start }
         ensures steps { self.new.switch.state.steps ≤ self.old.switch.state.steps + 1 }
-        ensures ok { OnOk result (PlaysOn self.old.switch.start.rules «record» self.old.switch self.new.switch self.old.answers.items self.new.answers.items) }
+        ensures ok { OnOk result (PlaysOn self.old.switch.start.rules (bare «record») self.old.switch self.new.switch self.old.answers.items self.new.answers.items) }
         ensures err { OnErr result (self.new.answers.items ≡ self.old.answers.items) }
     {
         match record {
@@ -85,6 +93,10 @@ impl Player {
                     answer => write_open(opening_kind(pad), answer, &mut self.answers),
                 }
             }
+            Record::Take(chan, cell) => match self.switch.take(chan, &cell) {
+                TakeAnswer::Memory => Err(AllocError),
+                answer => write_take(answer, &mut self.answers),
+            },
             Record::NextCell(chan, tick) => {
                 let answer = self.switch.next_cell(chan, tick);
                 write_next(&answer, &mut self.answers)

@@ -3,6 +3,7 @@ ghost use Rattle.std.specs.Prelude.{◌≡◌, IsTrue};
 ghost use Rattle.tor_spec.specs.CellCommands.{asks_for_circuit};
 ghost use Rattle.tape.specs.Kinds.OpenCircuit.{command_byte};
 
+use cell_codec::Cell;
 use cell_codec::command::{CREATE, CREATE_FAST, CREATE2};
 use tr_io::names::{ChanNo, CircNo, Side};
 
@@ -47,6 +48,8 @@ pub enum Record {
     /// `open_circuit`: the channel, the relay's Y, the key of the padding, if there is one, and the
     /// cell that asks for the circuit.
     OpenCircuit(ChanNo, [u8; 20], Option<[u8; 16]>, CircuitRequest),
+    /// `take`: the channel, the cell that it brings.
+    Take(ChanNo, Cell),
     /// `next_cell`: the channel, the tick.
     NextCell(ChanNo, u64),
     /// `tear_down`: the circuit, the reason.

@@ -136,7 +136,10 @@ fn play_records<K: Sink>(
     let mut rest = first;
     loop {
         let place = (tape.len() - rest.len()) as u64;
-        match read_front(rest) {
+        let Ok(front) = read_front(player.alloc(), rest) else {
+            return Ok(Status::Memory);
+        };
+        match front {
             Front::Whole(record, behind) => {
                 let Ok(()) = player.play(record) else {
                     return Ok(Status::Memory);

@@ -2,6 +2,7 @@
 //! is SHA-1 of 41 zero bytes, computed elsewhere.
 ghost use Rattle.std.specs.Prelude.{◌≤◌};
 
+mod take;
 mod tear_down;
 
 use crate::tape_main;
@@ -299,7 +300,8 @@ fn bytes_that_begin_no_built_record_end_the_tape(rt: HostRuntime) -> Result<(), 
         ([0xff, 0, 0, 0, 0, 0], Status::BadTape(6)),
         ([0x01, 0, 0, 0, 0, 2], Status::BadTape(6)),
         ([0x02, 0, 0, 0, 0, 0], Status::NotBuilt(2)),
-        ([0x04, 0, 0, 0, 0, 0], Status::NotBuilt(4)),
+        ([0x04, 0, 0, 0, 0, 0], Status::BadTape(6)),
+        ([0x05, 0, 0, 0, 0, 0], Status::NotBuilt(5)),
         ([0x07, 0, 0, 0, 0, 0], Status::NotBuilt(7)),
         ([0x09, 0, 0, 0, 0, 0], Status::NotBuilt(9)),
         ([0x0d, 0, 0, 0, 0, 0], Status::NotBuilt(13)),

@@ -1,6 +1,6 @@
 //! Kind 01, `channel_up`.
 ghost use Rattle.std.specs.Prelude.{◌≡◌, ◌+◌, ◌++◌, length, OnOk, OnErr};
-ghost use Rattle.tape.specs.Fronts.{FrontIs, RestIsShorter};
+ghost use Rattle.tape.specs.Fronts.{FrontIs, FrontMeetsCall, RestIsShorter};
 ghost use Rattle.tape.specs.Kinds.ChannelUp.{channel_up_front, up_bytes};
 
 use crate::field::field;
@@ -14,6 +14,7 @@ use tr_io::names::Side;
 #[tactic(auto, unfolding(crate::specs::Kinds::ChannelUp::channel_up_front))]
 pub fn read(fields: &[u8]) -> Front<'_>
     ensures front { FrontIs result (channel_up_front fields.now) }
+    ensures meets { FrontMeetsCall result }
     ensures shorter { RestIsShorter result (length fields.now + 1) }
 {
     if fields.len() < 5 {

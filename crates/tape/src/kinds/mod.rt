@@ -3,6 +3,7 @@ mod back;
 pub mod channel_up;
 pub mod next_cell;
 pub mod open_circuit;
+pub mod take;
 pub mod tear_down;
 
 ghost use Rattle.std.specs.Prelude.{◌≡◌, ◌++◌, OnOk, OnErr};

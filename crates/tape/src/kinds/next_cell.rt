@@ -1,7 +1,7 @@
 //! Kind 08, `next_cell`.
 ghost use Rattle.std.specs.Prelude.{◌≡◌, ◌+◌, ◌++◌, length, Some, IfSome, OnOk, OnErr};
 ghost use Rattle.cell_codec.specs.Cells.{IsWellFormed};
-ghost use Rattle.tape.specs.Fronts.{FrontIs, RestIsShorter};
+ghost use Rattle.tape.specs.Fronts.{FrontIs, FrontMeetsCall, RestIsShorter};
 ghost use Rattle.tape.specs.Kinds.NextCell.{next_cell_front, next_bytes};
 
 use crate::field::field;
@@ -14,6 +14,7 @@ use tr_io::names::ChanNo;
 #[tactic(auto, unfolding(crate::specs::Kinds::NextCell::next_cell_front))]
 pub fn read(fields: &[u8]) -> Front<'_>
     ensures front { FrontIs result (next_cell_front fields.now) }
+    ensures meets { FrontMeetsCall result }
     ensures shorter { RestIsShorter result (length fields.now + 1) }
 {
     if fields.len() < 16 {

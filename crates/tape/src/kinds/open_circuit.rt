@@ -1,6 +1,6 @@
 //! Kinds 03 and 0f, `open_circuit` without and with a key of the padding.
 ghost use Rattle.std.specs.Prelude.{◌≡◌, ◌+◌, ◌≤◌, ◌++◌, length, OnOk, OnErr};
-ghost use Rattle.tape.specs.Fronts.{FrontIs, RestIsShorter};
+ghost use Rattle.tape.specs.Fronts.{FrontIs, FrontMeetsCall, MeetsCall, RestIsShorter};
 ghost use Rattle.tape.specs.Kinds.OpenCircuit.{opening_kind, open_circuit_front, padded_circuit_front, opening_front, command_of, open_circuit_record, open_bytes};
 
 use crate::field::field;
@@ -27,6 +27,7 @@ pub fn opening_kind(pad: Option<[u8; 16]>) -> u8
 /// Reads the fields of a record without a key of the padding.
 pub fn read(fields: &[u8]) -> Front<'_>
     ensures front { FrontIs result (open_circuit_front fields.now) }
+    ensures meets { FrontMeetsCall result }
     ensures shorter { RestIsShorter result (length fields.now + 1) }
 {
     match fields.split_first_chunk::<HEAD>() {
@@ -38,6 +39,7 @@ pub fn read(fields: &[u8]) -> Front<'_>
 /// Reads the fields of a record with a key of the padding.
 pub fn read_padded(fields: &[u8]) -> Front<'_>
     ensures front { FrontIs result (padded_circuit_front fields.now) }
+    ensures meets { FrontMeetsCall result }
     ensures shorter { RestIsShorter result (length fields.now + 1) }
 {
     let Some((head, rest)) = fields.split_first_chunk::<HEAD>() else {
@@ -53,6 +55,7 @@ pub fn read_padded(fields: &[u8]) -> Front<'_>
 #[tactic(auto, using(crate::proofs::Openings::opened), unfolding(crate::specs::Kinds::OpenCircuit::opening_front))]
 fn opening<'a>(head: &[u8; HEAD], pad: Option<[u8; 16]>, cell: &'a [u8]) -> Front<'a>
     ensures front { FrontIs result (opening_front head.now pad cell.now) }
+    ensures meets { FrontMeetsCall result }
     ensures shorter { RestIsShorter result (length cell.now + 1) }
 {
     if cell.len() < 5 {
@@ -75,7 +78,8 @@ fn open_circuit_record(
     cell: &[u8],
 ) -> Record
     requires { 514 ≤ length cell.now }
-    ensures { result ≡ open_circuit_record head.now pad command cell.now }
+    ensures fields { result ≡ open_circuit_record head.now pad command cell.now }
+    ensures meets { MeetsCall result }
 {
     let chan = ChanNo(u64::from_be_bytes(field(head, 0)));
     let request = CircuitRequest {

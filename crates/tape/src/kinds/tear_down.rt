@@ -1,6 +1,6 @@
 //! Kind 0e, `tear_down`.
 ghost use Rattle.std.specs.Prelude.{◌≡◌, ◌+◌, ◌++◌, length, OnOk, OnErr};
-ghost use Rattle.tape.specs.Fronts.{FrontIs, RestIsShorter};
+ghost use Rattle.tape.specs.Fronts.{FrontIs, FrontMeetsCall, RestIsShorter};
 ghost use Rattle.tape.specs.Kinds.TearDown.{tear_down_front, tear_down_bytes};
 
 use crate::field::field;
@@ -14,6 +14,7 @@ use tr_io::names::CircNo;
 #[tactic(auto, unfolding(crate::specs::Kinds::TearDown::tear_down_front))]
 pub fn read(fields: &[u8]) -> Front<'_>
     ensures front { FrontIs result (tear_down_front fields.now) }
+    ensures meets { FrontMeetsCall result }
     ensures shorter { RestIsShorter result (length fields.now + 1) }
 {
     if fields.len() < 9 {

@@ -5,20 +5,20 @@ use std::test::Fail;
 use tr_io::status::Status;
 
 /// A record that tears a circuit down, and one that asks channel 0 for its next cell.
-fn tear_down(circ: u8, reason: u8) -> [u8; 10] {
+pub fn tear_down(circ: u8, reason: u8) -> [u8; 10] {
     [0x0e, 0, 0, 0, 0, 0, 0, 0, circ, reason]
 }
 
-const NEXT: [u8; 17] = [8, 0, 0, 0, 0, 0, 0, 0, 0, 0, 0, 0, 0, 0, 0, 0, 0];
+pub const NEXT: [u8; 17] = [8, 0, 0, 0, 0, 0, 0, 0, 0, 0, 0, 0, 0, 0, 0, 0, 0];
 
 /// The records that bring up channel 0 and open circuit 0 on it, at CircID 80000001.
-fn one_circuit(alloc: Global) -> Result<Vec<u8>, Fail> {
+pub fn one_circuit(alloc: Global) -> Result<Vec<u8>, Fail> {
     let whole = tape(alloc, [0x80, 0, 0, 1])?;
     Ok(front(whole.as_slice(), 549)?.to_vec(alloc)?)
 }
 
 /// The answer to `next_cell` that is a DESTROY at CircID 80000001.
-fn put_destroy(bytes: &mut Vec<u8>, reason: u8) -> Result<(), AllocError> {
+pub fn put_destroy(bytes: &mut Vec<u8>, reason: u8) -> Result<(), AllocError> {
     put(bytes, &[8, 1, 0x80, 0, 0, 1, 4, reason])?;
     put_zeros(bytes, 508)
 }

@@ -1,4 +1,4 @@
-use Rattle.tape.proofs.Plays.{on_ok, plays_as, up_plays, opens_by, open_plays, next_plays, tear_down_plays}
+use Rattle.tape.proofs.Plays.{on_ok, plays_as, up_plays, opens_by, open_plays, take_plays, next_plays, tear_down_plays}
 use Rattle.tape.proofs.player.Player.play.Goals as goal
 
 pub returns-in-ChannelUp-clause-ok : goal.returns-in-ChannelUp-clause-ok
@@ -16,6 +16,12 @@ returns-in-OpenCircuit-clause-ok c =
     (opens_by _ c.in-OpenCircuit.request c.in-OpenCircuit.y c.in-OpenCircuit.pad _ c.in_ok-opening-in-OpenCircuit.ensures.opening c.byte.ensures.byte)
     c.in_default-open_circuit.not-Memory c.open_circuit.ensures.whole c.opening_kind.ensures
     written))
+
+pub returns-in-Take-clause-ok : goal.returns-in-Take-clause-ok
+returns-in-Take-clause-ok c =
+    on_ok _ _ c.write_take.result c.write_take.ensures.ok
+    (λ written. plays_as _ _ _ _ _ _ _ c.in-Take.is
+    (take_plays _ _ _ c.in-Take.chan c.in-Take.cell c.take.result _ _ c.requires.start c.in_default-take.not-Memory c.take.ensures.whole written))
 
 pub returns-in-NextCell-clause-ok : goal.returns-in-NextCell-clause-ok
 returns-in-NextCell-clause-ok c =
