@@ -81,7 +81,7 @@ unfolding first_address specified_address
 leads_read found None none = ap (option_map specified_address) (none_found found none)
 leads_read found (Some to) first =
     ap (λ l. option_map specified_address (find is_address l)) first.place
-    ∙ ap (option_map specified_address) (found_behind first.before first.specifier first.behind first.first first.kind)
+    ∙ ap (option_map specified_address) (found_behind first.before first.specifier first.after first.first first.kind)
     ∙ ap (λ v. Some (record { ip = take 4 v; port = from_be_bytes w16 (drop 4 v) })) first.value
     ∙ ap Some (address_at to.ip to.port first.four first.port_fits)
 
@@ -172,7 +172,7 @@ address_first s found is fits kind =
     let port_bytes = IsBytes-drop 4 s.value fits in
     record {
       before = [];
-      behind = found;
+      after = found;
       specifier = s;
       place = refl;
       first = tt;
@@ -186,7 +186,7 @@ leads_behind : (s : Specifier) (found : List Specifier) (to : Option Address) �
 leads_behind s found None other none = (other, none)
 leads_behind s found (Some to) other first = record {
   before = s ∷ first.before;
-  behind = first.behind;
+  after = first.after;
   specifier = first.specifier;
   place = ap (λ l. s ∷ l) first.place;
   first = (other, first.first);

@@ -23,9 +23,9 @@ NoAddress found = AllByRecursion (λ s. s.kind ≢ 0) found
 -- The first specifier of type 0 has this address and port.
 pub record FirstAddress (found : List Specifier) (to : Address) : Type 0 where
   pub before : List Specifier
-  pub behind : List Specifier
+  pub after : List Specifier
   pub specifier : Specifier
-  pub place : found ≡ before ++ specifier ∷ behind
+  pub place : found ≡ before ++ specifier ∷ after
   pub first : NoAddress before
   pub kind : specifier.kind ≡ 0
   pub value : specifier.value ≡ to.ip ++ to_be_bytes w16 to.port

@@ -41,9 +41,9 @@ some_none : (x : Option ℕ) → is_some x ≡ not (is_none x)
 some_none None = refl
 some_none (Some n) = refl
 
-pub free_by_the_log : (s : PlacesState) (log : Log) (free : Bool) → free ≡ is_some (position is_free s.held) → length s.held ≡ 32 → ArePlaces s log → AreNamed log
+pub free_by_the_log : (s : PlacesState) (log : Log) (free : Bool) → free ≡ is_some (position is_free s.streams) → length s.streams ≡ 32 → ArePlaces s log → AreNamed log
     → free ≡ not (nat_le place_limit (taken_places log))
-free_by_the_log s log free is whole are named = is ∙ some_none (position is_free s.held) ∙ ap not (full_by_the_log s log are named whole)
+free_by_the_log s log free is whole are named = is ∙ some_none (position is_free s.streams) ∙ ap not (full_by_the_log s log are named whole)
 
 -- What a BEGIN does.
 
@@ -102,10 +102,10 @@ pub record IsKept (old new : List Dest) (place : ℕ) (to : Dest) : Type 0 where
   pub there : (none : Dest) → slice_index_or new place none ≡ to
   pub elsewhere : (other : ℕ) (none : Dest) → other ≢ place → slice_index_or new other none ≡ slice_index_or old other none
 
-reached_there : (s : PlacesState) (log longer : Log) (place id : ℕ) (to : Dest) (h : Held) (of_log : Place) → ArePlaces s log → place < length s.held
+reached_there : (s : PlacesState) (log longer : Log) (place id : ℕ) (to : Dest) (h : Held) (of_log : Place) → ArePlaces s log → place < length s.streams
     → places longer ≡ places log ++ place_made log id (address_of to) ∷ [] → held_at (after_begin s place id) place ≡ Some h → place_at longer h.serial ≡ Some of_log → of_log.to ≡ address_of to
 reached_there s log longer place id to h of_log are within more holds at =
-    let there : held_at (after_begin s place id) place ≡ Some (begun id s.next_serial) = get_or-set_same s.held place (Some (begun id s.next_serial)) None within in
+    let there : held_at (after_begin s place id) place ≡ Some (begun id s.next_serial) = get_or-set_same s.streams place (Some (begun id s.next_serial)) None within in
     let h_is : begun id s.next_serial ≡ h = same_some (begun id s.next_serial) h (sym there ∙ holds) in
     let serial : h.serial ≡ length (places log) = ap (λ (k : Held). k.serial) (sym h_is) ∙ are.next in
     let got : slice_get (places log ++ place_made log id (address_of to) ∷ []) (length (places log)) ≡ Some of_log =
@@ -116,13 +116,13 @@ reached_elsewhere : (s : PlacesState) (addresses : List Dest) (log longer : Log)
     → places longer ≡ places log ++ place_made log id (address_of to) ∷ [] → other ≢ place → held_at (after_begin s place id) other ≡ Some h → place_at longer h.serial ≡ Some of_log
     → of_log.to ≡ address_of (slice_index_or addresses other none)
 reached_elsewhere s addresses log longer place id other to h of_log none are kept more apart holds at =
-    let before : held_at s other ≡ Some h = sym (get_or-set_other s.held place other (Some (begun id s.next_serial)) None apart) ∙ holds in
+    let before : held_at s other ≡ Some h = sym (get_or-set_other s.streams place other (Some (begun id s.next_serial)) None apart) ∙ holds in
     let old = are.streams other h before in
     let got : place_at longer h.serial ≡ Some old.place = ap (λ (ps : List Place). slice_get ps h.serial) more ∙ got_before (places log) (place_made log id (address_of to)) old.place h.serial old.found in
     ap (λ (p : Place). p.to) (sym (same_some old.place of_log (sym got ∙ at))) ∙ kept other h old.place none before old.found
 
 reached_address : (s : PlacesState) (addresses new : List Dest) (log longer : Log) (place id other : ℕ) (to : Dest) (h : Held) (of_log : Place) (none : Dest) → ArePlaces s log → AreAddresses addresses s log
-    → IsKept addresses new place to → place < length s.held → places longer ≡ places log ++ place_made log id (address_of to) ∷ [] → (b : Bool) → (other == place) ≡ b
+    → IsKept addresses new place to → place < length s.streams → places longer ≡ places log ++ place_made log id (address_of to) ∷ [] → (b : Bool) → (other == place) ≡ b
     → held_at (after_begin s place id) other ≡ Some h → place_at longer h.serial ≡ Some of_log → of_log.to ≡ address_of (slice_index_or new other none)
 reached_address s addresses new log longer place id other to h of_log none are old kept within more true at holds got =
     let spot : other ≡ place = same_by other place at in
@@ -134,7 +134,7 @@ reached_address s addresses new log longer place id other to h of_log none are o
 
 pub reached_parts : (c d : Circuit) (new : PlacesState) (message : CodeMessage) (rules : Rules) (log : Log) (command : ℕ) (body : List ℕ) (m : Message) (place : ℕ) (to : Dest)
     → IsBrought message log command body m → HasParts c log → m.command ≡ begin_command → begin_effects rules log m ≡ reaching log m.stream (Some (address_of to))
-    → position is_free c.places.held ≡ Some place → new ≡ after_begin c.places place message.stream → IsKept c.addresses d.addresses place to
+    → position is_free c.places.streams ≡ Some place → new ≡ after_begin c.places place message.stream → IsKept c.addresses d.addresses place to
     → d ≡ record c { places = new; addresses = d.addresses } → HasParts d (after_cell rules log command body)
 reached_parts c d new message rules log command body m place to b has is reaches free becomes kept rest =
     let entry : Entry = entry_after rules log (Forward command body) in
@@ -145,7 +145,7 @@ reached_parts c d new message rules log command body m place to b has is reaches
     ap (λ (e : Effects). e.edge) given in
     let more : places (after_cell rules log command body) ≡ places log ++ place_made log message.stream (address_of to) ∷ [] =
     places_more entry log (place_made log message.stream (address_of to)) (ap place_of edge) in
-    let within : place < length c.places.held = (position-Some is_free c.places.held place None free).0 in
+    let within : place < length c.places.streams = (position-Some is_free c.places.streams place None free).0 in
     let are : ArePlaces (after_begin c.places place message.stream) (after_cell rules log command body) =
     begin_takes_a_place c.places rules log (Forward command body) m place message.stream (address_of to) has.places (found message log command body m b) is edge free in
     let addressed : AreAddresses d.addresses (after_begin c.places place message.stream) (after_cell rules log command body) =

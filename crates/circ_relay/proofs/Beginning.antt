@@ -14,7 +14,7 @@ nothing-held zero place = refl
 nothing-held (suc n) zero = refl
 nothing-held (suc n) (suc place) = nothing-held n place
 
-pub nothing_is_held : ArePlaces (record { held = replicate 32 None; next_serial = 0; calls = 0 }) []
+pub nothing_is_held : ArePlaces (record { streams = replicate 32 None; next_serial = 0; calls = 0 }) []
 nothing_is_held = record {
   next = refl;
   streams = λ place h is. absurd (none-held h (sym (nothing-held 32 place) ∙ is));

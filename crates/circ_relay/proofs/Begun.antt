@@ -35,7 +35,7 @@ pub record IsBegun (state : PlacesState) (log : Log) (entry : Entry) (place : �
   pub order : entry.effects.edge ≡ Some (Reach (record { stream = id; serial = length (places log) }) to)
   pub silent : (serial : ℕ) → IsSilent entry serial
   pub free : held_at state place ≡ None
-  pub within : place < length state.held
+  pub within : place < length state.streams
   pub are : ArePlaces state log
 
 abbrev pub after_begin : PlacesState → ℕ → ℕ → PlacesState
@@ -52,10 +52,10 @@ found-before entry log made x serial makes found = ap (λ (xs : List Place). sli
 
 there : (state : PlacesState) (log : Log) (entry : Entry) (place id : ℕ) (to : Address) → IsBegun state log entry place id to →
     held_at (after_begin state place id) place ≡ Some (begun id state.next_serial)
-there state log entry place id to begins = get_or-set_same state.held place (Some (begun id state.next_serial)) None begins.within
+there state log entry place id to begins = get_or-set_same state.streams place (Some (begun id state.next_serial)) None begins.within
 
 elsewhere : (state : PlacesState) (place id other : ℕ) → other ≢ place → held_at (after_begin state place id) other ≡ held_at state other
-elsewhere state place id other apart = get_or-set_other state.held place other (Some (begun id state.next_serial)) None apart
+elsewhere state place id other apart = get_or-set_other state.streams place other (Some (begun id state.next_serial)) None apart
 
 -- What the state holds afterwards: at this place the stream that has begun, elsewhere what it held.
 holds-by : (state : PlacesState) (log : Log) (entry : Entry) (place id : ℕ) (to : Address) → IsBegun state log entry place id to →
@@ -148,12 +148,12 @@ free-is (Some h) is = cc
 
 pub begin_takes_a_place : (state : PlacesState) (rules : Rules) (log : Log) (e : Event) (m : Message) (place id : ℕ) (to : Address) →
     ArePlaces state log → message_at log e ≡ Some m → m.command ≡ begin_command →
-    (effects_after rules log e).edge ≡ Some (Reach (record { stream = id; serial = length (places log) }) to) → position is_free state.held ≡ Some place →
+    (effects_after rules log e).edge ≡ Some (Reach (record { stream = id; serial = length (places log) }) to) → position is_free state.streams ≡ Some place →
     ArePlaces (record (with_held state place (Some (begun id state.next_serial))) { next_serial = state.next_serial + 1 }) (entry_after rules log e ∷ log)
 begin_takes_a_place state rules log e m place id to are found command order first =
     let entry : Entry = entry_after rules log e in
     let no_report : IsNoReport e = message_is_no_report log e m found in
-    let at = position-Some is_free state.held place None first in
+    let at = position-Some is_free state.streams place None first in
     begun_takes_a_place state log entry place id to (record {
       order = order;
       silent = λ serial. record {

@@ -14,7 +14,7 @@ use Rattle.circ_relay.proofs.Telling.{places_stay, untold_stays, silent_phase, s
 -- No place is told of.
 
 pub silent_entry_leaves_places : (state new : PlacesState) (log : Log) (entry : Entry) →
-    new.held ≡ state.held → new.next_serial ≡ state.next_serial → place_of entry.effects.edge ≡ None →
+    new.streams ≡ state.streams → new.next_serial ≡ state.next_serial → place_of entry.effects.edge ≡ None →
     ((serial : ℕ) → IsSilent entry serial) → ArePlaces state log → ArePlaces new (entry ∷ log)
 silent_entry_leaves_places state new log entry held next none silent are =
     let same : (place : ℕ) → held_at new place ≡ held_at state place = λ place. ap (λ (xs : List (Option Held)). get_or xs place None) held in
@@ -135,7 +135,7 @@ stream_goes state log entry place g at none silent free are =
     })
 
 -- Calls that change no place say nothing of the log.
-pub calls_say_nothing : (state new : PlacesState) (log : Log) → new.held ≡ state.held → new.next_serial ≡ state.next_serial → ArePlaces state log → ArePlaces new log
+pub calls_say_nothing : (state new : PlacesState) (log : Log) → new.streams ≡ state.streams → new.next_serial ≡ state.next_serial → ArePlaces state log → ArePlaces new log
 calls_say_nothing state new log held next are =
     let same : (place : ℕ) → held_at new place ≡ held_at state place = λ place. ap (λ (xs : List (Option Held)). get_or xs place None) held in
     record {

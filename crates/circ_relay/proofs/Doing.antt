@@ -149,16 +149,16 @@ unallowed-begins : (rules : Rules) (log : Log) (stream : ℕ) (target : Target) 
     beginning rules log stream (Some target) ≡ ending log stream 4
 unallowed-begins rules log stream target room unallowed = rw (room, unallowed) refl
 
-pub full_does : (state : PlacesState) (rules : Rules) (log : Log) (e : Event) (m : Message) (target : Target) → ArePlaces state log → AreNamed log → length state.held ≡ 32 →
-    message_at log e ≡ Some m → m.command ≡ begin_command → 0 < m.stream → m.place ≡ None → begin_target m.payload ≡ Some target → position is_free state.held ≡ None →
+pub full_does : (state : PlacesState) (rules : Rules) (log : Log) (e : Event) (m : Message) (target : Target) → ArePlaces state log → AreNamed log → length state.streams ≡ 32 →
+    message_at log e ≡ Some m → m.command ≡ begin_command → 0 < m.stream → m.place ≡ None → begin_target m.payload ≡ Some target → position is_free state.streams ≡ None →
     effects_after rules log e ≡ ending log m.stream 11
 full_does state rules log e m target are named whole found command stream free asked none =
     let nonzero : (m.stream == 0) ≡ false = grind arith in
     read-effects rules log e m found ∙ begin-is rules log m target command nonzero free asked
     ∙ full-begins rules log m.stream target (sym (full_by_the_log state log are named whole) ∙ ap (λ (x : Option ℕ). is_none x) none)
 
-pub begin_does : (state : PlacesState) (rules : Rules) (log : Log) (e : Event) (m : Message) (target : Target) (place : ℕ) (to : Address) → ArePlaces state log → AreNamed log → length state.held ≡ 32 →
-    message_at log e ≡ Some m → m.command ≡ begin_command → 0 < m.stream → m.place ≡ None → begin_target m.payload ≡ Some target → position is_free state.held ≡ Some place → allowed_address rules target ≡ Some to →
+pub begin_does : (state : PlacesState) (rules : Rules) (log : Log) (e : Event) (m : Message) (target : Target) (place : ℕ) (to : Address) → ArePlaces state log → AreNamed log → length state.streams ≡ 32 →
+    message_at log e ≡ Some m → m.command ≡ begin_command → 0 < m.stream → m.place ≡ None → begin_target m.payload ≡ Some target → position is_free state.streams ≡ Some place → allowed_address rules target ≡ Some to →
     effects_after rules log e ≡ ordering (Reach (record { stream = m.stream; serial = state.next_serial }) to)
 begin_does state rules log e m target place to are named whole found command stream free asked some allowed =
     let nonzero : (m.stream == 0) ≡ false = grind arith in
@@ -166,8 +166,8 @@ begin_does state rules log e m target place to are named whole found command str
     ∙ room-begins rules log m.stream target to (sym (full_by_the_log state log are named whole) ∙ ap (λ (x : Option ℕ). is_none x) some) allowed
     ∙ ap (λ (n : ℕ). ordering (Reach (record { stream = m.stream; serial = n }) to)) (sym are.next)
 
-pub unallowed_does : (state : PlacesState) (rules : Rules) (log : Log) (e : Event) (m : Message) (target : Target) (place : ℕ) → ArePlaces state log → AreNamed log → length state.held ≡ 32 →
-    message_at log e ≡ Some m → m.command ≡ begin_command → 0 < m.stream → m.place ≡ None → begin_target m.payload ≡ Some target → position is_free state.held ≡ Some place → allowed_address rules target ≡ None →
+pub unallowed_does : (state : PlacesState) (rules : Rules) (log : Log) (e : Event) (m : Message) (target : Target) (place : ℕ) → ArePlaces state log → AreNamed log → length state.streams ≡ 32 →
+    message_at log e ≡ Some m → m.command ≡ begin_command → 0 < m.stream → m.place ≡ None → begin_target m.payload ≡ Some target → position is_free state.streams ≡ Some place → allowed_address rules target ≡ None →
     effects_after rules log e ≡ ending log m.stream 4
 unallowed_does state rules log e m target place are named whole found command stream free asked some unallowed =
     let nonzero : (m.stream == 0) ≡ false = grind arith in

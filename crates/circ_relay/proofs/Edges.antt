@@ -45,7 +45,7 @@ named c key place stream at = has_name stream key.id key.serial (ap (is_stream k
 
 -- The place at which it is found.
 pub at_found : (c : Circuit) (key : StreamKey) (place found : ℕ) (stream : Held) → IsAt c key place stream
-    → position (is_stream key.id key.serial) c.places.held ≡ Some found → IsAt c key found stream
+    → position (is_stream key.id key.serial) c.places.streams ≡ Some found → IsAt c key found stream
 at_found c key place found stream at first = record {
   first = first;
   held = subst (λ p. held_at c.places p ≡ Some stream) (same_some place found (sym at.first ∙ first)) at.held;

@@ -29,7 +29,7 @@ name_has : (h : Held) (id serial : ℕ) → h.stream ≡ id → h.serial ≡ ser
 name_has h id serial one other = grind arith
 
 -- Where it is found.
-phase_held : (c : Circuit) (key : StreamKey) (place : ℕ) (held : Option Held) → position (is_stream key.id key.serial) c.places.held ≡ Some place → held_at c.places place ≡ held →
+phase_held : (c : Circuit) (key : StreamKey) (place : ℕ) (held : Option Held) → position (is_stream key.id key.serial) c.places.streams ≡ Some place → held_at c.places place ≡ held →
     is_stream key.id key.serial held ≡ true → IfSome (option_map (λ (h : Held). h.phase) held) (λ phase. HasStream c key phase)
 phase_held c key place None first holds is = cc
 phase_held c key place (Some h) first holds is = record {
@@ -43,14 +43,14 @@ phase_there : (P : Type 0) (id serial : ℕ) (held : Option Held) → is_stream 
 phase_there P id serial None is = cc
 phase_there P id serial (Some h) is = tt
 
-pub passes : (c : Circuit) (key : StreamKey) (place : ℕ) → position (is_stream key.id key.serial) c.places.held ≡ Some place → is_stream key.id key.serial (held_at c.places place) ≡ true
-passes c key place at = (position-Some (is_stream key.id key.serial) c.places.held place None at).1
+pub passes : (c : Circuit) (key : StreamKey) (place : ℕ) → position (is_stream key.id key.serial) c.places.streams ≡ Some place → is_stream key.id key.serial (held_at c.places place) ≡ true
+passes c key place at = (position-Some (is_stream key.id key.serial) c.places.streams place None at).1
 
-pub found_has_phase : (c : Circuit) (key : StreamKey) (place : ℕ) → position (is_stream key.id key.serial) c.places.held ≡ Some place →
+pub found_has_phase : (c : Circuit) (key : StreamKey) (place : ℕ) → position (is_stream key.id key.serial) c.places.streams ≡ Some place →
     IfSome (option_map (λ (h : Held). h.phase) (held_at c.places place)) (λ phase. HasStream c key phase)
 found_has_phase c key place at = phase_held c key place (held_at c.places place) at refl (passes c key place at)
 
-pub found_has_some : (P : Type 0) (c : Circuit) (key : StreamKey) (place : ℕ) → position (is_stream key.id key.serial) c.places.held ≡ Some place →
+pub found_has_some : (P : Type 0) (c : Circuit) (key : StreamKey) (place : ℕ) → position (is_stream key.id key.serial) c.places.streams ≡ Some place →
     IfNone (option_map (λ (h : Held). h.phase) (held_at c.places place)) P
 found_has_some P c key place at = phase_there P key.id key.serial (held_at c.places place) (passes c key place at)
 
@@ -68,10 +68,10 @@ all_fail t [] place off long = off
 all_fail t (x ∷ xs) zero off long = (fails_first (t x) (position_or_len t xs) (length xs) long).0
 all_fail t (x ∷ xs) (suc place) off long = all_fail t xs place off (fails_first (t x) (position_or_len t xs) (length xs) long).1
 
-pub none_has_name : (c : Circuit) (key : StreamKey) → None ≡ position (is_stream key.id key.serial) c.places.held → (place : ℕ) (stream : Held) →
+pub none_has_name : (c : Circuit) (key : StreamKey) → None ≡ position (is_stream key.id key.serial) c.places.streams → (place : ℕ) (stream : Held) →
     held_at c.places place ≡ Some stream → stream.stream ≡ key.id → stream.serial ≢ key.serial
 none_has_name c key none place stream holds id serial =
     let t : (Option Held → Bool) = is_stream key.id key.serial in
     not_both (t (held_at c.places place))
     (ap t holds ∙ name_has stream key.id key.serial id serial)
-    (all_fail t c.places.held place refl (none_before (nat_lt (position_or_len t c.places.held) (length c.places.held)) (position_or_len t c.places.held) (length c.places.held) refl (sym none)))
+    (all_fail t c.places.streams place refl (none_before (nat_lt (position_or_len t c.places.streams) (length c.places.streams)) (position_or_len t c.places.streams) (length c.places.streams) refl (sym none)))

@@ -202,12 +202,12 @@ no_place : (rules : Rules) (reply : CircuitCell) (keys : LayerKeys) (pad : Optio
 unfolding open_effects
 no_place rules reply keys pad = refl
 
-no_places : (state : PlacesState) → state ≡ record { held = replicate 32 None; next_serial = 0; calls = 0 } → ArePlaces state []
+no_places : (state : PlacesState) → state ≡ record { streams = replicate 32 None; next_serial = 0; calls = 0 } → ArePlaces state []
 no_places state is = subst (λ (s : PlacesState). ArePlaces s []) (sym is) nothing_is_held
 
 opened_parts : (c : Circuit) (rules : Rules) (reply : CircuitCell) (keys : LayerKeys) (pad : Option (List ℕ)) → c.next_hop ≡ Absent →
     ((log : Log) → own log ≡ [] → (born_keys log).db ≡ keys.db → born_pad log ≡ pad → IsPackager c.packager log) → StandsFor c.windows fresh_window →
-    c.places ≡ record { held = replicate 32 None; next_serial = 0; calls = 0 } → HasParts c (entry_after rules [] (Born reply keys pad) ∷ [])
+    c.places ≡ record { streams = replicate 32 None; next_serial = 0; calls = 0 } → HasParts c (entry_after rules [] (Born reply keys pad) ∷ [])
 opened_parts c rules reply keys pad hop packs stands free =
     let entry : Entry = entry_after rules [] (Born reply keys pad) in
     record {
@@ -221,7 +221,7 @@ opened_parts c rules reply keys pad hop packs stands free =
 
 pub opened : (c : Circuit) (rules : Rules) (reply : CircuitCell) (keys : LayerKeys) (pad : Option (List ℕ)) → c.next_hop ≡ Absent → c.early ≡ 0 → IsMadeBy c rules →
     ((log : Log) → own log ≡ [] → (born_keys log).db ≡ keys.db → born_pad log ≡ pad → IsPackager c.packager log) → StandsFor c.windows fresh_window →
-    c.places ≡ record { held = replicate 32 None; next_serial = 0; calls = 0 } → IsCircuit c rules (Born reply keys pad ∷ [])
+    c.places ≡ record { streams = replicate 32 None; next_serial = 0; calls = 0 } → IsCircuit c rules (Born reply keys pad ∷ [])
 opened c rules reply keys pad hop early made packs stands free = record {
   unclosed = nothing_closed rules reply keys pad;
   early = early;

@@ -123,10 +123,10 @@ passes id (Some h) is = record {
   live = and-right (h.stream == id) (is_live_held h.phase) is;
 }
 
-pub live_found : (state : PlacesState) (log : Log) (id place : ℕ) → ArePlaces state log → AreNamed log → position (is_live_as id) state.held ≡ Some place →
+pub live_found : (state : PlacesState) (log : Log) (id place : ℕ) → ArePlaces state log → AreNamed log → position (is_live_as id) state.streams ≡ Some place →
     (h : Held) × (held_at state place ≡ Some h) × (h.stream ≡ id) × (h.phase ≢ held_ending) × (live_place log id ≡ Some h.serial)
 live_found state log id place are named first =
-    let at = position-Some (is_live_as id) state.held place None first in
+    let at = position-Some (is_live_as id) state.streams place None first in
     let there : Passes id (held_at state place) = passes id (held_at state place) at.1 in
     let h : Held = there.stream in (
       h,
@@ -164,13 +164,13 @@ passes-as : (id : ℕ) (held : Option Held) (h : Held) → held ≡ Some h → h
 passes-as id held h holds named live =
     ap (is_live_as id) holds ∙ both (h.stream == id) (is_live_held h.phase) (equal_true h.stream id named) live
 
-none-passes : (state : PlacesState) (id place : ℕ) (h : Held) → position (is_live_as id) state.held ≡ None → held_at state place ≡ Some h →
+none-passes : (state : PlacesState) (id place : ℕ) (h : Held) → position (is_live_as id) state.streams ≡ None → held_at state place ≡ Some h →
     h.stream ≡ id → is_live_held h.phase ≡ true → ⊥
 none-passes state id place h none holds named live =
     true-false (is_live_as id (held_at state place)) (passes-as id (held_at state place) h holds named live)
-    (all-fail (is_live_as id) state.held place None (position-none (is_live_as id) state.held none) (taken_within state place h holds))
+    (all-fail (is_live_as id) state.streams place None (position-none (is_live_as id) state.streams none) (taken_within state place h holds))
 
-none-by : (state : PlacesState) (log : Log) (id : ℕ) → ArePlaces state log → AreNamed log → position (is_live_as id) state.held ≡ None →
+none-by : (state : PlacesState) (log : Log) (id : ℕ) → ArePlaces state log → AreNamed log → position (is_live_as id) state.streams ≡ None →
     (x : Option Place) → find (is_live_at log id) (places log) ≡ x → option_map (λ (p : Place). p.key.serial) x ≡ None
 none-by state log id are named none None found = refl
 none-by state log id are named none (Some q) found =
@@ -188,11 +188,11 @@ none-by state log id are named none (Some q) found =
     let live : is_live_held kept.stream.phase ≡ true = sym (place-live log kept.stream is q key) ∙ q_live in
     absurd (none-passes state id kept.place kept.stream none kept.holds stream live)
 
-pub none_live : (state : PlacesState) (log : Log) (id : ℕ) → ArePlaces state log → AreNamed log → position (is_live_as id) state.held ≡ None → live_place log id ≡ None
+pub none_live : (state : PlacesState) (log : Log) (id : ℕ) → ArePlaces state log → AreNamed log → position (is_live_as id) state.streams ≡ None → live_place log id ≡ None
 unfolding live_place
 none_live state log id are named none = none-by state log id are named none (find (is_live_at log id) (places log)) refl
 
-serial-by : (state : PlacesState) (log : Log) (id : ℕ) → ArePlaces state log → AreNamed log → (x : Option ℕ) → position (is_live_as id) state.held ≡ x →
+serial-by : (state : PlacesState) (log : Log) (id : ℕ) → ArePlaces state log → AreNamed log → (x : Option ℕ) → position (is_live_as id) state.streams ≡ x →
     option_and_then (λ place. option_map (λ (h : Held). h.serial) (held_at state place)) x ≡ live_place log id
 serial-by state log id are named None is = sym (none_live state log id are named is)
 serial-by state log id are named (Some place) is =
@@ -200,5 +200,5 @@ serial-by state log id are named (Some place) is =
     ap (option_map (λ (h : Held). h.serial)) found.1 ∙ sym found.4
 
 pub live_serial : (state : PlacesState) (log : Log) (id : ℕ) → ArePlaces state log → AreNamed log →
-    option_and_then (λ place. option_map (λ (h : Held). h.serial) (held_at state place)) (position (is_live_as id) state.held) ≡ live_place log id
-live_serial state log id are named = serial-by state log id are named (position (is_live_as id) state.held) refl
+    option_and_then (λ place. option_map (λ (h : Held). h.serial) (held_at state place)) (position (is_live_as id) state.streams) ≡ live_place log id
+live_serial state log id are named = serial-by state log id are named (position (is_live_as id) state.streams) refl

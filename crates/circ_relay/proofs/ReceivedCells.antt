@@ -169,11 +169,11 @@ all-true : (a b c d : Bool) → a ≡ true → b ≡ true → c ≡ true → d �
 all-true a b c d p q r s = rw (p, q, r, s) refl
 
 pub data_for_live : (opened : Opened) (state : PlacesState) (command stream : ℕ) (digest : List ℕ) → opened.recognised ≡ Some digest → fits_length opened.body ≡ true
-    → command ≡ (relay_head opened.body).command → stream ≡ (relay_head opened.body).stream → command ≡ data_command → is_some (position (is_live_as stream) state.held) ≡ true
+    → command ≡ (relay_head opened.body).command → stream ≡ (relay_head opened.body).stream → command ≡ data_command → is_some (position (is_live_as stream) state.streams) ≡ true
     → is_data_for_live opened state ≡ true
 data_for_live opened state command stream digest is fits commanded streamed data_ live =
-    all-true (is_some opened.recognised) (fits_length opened.body) ((relay_head opened.body).command == data_command) (is_some (position (is_live_as (relay_head opened.body).stream) state.held))
-    (ap is_some is) fits (ap (λ n. n == data_command) (sym commanded ∙ data_)) (ap (λ n. is_some (position (is_live_as n) state.held)) (sym streamed) ∙ live)
+    all-true (is_some opened.recognised) (fits_length opened.body) ((relay_head opened.body).command == data_command) (is_some (position (is_live_as (relay_head opened.body).stream) state.streams))
+    (ap is_some is) fits (ap (λ n. n == data_command) (sym commanded ∙ data_)) (ap (λ n. is_some (position (is_live_as n) state.streams)) (sym streamed) ∙ live)
 
 -- The count of RELAY_EARLY cells.
 

@@ -28,7 +28,7 @@ to_equal made new rules log e is are = subst (λ s. ArePlaces s (entry_after rul
 
 pub begin_goes_on : (state new : PlacesState) (rules : Rules) (log : Log) (e : Event) (m : Message) (place id : ℕ) (to : Address) →
     message_at log e ≡ Some m → m.command ≡ begin_command → (effects_after rules log e).edge ≡ Some (Reach (record { stream = id; serial = length (places log) }) to) →
-    position is_free state.held ≡ Some place →
+    position is_free state.streams ≡ Some place →
     new ≡ record (with_held state place (Some (begun id state.next_serial))) { next_serial = state.next_serial + 1 } → PlacesGoOn state new rules log e
 unfolding PlacesGoOn
 begin_goes_on state new rules log e m place id to found command order first is are =

@@ -169,12 +169,12 @@ not_free-taken Joined other = refl
 not_free-taken Ending other = refl
 not_free-taken Free other = absurd (other refl)
 
-apart-held : (state : PlacesState) (log : Log) → ArePlaces state log → AreApart serial_held state.held
+apart-held : (state : PlacesState) (log : Log) → ArePlaces state log → AreApart serial_held state.streams
 apart-held state log are i j x y n got also is named =
     let one : Names x n = names-held x n is in
     let other : Names y n = names-held y n named in
     are.once i j one.stream other.stream
-    (get_or_from_slice_get state.held i x None got ∙ one.holds) (get_or_from_slice_get state.held j y None also ∙ other.holds)
+    (get_or_from_slice_get state.streams i x None got ∙ one.holds) (get_or_from_slice_get state.streams j y None also ∙ other.holds)
     (one.serial ∙ sym other.serial)
 
 apart-taken : (log : Log) → AreNamed log → AreApart (serial_taken log) (places log)
@@ -186,10 +186,10 @@ if-true : (b : Bool) (n : ℕ) → b ≡ true → (if b then Some n else None) �
 if-true true n is = refl
 if-true false n is = cc
 
-held-taken : (state : PlacesState) (log : Log) → ArePlaces state log → (n : ℕ) → IsNamed serial_held state.held n → IsNamed (serial_taken log) (places log) n
+held-taken : (state : PlacesState) (log : Log) → ArePlaces state log → (n : ℕ) → IsNamed serial_held state.streams n → IsNamed (serial_taken log) (places log) n
 held-taken state log are n is =
     let named : Names is.element n = names-held is.element n is.names in
-    let of_log : IsOfLog log named.stream = are.streams is.place named.stream (get_or_from_slice_get state.held is.place is.element None is.got ∙ named.holds) in
+    let of_log : IsOfLog log named.stream = are.streams is.place named.stream (get_or_from_slice_get state.streams is.place is.element None is.got ∙ named.holds) in
     let serial : of_log.place.key.serial ≡ named.stream.serial = ap (λ (k : StreamKey). k.serial) of_log.key in
     record {
       place = named.stream.serial;
@@ -200,7 +200,7 @@ held-taken state log are n is =
           ∙ ap Some (serial ∙ named.serial);
     }
 
-taken-held : (state : PlacesState) (log : Log) → ArePlaces state log → AreNamed log → (n : ℕ) → IsNamed (serial_taken log) (places log) n → IsNamed serial_held state.held n
+taken-held : (state : PlacesState) (log : Log) → ArePlaces state log → AreNamed log → (n : ℕ) → IsNamed (serial_taken log) (places log) n → IsNamed serial_held state.streams n
 taken-held state log are named n is =
     let names = names-taken (is_taken_phase (phase log is.element.key.serial)) is.element.key.serial n is.names in
     let serial : is.element.key.serial ≡ is.place = named.numbered is.place is.element is.got in
@@ -209,7 +209,7 @@ taken-held state log are named n is =
     record {
       place = kept.place;
       element = held_at state kept.place;
-      got = slice_get-get_or state.held kept.place None (taken_within state kept.place kept.stream kept.holds);
+      got = slice_get-get_or state.streams kept.place None (taken_within state kept.place kept.stream kept.holds);
       names = ap serial_held kept.holds ∙ ap Some (kept.named ∙ sym serial ∙ names.1);
     }
 
@@ -224,8 +224,8 @@ tests-if false n = refl
 pub taken_by_the_log : (state : PlacesState) (log : Log) → ArePlaces state log → AreNamed log → taken_count state ≡ taken_places log
 unfolding taken_places
 taken_by_the_log state log are named =
-    sym (length-named serial_held (λ held. not (is_free held)) tests-held state.held)
-    ∙ same-count serial_held (serial_taken log) state.held (places log) (apart-held state log are) (apart-taken log named) (held-taken state log are) (taken-held state log are named)
+    sym (length-named serial_held (λ held. not (is_free held)) tests-held state.streams)
+    ∙ same-count serial_held (serial_taken log) state.streams (places log) (apart-held state log are) (apart-taken log named) (held-taken state log are) (taken-held state log are named)
     ∙ length-named (serial_taken log) (λ place. is_taken_phase (phase log place.key.serial)) (λ place. tests-if (is_taken_phase (phase log place.key.serial)) place.key.serial) (places log)
 
 -- The state is full.
@@ -254,11 +254,11 @@ full-by : (free taken all : ℕ) (b : Bool) → nat_lt 0 free ≡ b → free + t
 full-by free taken all true is sum_is all_is = grind arith
 full-by free taken all false is sum_is all_is = grind arith
 
-pub full_by_the_log : (state : PlacesState) (log : Log) → ArePlaces state log → AreNamed log → length state.held ≡ 32 →
-    is_none (position is_free state.held) ≡ nat_le place_limit (taken_places log)
+pub full_by_the_log : (state : PlacesState) (log : Log) → ArePlaces state log → AreNamed log → length state.streams ≡ 32 →
+    is_none (position is_free state.streams) ≡ nat_le place_limit (taken_places log)
 full_by_the_log state log are named whole =
-    none-cond (nat_lt (position_or_len is_free state.held) (length state.held)) (position_or_len is_free state.held)
-    ∙ ap not (first-counted is_free state.held)
-    ∙ full-by (length (filter is_free state.held)) (taken_count state) (length state.held) (nat_lt 0 (length (filter is_free state.held))) refl
-    (length-filter_both is_free (λ held. not (is_free held)) (λ held. refl) state.held) whole
+    none-cond (nat_lt (position_or_len is_free state.streams) (length state.streams)) (position_or_len is_free state.streams)
+    ∙ ap not (first-counted is_free state.streams)
+    ∙ full-by (length (filter is_free state.streams)) (taken_count state) (length state.streams) (nat_lt 0 (length (filter is_free state.streams))) refl
+    (length-filter_both is_free (λ held. not (is_free held)) (λ held. refl) state.streams) whole
     ∙ ap (λ n. nat_le 32 n) (taken_by_the_log state log are named)

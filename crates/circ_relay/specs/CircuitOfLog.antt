@@ -63,7 +63,7 @@ pub record HasCalls (c : Circuit) : Type 0 where
 
 -- The first place with this StreamID and serial, and the stream that it holds.
 pub record IsAt (c : Circuit) (key : StreamKey) (place : ℕ) (stream : Held) : Type 0 where
-  pub first : position (is_stream key.id key.serial) c.places.held ≡ Some place
+  pub first : position (is_stream key.id key.serial) c.places.streams ≡ Some place
   pub held : held_at c.places place ≡ Some stream
 
 -- The stream of this name is in this phase.

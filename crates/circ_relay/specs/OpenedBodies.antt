@@ -16,4 +16,4 @@ pub record IsOpened (opened : Opened) (log : Log) (body : List ℕ) : Type 0 whe
 abbrev pub is_data_for_live : Opened → PlacesState → Bool
 is_data_for_live opened state =
     is_some opened.recognised && (fits_length opened.body && (((relay_head opened.body).command == data_command)
-    && is_some (position (is_live_as (relay_head opened.body).stream) state.held)))
+    && is_some (position (is_live_as (relay_head opened.body).stream) state.streams)))

@@ -87,7 +87,7 @@ PlacesGoOn old new rules log event = ArePlaces old log → ArePlaces new (entry_
 
 -- How many places of the state are taken.
 abbrev pub taken_count : PlacesState → ℕ
-taken_count state = length (filter (λ held. not (is_free held)) state.held)
+taken_count state = length (filter (λ stream. not (is_free stream)) state.streams)
 
 -- What holds of every log of a history: places are numbered in the order of their BEGINs, none has
 -- StreamID 0, and a StreamID is live at one place at most.

@@ -56,7 +56,7 @@ impl Circuit {
     // A BEGIN is for a StreamID that isn't 0 and isn't live.
     fn may_begin(&self, stream: u16) -> bool
         ensures test { (log : Log) → ArePlaces self.now.places log → AreNamed log → result ≡ not ((stream == 0) || is_some (live_place log stream)) }
-        ensures new { IsTrue result → position (is_live_as stream) self.now.places.held ≡ None }
+        ensures new { IsTrue result → position (is_live_as stream) self.now.places.streams ≡ None }
     {
         stream != 0 && self.live_place(stream).is_none()
     }
@@ -64,7 +64,7 @@ impl Circuit {
     // Whether fewer than 32 places are taken.
     fn has_place(&self) -> bool
         ensures test { (log : Log) → ArePlaces self.now.places log → AreNamed log → result ≡ not (nat_le place_limit (taken_places log)) }
-        ensures free { result ≡ is_some (position is_free self.now.places.held) }
+        ensures free { result ≡ is_some (position is_free self.now.places.streams) }
     {
         self.places.has_free()
     }
@@ -72,8 +72,8 @@ impl Circuit {
     // There is a free place.
     fn reach(&mut self, message: &Message<'_>, to: Dest) -> Effects
         requires calls { HasCalls self.old }
-        requires new { position (is_live_as message.now.stream) self.old.places.held ≡ None }
-        requires free { IsTrue (is_some (position is_free self.old.places.held)) }
+        requires new { position (is_live_as message.now.stream) self.old.places.streams ≡ None }
+        requires free { IsTrue (is_some (position is_free self.old.places.streams)) }
         ensures effects { (log : Log) → ArePlaces self.old.places log → effects_of result ≡ reaching log message.now.stream (Some (address_of to)) }
         ensures parts { (rules : ModelRules) (log : Log) (command : ℕ) (body : List ℕ) (m : ModelMessage) → IsBrought message.now log command body m → HasParts self.old log → m.command ≡ begin_command → begin_effects rules log m ≡ reaching log m.stream (Some (address_of to)) → HasParts self.new (after_cell rules log command body) }
         ensures windows { self.new.windows ≡ self.old.windows }

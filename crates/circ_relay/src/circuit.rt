@@ -85,7 +85,7 @@ impl Circuit {
 
     /// The phase of the stream; `None` exactly where no place is taken with this StreamID and serial.
     pub fn phase(&self, key: StreamKey) -> Option<Phase>
-        ensures phase { result ≡ option_map (λ stream. stream.phase) (option_and_then (held_at self.now.places) (position (is_stream key.id key.serial) self.now.places.held)) }
+        ensures phase { result ≡ option_map (λ stream. stream.phase) (option_and_then (held_at self.now.places) (position (is_stream key.id key.serial) self.now.places.streams)) }
         ensures some { IfSome result (λ phase. HasStream self.now key phase) }
         ensures none { IfNone result ((place : ℕ) (stream : Held) → held_at self.now.places place ≡ Some stream → stream.stream ≡ key.id → stream.serial ≢ key.serial) }
     {
@@ -100,7 +100,7 @@ impl Circuit {
     }
 
     pub(crate) fn place_of(&self, key: StreamKey) -> Option<PlaceNo>
-        ensures { option_map (λ place. place.0) result ≡ position (is_stream key.id key.serial) self.now.places.held }
+        ensures { option_map (λ place. place.0) result ≡ position (is_stream key.id key.serial) self.now.places.streams }
     {
         self.places.place_of(key.id, key.serial)
     }

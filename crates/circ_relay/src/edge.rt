@@ -184,8 +184,8 @@ impl Circuit {
 
     // The place of a stream that has one.
     fn taken_place(&self, key: StreamKey) -> PlaceNo
-        requires { IsSome (position (is_stream key.id key.serial) self.now.places.held) }
-        ensures first { position (is_stream key.id key.serial) self.now.places.held ≡ Some result.0 }
+        requires { IsSome (position (is_stream key.id key.serial) self.now.places.streams) }
+        ensures first { position (is_stream key.id key.serial) self.now.places.streams ≡ Some result.0 }
         ensures within { result.0 < 32 }
     {
         match self.places.place_of(key.id, key.serial) {

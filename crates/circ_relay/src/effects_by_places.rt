@@ -60,15 +60,15 @@ pub fn messages_of_a_live_stream()
 /// is, else an order Reach with the next serial where its name is allowed, and END with EXITPOLICY where
 /// it isn't.
 pub fn a_begin_by_the_free_places()
-    ensures full { (state : PlacesState) (rules : Rules) (log : Log) (e : Event) (m : Message) (target : Target) → ArePlaces state log → AreNamed log → length state.held ≡ place_limit →
+    ensures full { (state : PlacesState) (rules : Rules) (log : Log) (e : Event) (m : Message) (target : Target) → ArePlaces state log → AreNamed log → length state.streams ≡ place_limit →
         message_at log e ≡ Some m → m.command ≡ begin_command → 0 < m.stream → m.place ≡ None → begin_target m.payload ≡ Some target →
-        position is_free state.held ≡ None → effects_after rules log e ≡ ending log m.stream end_resource_limit }
-    ensures reach { (state : PlacesState) (rules : Rules) (log : Log) (e : Event) (m : Message) (target : Target) (place : ℕ) (to : Address) → ArePlaces state log → AreNamed log → length state.held ≡ place_limit →
+        position is_free state.streams ≡ None → effects_after rules log e ≡ ending log m.stream end_resource_limit }
+    ensures reach { (state : PlacesState) (rules : Rules) (log : Log) (e : Event) (m : Message) (target : Target) (place : ℕ) (to : Address) → ArePlaces state log → AreNamed log → length state.streams ≡ place_limit →
         message_at log e ≡ Some m → m.command ≡ begin_command → 0 < m.stream → m.place ≡ None → begin_target m.payload ≡ Some target →
-        position is_free state.held ≡ Some place → allowed_address rules target ≡ Some to →
+        position is_free state.streams ≡ Some place → allowed_address rules target ≡ Some to →
         effects_after rules log e ≡ ordering (Reach (record { stream = m.stream; serial = state.next_serial }) to) }
-    ensures unallowed { (state : PlacesState) (rules : Rules) (log : Log) (e : Event) (m : Message) (target : Target) (place : ℕ) → ArePlaces state log → AreNamed log → length state.held ≡ place_limit →
+    ensures unallowed { (state : PlacesState) (rules : Rules) (log : Log) (e : Event) (m : Message) (target : Target) (place : ℕ) → ArePlaces state log → AreNamed log → length state.streams ≡ place_limit →
         message_at log e ≡ Some m → m.command ≡ begin_command → 0 < m.stream → m.place ≡ None → begin_target m.payload ≡ Some target →
-        position is_free state.held ≡ Some place → allowed_address rules target ≡ None →
+        position is_free state.streams ≡ Some place → allowed_address rules target ≡ None →
         effects_after rules log e ≡ ending log m.stream end_exit_policy }
 {}

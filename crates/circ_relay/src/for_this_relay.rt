@@ -99,7 +99,7 @@ impl Circuit {
     fn message(&mut self, rules: &Rules, message: &Message<'_>, room: Bytes, outcome: &mut Effects)
         requires calls { HasCalls self.old }
         requires empty { room.items ≡ [] }
-        requires ample { message.now.command ≡ data_command → IsTrue (is_some (position (is_live_as message.now.stream) self.old.places.held)) → 498 ≤ room.spare }
+        requires ample { message.now.command ≡ data_command → IsTrue (is_some (position (is_live_as message.now.stream) self.old.places.streams)) → 498 ≤ room.spare }
         requires blank { effects_of outcome.old ≡ no_effects }
         ensures effects { (log : Log) (command : ℕ) (body : List ℕ) (m : ModelMessage) → IsBrought message.now log command body m → IsMadeBy self.old (rules_of rules.now) → HasParts self.old log → effects_of outcome.new ≡ message_effects (rules_of rules.now) log m }
         ensures parts { (log : Log) (command : ℕ) (body : List ℕ) (m : ModelMessage) → IsBrought message.now log command body m → IsMadeBy self.old (rules_of rules.now) → HasParts self.old log → outcome.new.close ≡ None → HasParts self.new (after_cell (rules_of rules.now) log command body) }

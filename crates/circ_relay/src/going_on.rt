@@ -37,7 +37,7 @@ pub fn places_go_on_with_reports()
 pub fn places_go_on_with_messages()
     ensures begin { (state new : PlacesState) (rules : Rules) (log : Log) (e : Event) (m : Message) (place id : ℕ) (to : Address) →
         message_at log e ≡ Some m → m.command ≡ begin_command → (effects_after rules log e).edge ≡ Some (Reach (record { stream = id; serial = length (places log) }) to) →
-        position is_free state.held ≡ Some place →
+        position is_free state.streams ≡ Some place →
         new ≡ record (with_held state place (Some (begun id state.next_serial))) { next_serial = state.next_serial + 1 } → PlacesGoOn state new rules log e }
     ensures end { (state new : PlacesState) (rules : Rules) (log : Log) (e : Event) (m : Message) (place : ℕ) (h : Held) →
         held_at state place ≡ Some h → message_at log e ≡ Some m → m.command ≡ end_command → m.place ≡ Some h.serial →

@@ -22,19 +22,19 @@ use stream_edge::Phase;
 /// An entry that makes no place and says nothing of one leaves the places as they are.
 pub fn silent_entries_leave_the_places()
     ensures { (state new : PlacesState) (log : Log) (entry : Entry) →
-        new.held ≡ state.held → new.next_serial ≡ state.next_serial → place_of entry.effects.edge ≡ None →
+        new.streams ≡ state.streams → new.next_serial ≡ state.next_serial → place_of entry.effects.edge ≡ None →
         ((serial : ℕ) → IsSilent entry serial) → ArePlaces state log → ArePlaces new (entry ∷ log) }
 {}
 
 /// The count of calls says nothing of a log.
 pub fn calls_alone_leave_the_places()
-    ensures { (state new : PlacesState) (log : Log) → new.held ≡ state.held → new.next_serial ≡ state.next_serial →
+    ensures { (state new : PlacesState) (log : Log) → new.streams ≡ state.streams → new.next_serial ≡ state.next_serial →
         ArePlaces state log → ArePlaces new log }
 {}
 
 /// At first no place is taken.
 pub fn no_places_are_those_of_no_log()
-    ensures { ArePlaces (record { held = replicate 32 None; next_serial = 0; calls = 0 }) [] }
+    ensures { ArePlaces (record { streams = replicate 32 None; next_serial = 0; calls = 0 }) [] }
 {}
 
 /// An accepted BEGIN takes the first free place for its stream.
@@ -42,7 +42,7 @@ pub fn an_accepted_begin_takes_a_place()
     ensures { (state : PlacesState) (rules : Rules) (log : Log) (e : Event) (m : Message) (place id : ℕ) (to : Address) →
         ArePlaces state log → message_at log e ≡ Some m → m.command ≡ begin_command →
         (effects_after rules log e).edge ≡ Some (Reach (record { stream = id; serial = length (places log) }) to) →
-        position is_free state.held ≡ Some place →
+        position is_free state.streams ≡ Some place →
         ArePlaces (record (with_held state place (Some (begun id state.next_serial))) { next_serial = state.next_serial + 1 }) (entry_after rules log e ∷ log) }
 {}
 

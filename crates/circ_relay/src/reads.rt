@@ -16,11 +16,11 @@ use stream_edge::Phase;
 /// The place at which the state has a StreamID live is the log's live place of that StreamID.
 pub fn the_live_stream_is_the_live_place()
     ensures serial { (state : PlacesState) (log : Log) (id : ℕ) → ArePlaces state log → AreNamed log →
-        option_and_then (λ place. option_map (λ (h : Held). h.serial) (held_at state place)) (position (is_live_as id) state.held) ≡ live_place log id }
-    ensures found { (state : PlacesState) (log : Log) (id place : ℕ) → ArePlaces state log → AreNamed log → position (is_live_as id) state.held ≡ Some place →
+        option_and_then (λ place. option_map (λ (h : Held). h.serial) (held_at state place)) (position (is_live_as id) state.streams) ≡ live_place log id }
+    ensures found { (state : PlacesState) (log : Log) (id place : ℕ) → ArePlaces state log → AreNamed log → position (is_live_as id) state.streams ≡ Some place →
         (h : Held) × (held_at state place ≡ Some h) × (h.stream ≡ id) × (h.phase ≢ Phase.Ending) × (live_place log id ≡ Some h.serial) }
     ensures absent { (state : PlacesState) (log : Log) (id : ℕ) → ArePlaces state log → AreNamed log →
-        position (is_live_as id) state.held ≡ None → live_place log id ≡ None }
+        position (is_live_as id) state.streams ≡ None → live_place log id ≡ None }
     ensures live { (state : PlacesState) (log : Log) (place : ℕ) (h : Held) → ArePlaces state log → AreNamed log →
         held_at state place ≡ Some h → h.phase ≢ Phase.Ending → live_place log h.stream ≡ Some h.serial }
 {}
@@ -45,6 +45,6 @@ pub fn windows_are_those_of_the_log()
 /// many as a circuit has room for.
 pub fn taken_places_are_those_of_the_log()
     ensures count { (state : PlacesState) (log : Log) → ArePlaces state log → AreNamed log → taken_count state ≡ taken_places log }
-    ensures full { (state : PlacesState) (log : Log) → ArePlaces state log → AreNamed log → length state.held ≡ 32 →
-        is_none (position is_free state.held) ≡ nat_le place_limit (taken_places log) }
+    ensures full { (state : PlacesState) (log : Log) → ArePlaces state log → AreNamed log → length state.streams ≡ 32 →
+        is_none (position is_free state.streams) ≡ nat_le place_limit (taken_places log) }
 {}

@@ -38,7 +38,7 @@ impl Circuit {
         ensures live { IfSome result (λ place. IsLive self.now.places place.0) }
         ensures serial { IfSome result (λ place. (log : Log) (h : Held) → ArePlaces self.now.places log → AreNamed log → held_at self.now.places place.0 ≡ Some h → live_place log stream ≡ Some h.serial) }
         ensures none { IfNone result ((log : Log) → ArePlaces self.now.places log → AreNamed log → live_place log stream ≡ None) }
-        ensures found { is_some result ≡ is_some (position (is_live_as stream) self.now.places.held) }
+        ensures found { is_some result ≡ is_some (position (is_live_as stream) self.now.places.streams) }
     {
         self.places.live(stream)
     }
@@ -72,7 +72,7 @@ impl Circuit {
     pub(crate) fn data(&mut self, message: &Message<'_>, room: Bytes, outcome: &mut Effects)
         requires calls { HasCalls self.old }
         requires empty { room.items ≡ [] }
-        requires ample { IsTrue (is_some (position (is_live_as message.now.stream) self.old.places.held)) → 498 ≤ room.spare }
+        requires ample { IsTrue (is_some (position (is_live_as message.now.stream) self.old.places.streams)) → 498 ≤ room.spare }
         requires blank { effects_of outcome.old ≡ no_effects }
         ensures effects { (log : Log) (command : ℕ) (body : List ℕ) (m : ModelMessage) → IsBrought message.now log command body m → HasParts self.old log → effects_of outcome.new ≡ data_effects log m }
         ensures parts { (rules : ModelRules) (log : Log) (command : ℕ) (body : List ℕ) (m : ModelMessage) → IsBrought message.now log command body m → HasParts self.old log → m.command ≡ data_command → outcome.new.close ≡ None → HasParts self.new (after_cell rules log command body) }

@@ -23,8 +23,8 @@ proof_owed log k = back_digest log (up_to_data (circuit_step * k) (own log))
 
 -- Whether a payload carries this proof.
 abbrev pub proves : List ℕ → Option (List ℕ) → Bool
-proves owed (Some proof) = bytes_eq proof owed
-proves owed None = false
+proves expected (Some proof) = bytes_eq proof expected
+proves expected None = false
 
 -- A circuit SENDME is right where the DATA that it would acknowledge was packaged, and where it carries
 -- the proof of it or needs none by the rules.

@@ -64,9 +64,9 @@ pub fn read_resolved(payload: &[u8]) -> Option<Option<[u8; 4]>>
     let mut ip = None;
     let mut rest = payload;
     while !rest.is_empty() {
-        let (found, behind) = read_answer(rest)?;
+        let (found, tail) = read_answer(rest)?;
         ip = ip.or(found);
-        rest = behind;
+        rest = tail;
     }
     Some(ip)
 }
@@ -80,12 +80,12 @@ fn read_answer(bytes: &[u8]) -> Option<(Option<[u8; 4]>, &[u8])>
 {
     let ([kind, size], rest) = bytes.split_first_chunk::<2>()?;
     let (value, rest) = rest.split_at_checked(usize::from(*size))?;
-    let (_ttl, behind) = rest.split_first_chunk::<4>()?;
+    let (_ttl, tail) = rest.split_first_chunk::<4>()?;
     if *kind != resolved_type::IPV4 {
-        return Some((None, behind));
+        return Some((None, tail));
     }
     match value {
-        [a, b, c, d] => Some((Some([*a, *b, *c, *d]), behind)),
+        [a, b, c, d] => Some((Some([*a, *b, *c, *d]), tail)),
         _ => None,
     }
 }

@@ -7,8 +7,8 @@ use Rattle.sendme_windows.specs.WindowsState.{WindowsState, StandsFor}
 
 -- One more DATA cell, the 100th of its hundred.
 pub packed_due : (s : WindowsState) (w : CircuitWindow) (digest : List ℕ) (calls : ℕ) (more : List (List ℕ)) → StandsFor s w
-    → (s.packed + 1) % 100 ≡ 0 → s.good ≤ s.packed / 100 → more ≡ s.owed ++ digest ∷ []
-    → StandsFor (record s { calls = calls; packed = s.packed + 1; owed = more }) (after_packaging w digest)
+    → (s.packed + 1) % 100 ≡ 0 → s.good ≤ s.packed / 100 → more ≡ s.owed_proofs ++ digest ∷ []
+    → StandsFor (record s { calls = calls; packed = s.packed + 1; owed_proofs = more }) (after_packaging w digest)
 packed_due s w digest calls more stands due behind grown =
     let count : s.packed ≡ length w.packaged = stands.packed in
     let good : s.good ≡ w.acknowledged = stands.good in
@@ -16,7 +16,7 @@ packed_due s w digest calls more stands due behind grown =
       packed = omega (arith, length-append w.packaged (digest ∷ []));
       good = stands.good;
       accepted = stands.accepted;
-      owed = grown ∙ ap (λ (o : List (List ℕ)). o ++ digest ∷ []) stands.owed ∙ sym (owed_more w digest (rw count at due) (rw (good, count) at behind));
+      owed_proofs = grown ∙ ap (λ (o : List (List ℕ)). o ++ digest ∷ []) stands.owed_proofs ∙ sym (owed_more w digest (rw count at due) (rw (good, count) at behind));
     }
 
 -- One more DATA cell that isn't.
@@ -28,17 +28,17 @@ packed_other s w digest calls stands other =
       packed = omega (arith, length-append w.packaged (digest ∷ []));
       good = stands.good;
       accepted = stands.accepted;
-      owed = stands.owed ∙ sym (owed_same w digest (rw count at other));
+      owed_proofs = stands.owed_proofs ∙ sym (owed_same w digest (rw count at other));
     }
 
 -- A good proof is paid for.
-pub proved : (s : WindowsState) (w : CircuitWindow) (calls : ℕ) (fewer : List (List ℕ)) → StandsFor s w → fewer ≡ drop 1 s.owed
-    → StandsFor (record s { calls = calls; good = s.good + 1; owed = fewer }) (after_acknowledging w)
+pub proved : (s : WindowsState) (w : CircuitWindow) (calls : ℕ) (fewer : List (List ℕ)) → StandsFor s w → fewer ≡ drop 1 s.owed_proofs
+    → StandsFor (record s { calls = calls; good = s.good + 1; owed_proofs = fewer }) (after_acknowledging w)
 proved s w calls fewer stands paid = record {
   packed = stands.packed;
   good = ap (λ n. n + 1) stands.good;
   accepted = stands.accepted;
-  owed = paid ∙ ap (λ (o : List (List ℕ)). drop 1 o) stands.owed ∙ sym (owed_less w);
+  owed_proofs = paid ∙ ap (λ (o : List (List ℕ)). drop 1 o) stands.owed_proofs ∙ sym (owed_less w);
 }
 
 -- The queue with its first place turned to the end.
@@ -56,5 +56,5 @@ one_accepted s w calls stands = record {
   packed = stands.packed;
   good = stands.good;
   accepted = ap (λ n. n + 1) stands.accepted;
-  owed = stands.owed;
+  owed_proofs = stands.owed_proofs;
 }

@@ -14,8 +14,8 @@ judged (Some expected) (Some given) = if bytes_eq given expected then Good else 
 
 -- What is read of a payload that needs a proof.
 abbrev pub judged_if_read : Option (List ℕ) → Option (List ℕ) → ProofAnswer
-judged_if_read owed None = BadForm
-judged_if_read owed (Some given) = judged owed (Some given)
+judged_if_read expected None = BadForm
+judged_if_read expected (Some given) = judged expected (Some given)
 
 -- Where this is the least version that is accepted: the form is looked at first, then whether a proof is
 -- owed, then the proof.

@@ -13,7 +13,7 @@ state_of w = record {
   packed = w.packed;
   good = w.good;
   accepted = w.accepted;
-  owed = take w.owed_count w.owed;
+  owed_proofs = take w.owed_count w.owed_proofs;
 }
 
 -- Each 100th DATA cell is owed or proved, no more are packaged than granted, and no count passes

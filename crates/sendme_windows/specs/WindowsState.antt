@@ -1,6 +1,6 @@
 -- What contracts see of a `Windows`.
 use Rattle.std.specs.Prelude.{◌≡◌, ℕ, ◌<◌, List, length}
-use Rattle.tor_spec.specs.CircuitWindow.{CircuitWindow, granted_after, owed}
+use Rattle.tor_spec.specs.CircuitWindow.{CircuitWindow, granted_after, owed_proofs}
 
 -- How many DATA cells may be packaged before the first SENDME and the least version of SENDMEs; the calls
 -- that changed it, the DATA cells packaged, the SENDMEs accepted for them, the DATA cells accepted, and the
@@ -12,14 +12,14 @@ pub record WindowsState : Type 0 where
   pub packed : ℕ
   pub good : ℕ
   pub accepted : ℕ
-  pub owed : List (List ℕ)
+  pub owed_proofs : List (List ℕ)
 
 -- It is that of a circuit's window.
 pub record StandsFor (state : WindowsState) (w : CircuitWindow) : Type 0 where
   pub packed : state.packed ≡ length w.packaged
   pub good : state.good ≡ w.acknowledged
   pub accepted : state.accepted ≡ w.accepted
-  pub owed : state.owed ≡ owed w
+  pub owed_proofs : state.owed_proofs ≡ owed_proofs w
 
 -- One more DATA cell may be packaged.
 abbrev pub HasRoom : WindowsState → Type 0

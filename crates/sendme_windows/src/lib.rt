@@ -41,7 +41,7 @@ pub struct Windows {
     packed: u64,
     good: u64,
     accepted: u64,
-    owed: [[u8; 20]; MOST_OWED],
+    owed_proofs: [[u8; 20]; MOST_OWED],
     owed_count: usize,
 }
 
@@ -77,7 +77,7 @@ impl Windows {
             packed: 0,
             good: 0,
             accepted: 0,
-            owed: [[0; 20]; MOST_OWED],
+            owed_proofs: [[0; 20]; MOST_OWED],
             owed_count: 0,
         }
     }
@@ -101,7 +101,7 @@ impl Windows {
         self.calls += 1;
         self.packed += 1;
         if self.packed % STEP == 0 {
-            self.owed[self.owed_count] = *digest;
+            self.owed_proofs[self.owed_count] = *digest;
             self.owed_count += 1;
         }
     }
@@ -136,13 +136,13 @@ impl Windows {
         if self.owed_count == 0 {
             return ProofAnswer::NoneOwed;
         }
-        let expected = self.owed[0];
+        let expected = self.owed_proofs[0];
         if let Some(given) = given {
             if given != expected {
                 return ProofAnswer::Wrong { expected, given };
             }
         }
-        self.owed.rotate_left(1);
+        self.owed_proofs.rotate_left(1);
         self.owed_count -= 1;
         self.good += 1;
         ProofAnswer::Good

@@ -8,26 +8,26 @@ use Rattle.stream_edge.specs.declared.held.Phase.TheVariants.{Ending}
 use Rattle.stream_edge.specs.PlacesState.{PlacesState, IsLive, held_at, with_held}
 
 within_by : (s : PlacesState) (place : ℕ) (h : Held) → held_at s place ≡ Some h → (b : Bool)
-    → ltb place (length s.held) ≡ b → place < length s.held
-within_by s place h is true test = ltb-true place (length s.held) test
+    → ltb place (length s.streams) ≡ b → place < length s.streams
+within_by s place h is true test = ltb-true place (length s.streams) test
 within_by s place h is false test =
-    let beyond : length s.held ≤ place = ltb-false place (length s.held) test in
-    let never : ◌≡◌ {A = Option Held} None (Some h) = sym (get_or-eq_default s.held None beyond) ∙ is in
+    let beyond : length s.streams ≤ place = ltb-false place (length s.streams) test in
+    let never : ◌≡◌ {A = Option Held} None (Some h) = sym (get_or-eq_default s.streams None beyond) ∙ is in
     cc
 
 -- a place that is taken is one of the places
-pub taken_within : (s : PlacesState) (place : ℕ) (h : Held) → held_at s place ≡ Some h → place < length s.held
-taken_within s place h is = within_by s place h is (ltb place (length s.held)) refl
+pub taken_within : (s : PlacesState) (place : ℕ) (h : Held) → held_at s place ≡ Some h → place < length s.streams
+taken_within s place h is = within_by s place h is (ltb place (length s.streams)) refl
 
 -- the place that was changed holds what was put there
 pub held_there : (s : PlacesState) (place : ℕ) (h : Held) (holds : Option Held) → held_at s place ≡ Some h
     → held_at (with_held s place holds) place ≡ holds
-held_there s place h holds is = get_or-set_same s.held place holds None (taken_within s place h is)
+held_there s place h holds is = get_or-set_same s.streams place holds None (taken_within s place h is)
 
 -- every other place holds what it held
 pub held_elsewhere : (s : PlacesState) (place other : ℕ) (holds : Option Held) → other ≢ place
     → held_at (with_held s place holds) other ≡ held_at s other
-held_elsewhere s place other holds apart = get_or-set_other s.held place other holds None apart
+held_elsewhere s place other holds apart = get_or-set_other s.streams place other holds None apart
 
 -- a stream stays live where a call leaves its phase
 pub stays_live : (s t : PlacesState) (place : ℕ) (f : Held → Held) → ((h : Held) → (f h).phase ≡ h.phase)

@@ -7,13 +7,13 @@ use Rattle.stream_edge.specs.Streams.{accept_grant, is_live_as, pack_grant}
 
 -- The 32 places, the serial of the next stream, and the calls that could change them.
 pub record PlacesState : Type 0 where
-  pub held : List (Option Held)
+  pub streams : List (Option Held)
   pub next_serial : ℕ
   pub calls : ℕ
 
 -- What a place holds; nothing where there is no such place.
 abbrev pub held_at : PlacesState → ℕ → Option Held
-held_at s place = get_or s.held place None
+held_at s place = get_or s.streams place None
 
 abbrev pub IsTaken : PlacesState → ℕ → Type 0
 IsTaken s place = (h : Held) × (held_at s place ≡ Some h)
@@ -27,7 +27,7 @@ IsEnding s place = (h : Held) × (held_at s place ≡ Some h) × (h.phase ≡ En
 
 -- One call more, after which the place holds this.
 abbrev pub with_held : PlacesState → ℕ → Option Held → PlacesState
-with_held s place holds = record s { held = set s.held place holds; calls = s.calls + 1 }
+with_held s place holds = record s { streams = set s.streams place holds; calls = s.calls + 1 }
 
 -- No count of a stream passes its grant, its window never opens past its start, what was drained was
 -- accepted before, and no count passes the calls.
@@ -42,12 +42,12 @@ pub record IsCounted (h : Held) (calls : ℕ) : Type 0 where
 
 -- A StreamID is live at one place at most.
 abbrev pub LivesOnce : List (Option Held) → Type 0
-LivesOnce held =
-    (one other id : ℕ) → IsTrue (is_live_as id (get_or held one None)) → IsTrue (is_live_as id (get_or held other None)) → one ≡ other
+LivesOnce streams =
+    (one other id : ℕ) → IsTrue (is_live_as id (get_or streams one None)) → IsTrue (is_live_as id (get_or streams other None)) → one ≡ other
 
 pub record IsInStep (s : PlacesState) : Type 0 where
-  pub places : length s.held ≡ 32
+  pub places : length s.streams ≡ 32
   pub next_serial : s.next_serial ≤ s.calls
   pub calls : s.calls ≤ 2 ^ 63
-  pub live_once : LivesOnce s.held
+  pub live_once : LivesOnce s.streams
   pub counted : (place : ℕ) (h : Held) → held_at s place ≡ Some h → IsCounted h s.calls

@@ -41,7 +41,7 @@ pub enum CreditAnswer {
 /// stream passes its grant, and that no window opens past its start.
 #[derive(Drop)]
 pub struct Places {
-    held: [Option<Held>; 32],
+    streams: [Option<Held>; 32],
     next_serial: u64,
     calls: u64,
 }
@@ -51,18 +51,18 @@ impl Model for Places {
 
     ghost Value = { PlacesState };
 
-    ghost view = { λ p. record { held = p.held; next_serial = p.next_serial; calls = p.calls } };
+    ghost view = { λ p. record { streams = p.streams; next_serial = p.next_serial; calls = p.calls } };
 
-    ghost invariant = { λ p. IsInStep (record { held = p.held; next_serial = p.next_serial; calls = p.calls }) };
+    ghost invariant = { λ p. IsInStep (record { streams = p.streams; next_serial = p.next_serial; calls = p.calls }) };
 }
 
 impl Places {
     /// No place is taken.
     pub fn new() -> Places
-        ensures { result ≡ record { held = replicate 32 None; next_serial = 0; calls = 0 } }
+        ensures { result ≡ record { streams = replicate 32 None; next_serial = 0; calls = 0 } }
     {
         Places {
-            held: [None; PLACES],
+            streams: [None; PLACES],
             next_serial: 0,
             calls: 0,
         }
@@ -70,46 +70,46 @@ impl Places {
 
     /// The place at which the StreamID is live, if there is one.
     pub fn live(&self, id: u16) -> Option<PlaceNo>
-        ensures { option_map (λ place. place.0) result ≡ position (is_live_as id) self.now.held }
+        ensures { option_map (λ place. place.0) result ≡ position (is_live_as id) self.now.streams }
     {
-        let place = live_place(&self.held, id)?;
+        let place = live_place(&self.streams, id)?;
         Some(PlaceNo(place as u32))
     }
 
     /// The place of the stream with this StreamID and serial, if it has one.
     pub fn place_of(&self, id: u16, serial: u64) -> Option<PlaceNo>
-        ensures first { option_map (λ place. place.0) result ≡ position (is_stream id serial) self.now.held }
+        ensures first { option_map (λ place. place.0) result ≡ position (is_stream id serial) self.now.streams }
         ensures within { IfSome result (λ place. place.0 < 32) }
     {
-        let place = stream_place(&self.held, id, serial)?;
+        let place = stream_place(&self.streams, id, serial)?;
         Some(PlaceNo(place as u32))
     }
 
     /// Whether a place is free.
     pub fn has_free(&self) -> bool
-        ensures free { result ≡ is_some (position is_free self.now.held) }
-        ensures places { length self.now.held ≡ 32 }
-        ensures live_once { LivesOnce self.now.held }
+        ensures free { result ≡ is_some (position is_free self.now.streams) }
+        ensures places { length self.now.streams ≡ 32 }
+        ensures live_once { LivesOnce self.now.streams }
     {
-        free_place(&self.held).is_some()
+        free_place(&self.streams).is_some()
     }
 
     /// Takes a place for a stream that was just accepted. `None`, and nothing is taken, exactly where
     /// all 32 are taken.
     pub fn take_place(&mut self, id: u16) -> Option<PlaceNo>
         requires calls { self.old.calls < 2 ^ 63 }
-        requires new { position (is_live_as id) self.old.held ≡ None }
-        ensures place { option_map (λ place. place.0) result ≡ position is_free self.old.held }
+        requires new { position (is_live_as id) self.old.streams ≡ None }
+        ensures place { option_map (λ place. place.0) result ≡ position is_free self.old.streams }
         ensures within { IfSome result (λ place. place.0 < 32) }
         ensures some { IfSome result (λ place. self.new ≡ record (with_held self.old place.0 (Some (begun id self.old.next_serial))) { next_serial = self.old.next_serial + 1 }) }
         ensures taken { IfSome result (λ place. held_at self.new place.0 ≡ Some (begun id self.old.next_serial)) }
         ensures none { IfNone result (self.new ≡ record self.old { calls = self.old.calls + 1 }) }
-        ensures live_once { LivesOnce self.new.held }
+        ensures live_once { LivesOnce self.new.streams }
         ensures calls { self.new.calls ≡ self.old.calls + 1 }
     {
         self.calls += 1;
-        let place = free_place(&self.held)?;
-        self.held[place] = Some(begun(id, self.next_serial));
+        let place = free_place(&self.streams)?;
+        self.streams[place] = Some(begun(id, self.next_serial));
         self.next_serial += 1;
         Some(PlaceNo(place as u32))
     }
@@ -290,8 +290,8 @@ impl Places {
     fn get(&self, place: PlaceNo) -> Option<Held>
         ensures { result ≡ held_at self.now place.0 }
     {
-        match self.held.get(place.0 as usize) {
-            Some(held) => *held,
+        match self.streams.get(place.0 as usize) {
+            Some(stream) => *stream,
             None => None,
         }
     }
@@ -303,58 +303,60 @@ impl Places {
         ensures counted { IsCounted result self.now.calls }
         ensures calls { self.now.calls ≤ 2 ^ 63 }
     {
-        match self.held[place.0 as usize] {
+        match self.streams[place.0 as usize] {
             Some(stream) => stream,
             None => unreachable!(),
         }
     }
 
-    fn put(&mut self, place: PlaceNo, held: Option<Held>)
+    fn put(&mut self, place: PlaceNo, stream: Option<Held>)
         requires calls { self.old.calls < 2 ^ 63 }
         requires within { place.0 < 32 }
-        requires counted { (h : Held) → held ≡ Some h → IsCounted h (self.old.calls + 1) }
-        requires lives { (id : ℕ) → IsTrue (is_live_as id held) → IsTrue (is_live_as id (held_at self.old place.0)) }
-        ensures { self.new ≡ with_held self.old place.0 held }
+        requires counted { (h : Held) → stream ≡ Some h → IsCounted h (self.old.calls + 1) }
+        requires lives { (id : ℕ) → IsTrue (is_live_as id stream) → IsTrue (is_live_as id (held_at self.old place.0)) }
+        ensures { self.new ≡ with_held self.old place.0 stream }
     {
-        self.held[place.0 as usize] = held;
+        self.streams[place.0 as usize] = stream;
         self.calls += 1;
     }
 }
 
-fn live_place(held: &[Option<Held>; 32], id: u16) -> Option<usize>
-    ensures first { result ≡ position (is_live_as id) held.now }
+fn live_place(streams: &[Option<Held>; 32], id: u16) -> Option<usize>
+    ensures first { result ≡ position (is_live_as id) streams.now }
     ensures within { IfSome result (λ place. place < 32) }
 {
-    held.iter().position(|held| is_live_as(held, id))
+    streams.iter().position(|stream| is_live_as(stream, id))
 }
 
-fn stream_place(held: &[Option<Held>; 32], id: u16, serial: u64) -> Option<usize>
-    ensures first { result ≡ position (is_stream id serial) held.now }
+fn stream_place(streams: &[Option<Held>; 32], id: u16, serial: u64) -> Option<usize>
+    ensures first { result ≡ position (is_stream id serial) streams.now }
     ensures within { IfSome result (λ place. place < 32) }
 {
-    held.iter().position(|held| is_stream(held, id, serial))
+    streams
+        .iter()
+        .position(|stream| is_stream(stream, id, serial))
 }
 
-fn free_place(held: &[Option<Held>; 32]) -> Option<usize>
-    ensures first { result ≡ position is_free held.now }
+fn free_place(streams: &[Option<Held>; 32]) -> Option<usize>
+    ensures first { result ≡ position is_free streams.now }
     ensures within { IfSome result (λ place. place < 32) }
 {
-    held.iter().position(|held| held.is_none())
+    streams.iter().position(|stream| stream.is_none())
 }
 
-fn is_live_as(held: &Option<Held>, id: u16) -> bool
-    ensures { result ≡ is_live_as id held.now }
+fn is_live_as(stream: &Option<Held>, id: u16) -> bool
+    ensures { result ≡ is_live_as id stream.now }
 {
-    match held {
+    match stream {
         Some(stream) => stream.stream == id && stream.phase != Phase::Ending,
         None => false,
     }
 }
 
-fn is_stream(held: &Option<Held>, id: u16, serial: u64) -> bool
-    ensures { result ≡ is_stream id serial held.now }
+fn is_stream(stream: &Option<Held>, id: u16, serial: u64) -> bool
+    ensures { result ≡ is_stream id serial stream.now }
 {
-    match held {
+    match stream {
         Some(stream) => stream.stream == id && stream.serial == serial,
         None => false,
     }

@@ -92,8 +92,8 @@ played_done status ending tape bytes rules records r w good whole played =
     let read : IsRecords good.first played.records played.rest = subst (λ xs. IsRecords xs played.records played.rest) start.first played.read.read in
     let same : SameReading played.records records played.rest [] = one_reading good.first played.records records played.rest [] read good.whole (status_stops _ _ _ _ played.ends) nothing_stops in
     let at_end : status_at End (length bytes - length played.rest) played.rest ≡ Some status = subst (λ e. status_at e (length bytes - length played.rest) played.rest ≡ Some status) whole.at_end played.ends in
-    let written : IsWritten w.held (output rules played.records) w.held_after = subst (λ x. IsWritten w.held (output x played.records) w.held_after) start.rules played.written in
-    inl (end_done _ _ _ same.rest at_end, subst (λ rs. IsWritten w.held (output rules rs) w.held_after) same.records written, played.flushed)
+    let written : IsWritten w.contents (output rules played.records) w.contents_after = subst (λ x. IsWritten w.contents (output x played.records) w.contents_after) start.rules played.written in
+    inl (end_done _ _ _ same.rest at_end, subst (λ rs. IsWritten w.contents (output rules rs) w.contents_after) same.records written, played.flushed)
 
 -- A good tape's rules are whole.
 begun : (status : Status) (ending : Ending) (tape bytes : List ℕ) (rules : Rules) (records : List Record) (r : Reads) (w : Writes) → IsGood tape rules records r w → ReadWhole ending tape bytes → NotBegun status ending bytes w → ⊥
@@ -121,9 +121,9 @@ pub finished : (status : Status) (ending : Ending) (tape : List ℕ) (r : Reads)
 unfolding IsRun
 finished status ending tape r w cause bytes play = inl (record { ending = ending; tape = tape; cause = cause; bytes = bytes; play = play })
 
-pub unread : (r : Reads) (w : Writes) → (bytes : List ℕ) × IsRead r.left bytes r.left_after → w.held_after ≡ w.held → IsRun Memory r w
+pub unread : (r : Reads) (w : Writes) → (bytes : List ℕ) × IsRead r.left bytes r.left_after → w.contents_after ≡ w.contents → IsRun Memory r w
 unfolding IsRun
-unread r w read same = inr (record { is = refl; bytes = read.0; read = read.1; held = same })
+unread r w read same = inr (record { is = refl; bytes = read.0; read = read.1; contents = same })
 
 pub only_reading : (tape : List ℕ) (records : List Record) (rest : List ℕ) → IsRecords tape records rest → BeginsNone rest → IsOnlyReading tape records rest
 only_reading tape records rest read stops others other also ends = one_reading tape records others rest other read also stops ends

@@ -19,7 +19,7 @@ use Rattle.tape.specs.Records.{front_of}
 use Rattle.tape.specs.TapeRules.{rules_and, less_than_rules, no_rules, rules_ahead}
 use Rattle.tape.specs.Steps.{tape_start, answer_of, steps_behind, answers_behind, steps_of, output, IsRecords}
 use Rattle.tr_io.specs.Output.{IsWritten, IsPartWritten}
-use Rattle.tape.specs.Runs.{cut_status, status_by, status_at, rules_status, Writes, IsFlushed, SwitchBehind, FirstRecords, EndsPlay}
+use Rattle.tape.specs.Runs.{cut_status, status_by, status_at, rules_status, SinkRun, IsFlushed, SwitchBehind, FirstRecords, EndsPlay}
 use Rattle.tape.specs.Playing.{PlaysOn, HandedOn, Gathered, Stopped, Broken}
 use Rattle.tr_io.proofs.OutputLaws.{starts_empty, whole_behind, part_behind}
 use Rattle.tape.proofs.Readings.{status_stops, only_reading, first_records}
@@ -27,16 +27,16 @@ use Rattle.tape.proofs.Tapes.{records_more, steps_more, answers_more}
 
 -- What holds at each turn: the switch stands for the steps of the records that were played, of which
 -- there is at most one for each byte.
-pub record Turn (rules : Rules) (tape first rest : List ℕ) (switch : Started) (answers : List ℕ) (held now : Option (List ℕ)) (faults faults_now : ℕ) : Type 0 where
+pub record Turn (rules : Rules) (tape first rest : List ℕ) (switch : Started) (answers : List ℕ) (contents now : Option (List ℕ)) (faults faults_now : ℕ) : Type 0 where
   pub counted : faults ≤ faults_now
   pub paid : switch.state.steps + length rest ≤ length tape
   pub records : List Record
   pub start : switch.start ≡ tape_start rules
   pub stands : SwitchStands switch (steps_of rules records)
-  pub gathered : Gathered rules first rest records answers held now
+  pub gathered : Gathered rules first rest records answers contents now
 
-behind_turn : (rules : Rules) (tape first rest : List ℕ) (switch : Started) (answers : List ℕ) (held now : Option (List ℕ)) (faults faults_now : ℕ) → (turn : Turn rules tape first rest switch answers held now faults faults_now) → SwitchBehind rules turn.records
-behind_turn rules tape first rest switch answers held now faults faults_now turn = record { switch = switch; start = turn.start; stands = turn.stands }
+behind_turn : (rules : Rules) (tape first rest : List ℕ) (switch : Started) (answers : List ℕ) (contents now : Option (List ℕ)) (faults faults_now : ℕ) → (turn : Turn rules tape first rest switch answers contents now faults faults_now) → SwitchBehind rules turn.records
+behind_turn rules tape first rest switch answers contents now faults faults_now turn = record { switch = switch; start = turn.start; stands = turn.stands }
 
 -- A new switch stands for the history without steps.
 new_stands : (start : Start) (state : State) (relays : List (Option Relay)) → state ≡ new_state → relays ≡ [] → SwitchStands (record { start = start; state = state; relays = relays }) []
@@ -46,22 +46,22 @@ new_stands start state relays new none = record {
   relays = rw none (record { count_is = refl; relay = λ c. refl });
 }
 
-pub first_turn : (rules : Rules) (tape first : List ℕ) (switch : Started) (answers : List ℕ) (held : Option (List ℕ)) (faults : ℕ) → length first ≤ length tape → switch.start ≡ tape_start rules → switch.state ≡ new_state → switch.relays ≡ [] → answers ≡ [] →
-    Turn rules tape first first switch answers held held faults faults
+pub first_turn : (rules : Rules) (tape first : List ℕ) (switch : Started) (answers : List ℕ) (contents : Option (List ℕ)) (faults : ℕ) → length first ≤ length tape → switch.start ≡ tape_start rules → switch.state ≡ new_state → switch.relays ≡ [] → answers ≡ [] →
+    Turn rules tape first first switch answers contents contents faults faults
 unfolding IsRecords answers_behind steps_behind
-first_turn rules tape first switch answers held faults within started new no_relays none = record {
+first_turn rules tape first switch answers contents faults within started new no_relays none = record {
   counted = omega arith;
   paid = (let zero : switch.state.steps ≡ 0 = ap (λ s. s.steps) new in omega (arith, zero, within));
   records = [];
   start = started;
   stands = new_stands switch.start switch.state switch.relays new no_relays;
-  gathered = record { read = refl; handed = record { piece = []; written = starts_empty held; whole = none } };
+  gathered = record { read = refl; handed = record { piece = []; written = starts_empty contents; whole = none } };
 }
 
 -- A record was played.
-pub played_more : (rules : Rules) (first rest behind : List ℕ) (records : List Record) (r : Record) (answers more : List ℕ) (h : List Step) (old new : Started) (held now : Option (List ℕ)) → h ≡ steps_of rules records → SwitchStands old h → PlaysOn rules r old new answers more →
-    front_of rest ≡ record_and r behind → Gathered rules first rest records answers held now → Gathered rules first behind (records ++ r ∷ []) more held now
-played_more rules first rest behind records r answers more h old new held now is stands plays front gathered = record {
+pub played_more : (rules : Rules) (first rest behind : List ℕ) (records : List Record) (r : Record) (answers more : List ℕ) (h : List Step) (old new : Started) (contents now : Option (List ℕ)) → h ≡ steps_of rules records → SwitchStands old h → PlaysOn rules r old new answers more →
+    front_of rest ≡ record_and r behind → Gathered rules first rest records answers contents now → Gathered rules first behind (records ++ r ∷ []) more contents now
+played_more rules first rest behind records r answers more h old new contents now is stands plays front gathered = record {
   read = records_more first records rest behind r gathered.read front;
   handed = record {
     piece = gathered.handed.piece;
@@ -80,12 +80,12 @@ stands_more rules records r answers more old new stands plays =
     subst (λ h. SwitchStands new h) (sym (steps_more rules [] records r)) (plays.stands (steps_of rules records) stands)
 
 -- Answers were handed on.
-pub handed_more : (rules : Rules) (first rest : List ℕ) (records : List Record) (answers left : List ℕ) (held now after : Option (List ℕ)) → Gathered rules first rest records answers held now → HandedOn answers left now after → Gathered rules first rest records left held after
-handed_more rules first rest records answers left held now after gathered handed = record {
+pub handed_more : (rules : Rules) (first rest : List ℕ) (records : List Record) (answers left : List ℕ) (contents now after : Option (List ℕ)) → Gathered rules first rest records answers contents now → HandedOn answers left now after → Gathered rules first rest records left contents after
+handed_more rules first rest records answers left contents now after gathered handed = record {
   read = gathered.read;
   handed = record {
     piece = gathered.handed.piece ++ handed.piece;
-    written = whole_behind held now after gathered.handed.piece handed.piece _ gathered.handed.written handed.written refl;
+    written = whole_behind contents now after gathered.handed.piece handed.piece _ gathered.handed.written handed.written refl;
     whole =
         append_assoc gathered.handed.piece handed.piece left
         ∙ ap (λ xs. gathered.handed.piece ++ xs) handed.whole
@@ -94,14 +94,14 @@ handed_more rules first rest records answers left held now after gathered handed
 }
 
 -- The sink failed in the midst.
-pub breaks : (rules : Rules) (first rest : List ℕ) (records : List Record) (answers : List ℕ) (held now after : Option (List ℕ)) (faults faults_now : ℕ) → SwitchBehind rules records → Gathered rules first rest records answers held now → IsPartWritten now answers after → Rose faults faults_now → Broken rules first held after faults faults_now
-breaks rules first rest records answers held now after faults faults_now behind gathered part rose = record {
+pub breaks : (rules : Rules) (first rest : List ℕ) (records : List Record) (answers : List ℕ) (contents now after : Option (List ℕ)) (faults faults_now : ℕ) → SwitchBehind rules records → Gathered rules first rest records answers contents now → IsPartWritten now answers after → Rose faults faults_now → Broken rules first contents after faults faults_now
+breaks rules first rest records answers contents now after faults faults_now behind gathered part rose = record {
   cause = rose;
   records = records;
   rest = rest;
   behind = behind;
   read = gathered.read;
-  written = part_behind held now after gathered.handed.piece answers (output rules records) gathered.handed.written part gathered.handed.whole;
+  written = part_behind contents now after gathered.handed.piece answers (output rules records) gathered.handed.written part gathered.handed.whole;
 }
 
 -- A switch that was made for a tape's rules has them.
@@ -112,10 +112,10 @@ played_under : (rules : Rules) (made : Start) (r : Record) (old new : Started) (
 played_under rules made r old new answers more is plays = subst (λ (s : Start). PlaysOn s.rules r old new answers more) is plays
 
 -- The next turn.
-pub next_turn : (rules : Rules) (tape first rest behind : List ℕ) (old new : Started) (r : Record) (answers more left : List ℕ) (held now after : Option (List ℕ)) (faults faults_now faults_after : ℕ) → Turn rules tape first rest old answers held now faults faults_now →
+pub next_turn : (rules : Rules) (tape first rest behind : List ℕ) (old new : Started) (r : Record) (answers more left : List ℕ) (contents now after : Option (List ℕ)) (faults faults_now faults_after : ℕ) → Turn rules tape first rest old answers contents now faults faults_now →
     record_and r behind ≡ front_of rest → length behind < length rest → PlaysOn old.start.rules r old new answers more → new.start ≡ old.start → new.state.steps ≤ old.state.steps + 1 → HandedOn more left now after → faults_now ≤ faults_after →
-    Turn rules tape first behind new left held after faults faults_after
-next_turn rules tape first rest behind old new r answers more left held now after faults faults_now faults_after turn front shorter plays started step handed counted =
+    Turn rules tape first behind new left contents after faults faults_after
+next_turn rules tape first rest behind old new r answers more left contents now after faults faults_now faults_after turn front shorter plays started step handed counted =
     let on : PlaysOn rules r old new answers more = played_under rules old.start r old new answers more turn.start plays in
     record {
       counted = omega (arith, turn.counted, counted);
@@ -123,24 +123,24 @@ next_turn rules tape first rest behind old new r answers more left held now afte
       records = turn.records ++ r ∷ [];
       start = started ∙ turn.start;
       stands = stands_more rules turn.records r answers more old new turn.stands on;
-      gathered = handed_more rules first behind (turn.records ++ r ∷ []) more left held now after
-          (played_more rules first rest behind turn.records r answers more (steps_of rules turn.records) old new held now refl turn.stands on (sym front) turn.gathered)
+      gathered = handed_more rules first behind (turn.records ++ r ∷ []) more left contents now after
+          (played_more rules first rest behind turn.records r answers more (steps_of rules turn.records) old new contents now refl turn.stands on (sym front) turn.gathered)
           handed;
     }
 
 -- The same turn by what the switch was equal to.
-pub turn_of : (rules : Rules) (a b : Started) (tape first rest : List ℕ) (answers : List ℕ) (held now : Option (List ℕ)) (faults faults_now : ℕ) → a ≡ b → Turn rules tape first rest b answers held now faults faults_now → Turn rules tape first rest a answers held now faults faults_now
-turn_of rules a b tape first rest answers held now faults faults_now is turn =
-    subst (λ s. Turn rules tape first rest s answers held now faults faults_now) (sym is) turn
+pub turn_of : (rules : Rules) (a b : Started) (tape first rest : List ℕ) (answers : List ℕ) (contents now : Option (List ℕ)) (faults faults_now : ℕ) → a ≡ b → Turn rules tape first rest b answers contents now faults faults_now → Turn rules tape first rest a answers contents now faults faults_now
+turn_of rules a b tape first rest answers contents now faults faults_now is turn =
+    subst (λ s. Turn rules tape first rest s answers contents now faults faults_now) (sym is) turn
 
 -- A turn in which the sink fails.
-pub turn_breaks : (rules : Rules) (tape first rest behind : List ℕ) (old new : Started) (r : Record) (answers more : List ℕ) (held now after : Option (List ℕ)) (faults faults_now faults_after : ℕ) → Turn rules tape first rest old answers held now faults faults_now →
-    record_and r behind ≡ front_of rest → PlaysOn old.start.rules r old new answers more → new.start ≡ old.start → IsPartWritten now more after → Rose faults_now faults_after → Broken rules first held after faults faults_after
-turn_breaks rules tape first rest behind old new r answers more held now after faults faults_now faults_after turn front plays started part rose =
+pub turn_breaks : (rules : Rules) (tape first rest behind : List ℕ) (old new : Started) (r : Record) (answers more : List ℕ) (contents now after : Option (List ℕ)) (faults faults_now faults_after : ℕ) → Turn rules tape first rest old answers contents now faults faults_now →
+    record_and r behind ≡ front_of rest → PlaysOn old.start.rules r old new answers more → new.start ≡ old.start → IsPartWritten now more after → Rose faults_now faults_after → Broken rules first contents after faults faults_after
+turn_breaks rules tape first rest behind old new r answers more contents now after faults faults_now faults_after turn front plays started part rose =
     let on : PlaysOn rules r old new answers more = played_under rules old.start r old new answers more turn.start plays in
-    breaks rules first behind (turn.records ++ r ∷ []) more held now after faults faults_after
+    breaks rules first behind (turn.records ++ r ∷ []) more contents now after faults faults_after
     (record { switch = new; start = started ∙ turn.start; stands = stands_more rules turn.records r answers more old new turn.stands on })
-    (played_more rules first rest behind turn.records r answers more (steps_of rules turn.records) old new held now refl turn.stands on (sym front) turn.gathered)
+    (played_more rules first rest behind turn.records r answers more (steps_of rules turn.records) old new contents now refl turn.stands on (sym front) turn.gathered)
     part (omega (arith, turn.counted, rose))
 
 -- The status at a place that begins no record which is built.
@@ -156,14 +156,14 @@ pub unbuilt_at : (ending : Ending) (tape rest : List ℕ) (kind : ℕ) → unbui
 unfolding status_at
 unbuilt_at ending tape rest kind front = ap (status_by ending (length tape - length rest) rest) (sym front)
 
-pub stops : (rules : Rules) (status : Status) (ending : Ending) (tape first rest : List ℕ) (switch : Started) (answers : List ℕ) (held now : Option (List ℕ)) (faults faults_now : ℕ) → Turn rules tape first rest switch answers held now faults faults_now →
-    status_at ending (length tape - length rest) rest ≡ Some status → Stopped rules status ending tape first answers held now
-stops rules status ending tape first rest switch answers held now faults faults_now turn at =
+pub stops : (rules : Rules) (status : Status) (ending : Ending) (tape first rest : List ℕ) (switch : Started) (answers : List ℕ) (contents now : Option (List ℕ)) (faults faults_now : ℕ) → Turn rules tape first rest switch answers contents now faults faults_now →
+    status_at ending (length tape - length rest) rest ≡ Some status → Stopped rules status ending tape first answers contents now
+stops rules status ending tape first rest switch answers contents now faults faults_now turn at =
     record { records = turn.records; rest = rest; behind = behind_turn _ _ _ _ _ _ _ _ _ _ turn; gathered = turn.gathered; cause = inl at }
 
-pub stops_short : (rules : Rules) (status : Status) (ending : Ending) (tape first rest : List ℕ) (switch : Started) (answers : List ℕ) (held now : Option (List ℕ)) (faults faults_now : ℕ) → Turn rules tape first rest switch answers held now faults faults_now →
-    status ≡ Memory → Stopped rules status ending tape first answers held now
-stops_short rules status ending tape first rest switch answers held now faults faults_now turn memory =
+pub stops_short : (rules : Rules) (status : Status) (ending : Ending) (tape first rest : List ℕ) (switch : Started) (answers : List ℕ) (contents now : Option (List ℕ)) (faults faults_now : ℕ) → Turn rules tape first rest switch answers contents now faults faults_now →
+    status ≡ Memory → Stopped rules status ending tape first answers contents now
+stops_short rules status ending tape first rest switch answers contents now faults faults_now turn memory =
     record { records = turn.records; rest = rest; behind = behind_turn _ _ _ _ _ _ _ _ _ _ turn; gathered = turn.gathered; cause = inr memory }
 
 -- The rules that a tape says are those of the switch that was made for them.
@@ -171,11 +171,11 @@ pub ahead_of : (rules : Rules) (made : Start) (tape first : List ℕ) → made �
 ahead_of rules made tape first is ahead = sym ahead ∙ ap (λ (s : Start). rules_and s.rules first) (sym is)
 
 -- How the playing ends, once the last answers are written or the sink failed.
-pub ends_whole : (rules : Rules) (status : Status) (ending : Ending) (tape first answers last : List ℕ) (now : Option (List ℕ)) (w : Writes) → rules_ahead tape ≡ rules_and rules first → Stopped rules status ending tape first answers w.held now → last ≡ answers → IsWritten now last w.held_after → IsFlushed w → EndsPlay status ending tape w
+pub ends_whole : (rules : Rules) (status : Status) (ending : Ending) (tape first answers last : List ℕ) (now : Option (List ℕ)) (w : SinkRun) → rules_ahead tape ≡ rules_and rules first → Stopped rules status ending tape first answers w.contents now → last ≡ answers → IsWritten now last w.contents_after → IsFlushed w → EndsPlay status ending tape w
 ends_whole rules status ending tape first answers last now w ahead stopped all written_last flushed =
-    let written : IsWritten now answers w.held_after = subst (λ xs. IsWritten now xs w.held_after) all written_last in
-    let out : IsWritten w.held (output rules stopped.records) w.held_after =
-    whole_behind w.held now w.held_after stopped.gathered.handed.piece answers (output rules stopped.records) stopped.gathered.handed.written written stopped.gathered.handed.whole in
+    let written : IsWritten now answers w.contents_after = subst (λ xs. IsWritten now xs w.contents_after) all written_last in
+    let out : IsWritten w.contents (output rules stopped.records) w.contents_after =
+    whole_behind w.contents now w.contents_after stopped.gathered.handed.piece answers (output rules stopped.records) stopped.gathered.handed.written written stopped.gathered.handed.whole in
     let read : FirstRecords rules tape first stopped.rest stopped.records = first_records rules tape first stopped.rest stopped.records ahead stopped.gathered.read stopped.behind in
     elim stopped.cause [
       | inl at ↦ inl (record {
@@ -192,7 +192,7 @@ ends_whole rules status ending tape first answers last now w ahead stopped all w
       | inr memory ↦ inr (inr (inl (record { is = memory; rules = rules; first = first; records = stopped.records; rest = stopped.rest; read = read; written = out })))
     ]
 
-pub ends_cut : (rules : Rules) (status : Status) (ending : Ending) (tape first : List ℕ) (w : Writes) → rules_ahead tape ≡ rules_and rules first → status ≡ WriteFault → Broken rules first w.held w.held_after w.faults w.faults_after → EndsPlay status ending tape w
+pub ends_cut : (rules : Rules) (status : Status) (ending : Ending) (tape first : List ℕ) (w : SinkRun) → rules_ahead tape ≡ rules_and rules first → status ≡ WriteFault → Broken rules first w.contents w.contents_after w.faults w.faults_after → EndsPlay status ending tape w
 ends_cut rules status ending tape first w ahead is broken = inr (inl (record {
   is = is;
   cause = broken.cause;
@@ -204,14 +204,14 @@ ends_cut rules status ending tape first w ahead is broken = inr (inl (record {
   written = broken.written;
 }))
 
-pub ends_broken : (rules : Rules) (status : Status) (ending : Ending) (tape first answers last : List ℕ) (now : Option (List ℕ)) (w : Writes) → rules_ahead tape ≡ rules_and rules first → Stopped rules status ending tape first answers w.held now → last ≡ answers → IsPartWritten now last w.held_after → Rose w.faults w.faults_after → EndsPlay WriteFault ending tape w
+pub ends_broken : (rules : Rules) (status : Status) (ending : Ending) (tape first answers last : List ℕ) (now : Option (List ℕ)) (w : SinkRun) → rules_ahead tape ≡ rules_and rules first → Stopped rules status ending tape first answers w.contents now → last ≡ answers → IsPartWritten now last w.contents_after → Rose w.faults w.faults_after → EndsPlay WriteFault ending tape w
 ends_broken rules status ending tape first answers last now w ahead stopped all part rose =
     ends_cut rules WriteFault ending tape first w ahead refl
-    (breaks rules first stopped.rest stopped.records answers w.held now w.held_after w.faults w.faults_after stopped.behind stopped.gathered
-    (subst (λ xs. IsPartWritten now xs w.held_after) all part) rose)
+    (breaks rules first stopped.rest stopped.records answers w.contents now w.contents_after w.faults w.faults_after stopped.behind stopped.gathered
+    (subst (λ xs. IsPartWritten now xs w.contents_after) all part) rose)
 
 -- Memory was wanting before the first record.
-pub ends_early : (rules : Rules) (ending : Ending) (tape first : List ℕ) (w : Writes) → rules_ahead tape ≡ rules_and rules first → w.held_after ≡ w.held → EndsPlay Memory ending tape w
+pub ends_early : (rules : Rules) (ending : Ending) (tape first : List ℕ) (w : SinkRun) → rules_ahead tape ≡ rules_and rules first → w.contents_after ≡ w.contents → EndsPlay Memory ending tape w
 unfolding IsRecords answers_behind steps_behind
 ends_early rules ending tape first w ahead same = inr (inr (inl (record {
   is = refl;
@@ -220,14 +220,14 @@ ends_early rules ending tape first w ahead same = inr (inr (inl (record {
   records = [];
   rest = first;
   read = first_records rules tape first first [] ahead refl (record { switch = _; start = refl; stands = new_stands (tape_start rules) new_state [] refl refl });
-  written = subst (λ o. IsWritten w.held [] o) (sym same) (starts_empty w.held);
+  written = subst (λ o. IsWritten w.contents [] o) (sym same) (starts_empty w.contents);
 })))
 
 -- The tape's rules are cut, or are none.
-pub ends_cut_short : (status : Status) (ending : Ending) (tape : List ℕ) (w : Writes) → less_than_rules ≡ rules_ahead tape → status ≡ cut_status ending 0 tape → w.held_after ≡ w.held → EndsPlay status ending tape w
+pub ends_cut_short : (status : Status) (ending : Ending) (tape : List ℕ) (w : SinkRun) → less_than_rules ≡ rules_ahead tape → status ≡ cut_status ending 0 tape → w.contents_after ≡ w.contents → EndsPlay status ending tape w
 ends_cut_short status ending tape w front is same =
-    inr (inr (inr (record { ends = ap (rules_status ending tape) (sym front) ∙ ap Some (sym is); held = same })))
+    inr (inr (inr (record { ends = ap (rules_status ending tape) (sym front) ∙ ap Some (sym is); contents = same })))
 
-pub ends_ruleless : (ending : Ending) (tape : List ℕ) (w : Writes) → no_rules ≡ rules_ahead tape → w.held_after ≡ w.held → EndsPlay (BadTape 0) ending tape w
+pub ends_ruleless : (ending : Ending) (tape : List ℕ) (w : SinkRun) → no_rules ≡ rules_ahead tape → w.contents_after ≡ w.contents → EndsPlay (BadTape 0) ending tape w
 ends_ruleless ending tape w front same =
-    inr (inr (inr (record { ends = ap (rules_status ending tape) (sym front); held = same })))
+    inr (inr (inr (record { ends = ap (rules_status ending tape) (sym front); contents = same })))

@@ -19,29 +19,29 @@ pub record PlaysOn (rules : Rules) (r : Record) (old new : Started) (answers mor
   pub answer : (h : List Step) → SwitchStands old h → more ≡ answers ++ answer_of rules h r
 
 -- The front of the answers was written, and the others are left.
-pub record HandedOn (answers left : List ℕ) (held now : Option (List ℕ)) : Type 0 where
+pub record HandedOn (answers left : List ℕ) (contents now : Option (List ℕ)) : Type 0 where
   pub piece : List ℕ
-  pub written : IsWritten held piece now
+  pub written : IsWritten contents piece now
   pub whole : piece ++ left ≡ answers
 
 -- These records were played: their answers are written, but for those that are gathered.
-pub record Gathered (rules : Rules) (first rest : List ℕ) (records : List Record) (answers : List ℕ) (held now : Option (List ℕ)) : Type 0 where
+pub record Gathered (rules : Rules) (first rest : List ℕ) (records : List Record) (answers : List ℕ) (contents now : Option (List ℕ)) : Type 0 where
   pub read : IsRecords first records rest
-  pub handed : HandedOn (output rules records) answers held now
+  pub handed : HandedOn (output rules records) answers contents now
 
 -- The playing stopped at a place that begins no record which is built, or for want of memory.
-pub record Stopped (rules : Rules) (status : Status) (ending : Ending) (tape first answers : List ℕ) (held now : Option (List ℕ)) : Type 0 where
+pub record Stopped (rules : Rules) (status : Status) (ending : Ending) (tape first answers : List ℕ) (contents now : Option (List ℕ)) : Type 0 where
   pub records : List Record
   pub rest : List ℕ
   pub behind : SwitchBehind rules records
-  pub gathered : Gathered rules first rest records answers held now
+  pub gathered : Gathered rules first rest records answers contents now
   pub cause : (status_at ending (length tape - length rest) rest ≡ Some status) ⊎ (status ≡ Memory)
 
 -- The playing stopped at a fault of the sink.
-pub record Broken (rules : Rules) (first : List ℕ) (held now : Option (List ℕ)) (faults faults_now : ℕ) : Type 0 where
+pub record Broken (rules : Rules) (first : List ℕ) (contents now : Option (List ℕ)) (faults faults_now : ℕ) : Type 0 where
   pub cause : Rose faults faults_now
   pub records : List Record
   pub rest : List ℕ
   pub behind : SwitchBehind rules records
   pub read : IsRecords first records rest
-  pub written : IsPartWritten held (output rules records) now
+  pub written : IsPartWritten contents (output rules records) now

@@ -35,19 +35,19 @@ reads left faults left_after faults_after =
 
 -- What a sink tells of its bytes and faults, before and after a run, and which bytes are flushed after it.
 pub record Writes : Type 0 where
-  pub held : Option (List ℕ)
+  pub contents : Option (List ℕ)
   pub faults : ℕ
-  pub held_after : Option (List ℕ)
+  pub contents_after : Option (List ℕ)
   pub flushed_after : Option (List ℕ)
   pub faults_after : ℕ
 
 abbrev pub writes : Option (List ℕ) → ℕ → Option (List ℕ) → Option (List ℕ) → ℕ → Writes
-writes held faults held_after flushed_after faults_after =
-    record { held = held; faults = faults; held_after = held_after; flushed_after = flushed_after; faults_after = faults_after }
+writes contents faults contents_after flushed_after faults_after =
+    record { contents = contents; faults = faults; contents_after = contents_after; flushed_after = flushed_after; faults_after = faults_after }
 
 -- All that the sink has taken is flushed.
 abbrev pub IsFlushed : Writes → Type 0
-IsFlushed w = w.flushed_after ≡ w.held_after
+IsFlushed w = w.flushed_after ≡ w.contents_after
 
 -- The status where the bytes that are left are less than a record, at this place.
 abbrev pub cut_status : Ending → ℕ → List ℕ → Status
@@ -124,7 +124,7 @@ pub record Played (status : Status) (ending : Ending) (tape : List ℕ) (w : Wri
   pub read : FirstRecords rules tape first rest records
   pub ends : status_at ending (length tape - length rest) rest ≡ Some status
   pub only : IsOnlyReading first records rest
-  pub written : IsWritten w.held (output rules records) w.held_after
+  pub written : IsWritten w.contents (output rules records) w.contents_after
   pub flushed : IsFlushed w
 
 -- The sink failed: a front of the output was written.
@@ -136,7 +136,7 @@ pub record CutOff (status : Status) (tape : List ℕ) (w : Writes) : Type 0 wher
   pub records : List Record
   pub rest : List ℕ
   pub read : FirstRecords rules tape first rest records
-  pub written : IsPartWritten w.held (output rules records) w.held_after
+  pub written : IsPartWritten w.contents (output rules records) w.contents_after
 
 -- Memory was wanting at some record: the answers of those before it were written, each whole.
 pub record OutOfMemory (status : Status) (tape : List ℕ) (w : Writes) : Type 0 where
@@ -146,12 +146,12 @@ pub record OutOfMemory (status : Status) (tape : List ℕ) (w : Writes) : Type 0
   pub records : List Record
   pub rest : List ℕ
   pub read : FirstRecords rules tape first rest records
-  pub written : IsWritten w.held (output rules records) w.held_after
+  pub written : IsWritten w.contents (output rules records) w.contents_after
 
 -- The tape's rules are cut, or are none: nothing was played.
 pub record NotBegun (status : Status) (ending : Ending) (tape : List ℕ) (w : Writes) : Type 0 where
   pub ends : rules_status ending tape (rules_ahead tape) ≡ Some status
-  pub held : w.held_after ≡ w.held
+  pub contents : w.contents_after ≡ w.contents
 
 abbrev pub EndsPlay : Status → Ending → List ℕ → Writes → Type 0
 EndsPlay status ending tape w =
@@ -170,7 +170,7 @@ pub record Unread (status : Status) (r : Reads) (w : Writes) : Type 0 where
   pub is : status ≡ Memory
   pub bytes : List ℕ
   pub read : IsRead r.left bytes r.left_after
-  pub held : w.held_after ≡ w.held
+  pub contents : w.contents_after ≡ w.contents
 
 -- A run of a tape.
 unfoldable pub IsRun : Status → Reads → Writes → Type 0
@@ -180,7 +180,7 @@ IsRun status r w = Finished status r w ⊎ Unread status r w
 -- written and flushed, unless memory was wanting.
 unfoldable pub IsDone : Status → Rules → List Record → Writes → Type 0
 IsDone status rules records w =
-    ((status ≡ Done) × IsWritten w.held (output rules records) w.held_after × IsFlushed w) ⊎ (status ≡ Memory)
+    ((status ≡ Done) × IsWritten w.contents (output rules records) w.contents_after × IsFlushed w) ⊎ (status ≡ Memory)
 
 -- What makes a run end so: the source tells a tape that is rules and these records and nothing else, it
 -- isn't too long, and neither source nor sink failed.

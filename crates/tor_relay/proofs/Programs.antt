@@ -27,7 +27,7 @@ pub says_end : (status : Status) (text : List ℕ) (e : Writes) → (status ≡ 
 says_end status text e other is said =
     subst (λ xs. IsSaid xs e) (sym (said_of status other)) (subst (λ xs. IsSaid xs e) is said)
 
-pub says_nothing : (status : Status) (held flushed : Option (List ℕ)) (faults : ℕ) → status ≡ Done → IsSaid (message status) (writes held faults held flushed faults)
-says_nothing status held flushed faults done =
-    let Said : Status → Type 0 = λ s. IsSaid (message s) (writes held faults held flushed faults) in
-    subst Said (sym done) (inl (starts_empty held))
+pub says_nothing : (status : Status) (contents flushed : Option (List ℕ)) (faults : ℕ) → status ≡ Done → IsSaid (message status) (writes contents faults contents flushed faults)
+says_nothing status contents flushed faults done =
+    let Said : Status → Type 0 = λ s. IsSaid (message s) (writes contents faults contents flushed faults) in
+    subst Said (sym done) (inl (starts_empty contents))

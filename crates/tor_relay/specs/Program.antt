@@ -56,7 +56,7 @@ message (StreamEnded reason) = end_message (StreamEnded reason)
 
 -- All of a text is written; or standard error failed, and the front of it is.
 abbrev pub IsSaid : List ℕ → Writes → Type 0
-IsSaid text e = IsWritten e.held text e.held_after ⊎ (IsPartWritten e.held text e.held_after × Rose e.faults e.faults_after)
+IsSaid text e = IsWritten e.contents text e.contents_after ⊎ (IsPartWritten e.contents text e.contents_after × Rose e.faults e.faults_after)
 
 -- A run of the command line that these words are ends with this status.
 pub record EndsAs {S K : Type 0} (words : List (List ℕ)) (status : Status) (source source_after : S) (sink sink_after : K) (r : Reads) (w : Writes) : Type 0 where

@@ -85,7 +85,7 @@ fn end_message(status: Status) -> ArrayString<MOST_SAID>
     text.push_str("tor_relay: ");
     text.push_str(phrase.front);
     push_number(&mut text, phrase.number);
-    text.push_str(phrase.behind);
+    text.push_str(phrase.tail);
     text.push_str("\n");
     text.push_str(usage_line(status));
     text

@@ -2,7 +2,7 @@
 use Rattle.std.proofs.Common.{◌≡◌, ◌≢◌, ℕ, suc, ◌+◌, ◌/◌, ◌%◌, ◌≤◌, [], ◌∷◌, ◌++◌, List, Bool, drop, true, false, length, refl, ap, sym, arith, if◌then◌else◌, ◌==◌, eq-eqb, ne_eqb}
 use Rattle.std.proofs.lemmas.List.{drop-append-le, append-nil, drop-drop}
 use Rattle.std.proofs.lemmas.Bool.Decides.{nat_tests}
-use Rattle.tor_spec.specs.CircuitWindow.{CircuitWindow, hundredths, proofs, owed, after_packaging, after_acknowledging}
+use Rattle.tor_spec.specs.CircuitWindow.{CircuitWindow, hundredths, proofs, owed_proofs, after_packaging, after_acknowledging}
 
 spread : (b : Bool) (d : List ℕ) (xs ys zs : List (List ℕ)) → xs ≡ ys ++ zs
     → (if b then d ∷ xs else xs) ≡ (if b then d ∷ ys else ys) ++ zs
@@ -53,18 +53,18 @@ proofs_grow w digest =
 
 -- Each 100th DATA cell that is packaged owes one more.
 pub owed_more : (w : CircuitWindow) (digest : List ℕ) → (length w.packaged + 1) % 100 ≡ 0
-    → w.acknowledged ≤ length w.packaged / 100 → owed (after_packaging w digest) ≡ owed w ++ digest ∷ []
+    → w.acknowledged ≤ length w.packaged / 100 → owed_proofs (after_packaging w digest) ≡ owed_proofs w ++ digest ∷ []
 owed_more w digest due behind =
     rw (proofs_grow w digest, eq-eqb ((length w.packaged + 1) % 100) 0 due)
     (drop-append-le w.acknowledged (proofs w) (digest ∷ []) (omega (arith, length-proofs w)))
 
 -- Other ones owe none.
 pub owed_same : (w : CircuitWindow) (digest : List ℕ) → (length w.packaged + 1) % 100 ≢ 0
-    → owed (after_packaging w digest) ≡ owed w
+    → owed_proofs (after_packaging w digest) ≡ owed_proofs w
 owed_same w digest other =
     rw (proofs_grow w digest, ne_eqb ((length w.packaged + 1) % 100) 0 other, append-nil (proofs w)) refl
 
 -- A SENDME that is accepted pays for the oldest.
-pub owed_less : (w : CircuitWindow) → owed (after_acknowledging w) ≡ drop 1 (owed w)
+pub owed_less : (w : CircuitWindow) → owed_proofs (after_acknowledging w) ≡ drop 1 (owed_proofs w)
 unfolding proofs
 owed_less w = sym (drop-drop 1 w.acknowledged (proofs w))

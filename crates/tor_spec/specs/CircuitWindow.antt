@@ -50,11 +50,11 @@ unfoldable pub proofs : CircuitWindow → List (List ℕ)
 proofs w = hundredths 0 w.packaged
 
 -- Those that are still to come, and the next of them, if it may come yet.
-abbrev pub owed : CircuitWindow → List (List ℕ)
-owed w = drop w.acknowledged (proofs w)
+abbrev pub owed_proofs : CircuitWindow → List (List ℕ)
+owed_proofs w = drop w.acknowledged (proofs w)
 
 abbrev pub next_owed : CircuitWindow → Option (List ℕ)
-next_owed w = slice_get (owed w) 0
+next_owed w = slice_get (owed_proofs w) 0
 
 -- ---- what changes it
 

@@ -44,4 +44,4 @@ number_text None = []
 number_text (Some n) = decimal n
 
 abbrev pub phrase_text : Phrase → List ℕ
-phrase_text phrase = phrase.front.now ++ (number_text phrase.number ++ phrase.behind.now)
+phrase_text phrase = phrase.front.now ++ (number_text phrase.number ++ phrase.tail.now)

@@ -9,6 +9,6 @@ pub struct Phrase {
     /// The number behind them, where there is one.
     pub number: Option<u64>,
     /// The words behind the number.
-    pub behind: &'static str,
-    ghost short: { (length front.now ≤ 20) × (length behind.now ≤ 20) },
+    pub tail: &'static str,
+    ghost short: { (length front.now ≤ 20) × (length tail.now ≤ 20) },
 }

@@ -93,19 +93,19 @@ fn words(front: &'static str) -> Phrase
     Phrase {
         front,
         number: None,
-        behind: "",
+        tail: "",
     }
 }
 
 /// Words round a number.
-fn numbered(front: &'static str, number: u64, behind: &'static str) -> Phrase
+fn numbered(front: &'static str, number: u64, tail: &'static str) -> Phrase
     requires front { length front.now ≤ 20 }
-    requires behind { length behind.now ≤ 20 }
-    ensures { phrase_text result ≡ front.now ++ (decimal number ++ behind.now) }
+    requires tail { length tail.now ≤ 20 }
+    ensures { phrase_text result ≡ front.now ++ (decimal number ++ tail.now) }
 {
     Phrase {
         front,
         number: Some(number),
-        behind,
+        tail,
     }
 }

@@ -147,8 +147,8 @@ fn a_status_has_its_number_and_its_text(rt: HostRuntime) -> Result<(), Fail> {
             Some(number) => format!(in rt.alloc(); "{number}")?,
             None => String::new(rt.alloc()),
         };
-        let (front, behind) = (phrase.front, phrase.behind);
-        let said = format!(in rt.alloc(); "{front}{number}{behind}")?;
+        let (front, tail) = (phrase.front, phrase.tail);
+        let said = format!(in rt.alloc(); "{front}{number}{tail}")?;
         assert_eq!(rt; said.as_str(), text);
     }
     Ok(())

@@ -31,7 +31,7 @@ returns-in_err-found c =
 
 pub loop-rest-preserved : goal.loop-rest-preserved
 loop-rest-preserved c =
-    sym (ip_step c.loop-rest.ip _ c.or-ip.result c.loop-rest.rest.now c.in_ok-found.behind.now
+    sym (ip_step c.loop-rest.ip _ c.or-ip.result c.loop-rest.rest.now c.in_ok-found.tail.now
     c.in_ok-found.ensures.some c.or-ip.ensures)
     ∙ c.loop-rest.invariant
 

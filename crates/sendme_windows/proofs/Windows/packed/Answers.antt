@@ -8,7 +8,7 @@ pub returns-then-self-eq0-clause-stands : goal.returns-then-self-eq0-clause-stan
 returns-then-self-eq0-clause-stands c = λ w stands.
     packed_due (state_of c.self.inside) w c.args.digest.now _ _ (rw c.self.view_is stands) c.if-self-eq0.true
     (omega (arith, c.self.invariant.waiting))
-    (take_more_set c.self.inside.owed c.self.inside.owed_count c.args.digest.now
+    (take_more_set c.self.inside.owed_proofs c.self.inside.owed_count c.args.digest.now
     (omega (arith, c.requires.room, c.self.invariant.waiting)))
 
 pub returns-else-self-eq0-clause-stands : goal.returns-else-self-eq0-clause-stands
