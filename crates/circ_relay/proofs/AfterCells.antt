@@ -1,6 +1,6 @@
 -- A relay cell from the client, and the parts of a circuit behind it.
 use Rattle.std.proofs.Common.{◌≡◌, ℕ, List, false, Some, None, refl, ap}
-use Rattle.sendme_windows.specs.WindowsState.{StandsFor}
+use Rattle.sendme_windows.specs.WindowsState.{HasCountsOf}
 use Rattle.circuit_model.specs.declared.event.Event.TheVariants.{Forward}
 use Rattle.circuit_model.specs.Rules.{Rules}
 use Rattle.circuit_model.specs.Log.{Entry, Log, Message, Effects, is_closed}
@@ -32,7 +32,7 @@ effects_of_cell rules log command body m unclosed got = rw (unclosed, got) refl
 pub cell_parts : (c d : Circuit) (rules : Rules) (log : Log) (command : ℕ) (body : List ℕ) (given : Effects) → HasParts c log
     → effects_after rules log (Forward command body) ≡ given → given.dial ≡ None → given.cut ≡ false → place_of given.edge ≡ None
     → d.next_hop ≡ c.next_hop → d.create2 ≡ c.create2 → d.addresses ≡ c.addresses → IsPackagedNext d.packager log given.back
-    → StandsFor d.windows (window_of (after_cell rules log command body)) → ArePlaces d.places (after_cell rules log command body) → KeepsStreams c.places d.places
+    → HasCountsOf d.windows (window_of (after_cell rules log command body)) → ArePlaces d.places (after_cell rules log command body) → KeepsStreams c.places d.places
     → HasParts d (after_cell rules log command body)
 cell_parts c d rules log command body given has same undialled uncut placeless hop create2 addresses packages windows places keeps =
     let entry : Entry = entry_after rules log (Forward command body) in

@@ -1,7 +1,7 @@
 -- The parts of a circuit behind a DATA.
 use Rattle.std.proofs.Common.{◌+◌, if◌then◌else◌, ◌≡◌, ℕ, ◌==◌, List, Bool, true, false, Some, None, refl, sym, ap, subst, ◌∙◌, nat_le}
 use Rattle.tor_spec.specs.RelayCell.{begin_command, data_command, sendme_command}
-use Rattle.sendme_windows.specs.WindowsState.{StandsFor}
+use Rattle.sendme_windows.specs.WindowsState.{HasCountsOf}
 use Rattle.tor_spec.specs.CircuitWindow.{after_accepting, is_sendme_due}
 use Rattle.tor_spec.specs.Sendme.{sendme_payload}
 use Rattle.circuit_model.specs.Packaged.{packaging}
@@ -89,7 +89,7 @@ data_window message rules log command body m given b is does_ open_ =
 
 pub placeless_data_parts : (c d : Circuit) (message : CodeMessage) (rules : Rules) (log : Log) (command : ℕ) (body : List ℕ) (m : Message)
     → IsBrought message log command body m → HasParts c log → m.command ≡ data_command → m.place ≡ None
-    → IsPackagedNext d.packager log (acknowledging log m).back → StandsFor d.windows (after_accepting (window_of log))
+    → IsPackagedNext d.packager log (acknowledging log m).back → HasCountsOf d.windows (after_accepting (window_of log))
     → d ≡ record c { packager = d.packager; windows = d.windows } → HasParts d (after_cell rules log command body)
 placeless_data_parts c d message rules log command body m b has is none packages stands rest =
     let given = does message rules log command body m b ∙ of_data rules log m is ∙ placeless_data_does log m none in
@@ -97,7 +97,7 @@ placeless_data_parts c d message rules log command body m b has is none packages
     subst (λ e. HasParts e (after_cell rules log command body)) (sym rest)
     (cell_parts c (record c { packager = d.packager; windows = d.windows }) rules log command body (acknowledging log m) has given
     (acknowledging-dial log m) (acknowledging-cut log m) (ap place_of (acknowledging-edge log m)) refl refl refl packages
-    (subst (λ w. StandsFor d.windows w) (sym window) stands)
+    (subst (λ w. HasCountsOf d.windows w) (sym window) stands)
     (placeless_places c.places message rules log command body m b (ap (λ k. k == begin_command) is) none has.places) (same_streams c.places))
 
 accepted_by : (may : Bool) (answer : AcceptAnswer) → answer ≡ (if may then AcceptAnswer.Accepted else AcceptAnswer.Overrun) → answer ≡ AcceptAnswer.Accepted → may ≡ true
@@ -138,7 +138,7 @@ pub accepted_parts : (c d : Circuit) (new : PlacesState) (message : CodeMessage)
     → IsBrought message log command body m → HasParts c log → m.command ≡ data_command → m.place ≡ Some h.serial → held_at c.places place ≡ Some h
     → answer ≡ (if may_accept h then AcceptAnswer.Accepted else AcceptAnswer.Overrun) → answer ≡ AcceptAnswer.Accepted
     → new ≡ with_held c.places place (Some (after_one_more h))
-    → IsPackagedNext d.packager log (acknowledging log m).back → StandsFor d.windows (after_accepting (window_of log))
+    → IsPackagedNext d.packager log (acknowledging log m).back → HasCountsOf d.windows (after_accepting (window_of log))
     → d ≡ record c { packager = d.packager; windows = d.windows; places = new } → HasParts d (after_cell rules log command body)
 accepted_parts c d new message rules log command body m place h answer b has is named holds by accepts becomes packages stands rest =
     let order : Effects = record (acknowledging log m) { edge = Some (Carry (record { stream = m.stream; serial = h.serial }) m.payload) } in
@@ -150,4 +150,4 @@ accepted_parts c d new message rules log command body m place h answer b has is 
     subst (λ e. HasParts e (after_cell rules log command body)) (sym rest)
     (cell_parts c (record c { packager = d.packager; windows = d.windows; places = new }) rules log command body order has given
     (acknowledging-dial log m) (acknowledging-cut log m) refl refl refl refl packages
-    (subst (λ w. StandsFor d.windows w) (sym window) stands) are keeps)
+    (subst (λ w. HasCountsOf d.windows w) (sym window) stands) are keeps)

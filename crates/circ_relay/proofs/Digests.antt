@@ -5,7 +5,7 @@ use Rattle.std.proofs.lemmas.Grind.{flat_map-append}
 use Rattle.sha1.specs.Sha1.{sha1}
 use Rattle.crypto_spec.specs.RunningDigest.{zeroed, digest_message, running_digest}
 use Rattle.tor_spec.specs.RelayCell.{with_digest}
-use Rattle.run_digest.specs.HashState.{HashState, hash_state, StandsFor}
+use Rattle.run_digest.specs.HashState.{HashState, hash_state, HasAbsorbed}
 
 -- with its Digest and without
 zeroed-digest : (body : List ℕ) (a b c d : ℕ) → length body ≡ 509 → zeroed body ≡ zeroed (with_digest body (a ∷ b ∷ c ∷ d ∷ []))
@@ -24,7 +24,7 @@ message-same seed before x y same =
 -- a body that was given its Digest
 pub stands_with_digest : (state : HashState) (seed : List ℕ) (before : List (List ℕ)) (body sent : List ℕ) (a b c d : ℕ) →
     length body ≡ 509 → sent ≡ with_digest body (a ∷ b ∷ c ∷ d ∷ []) →
-    StandsFor state seed (before ++ body ∷ []) → StandsFor state seed (before ++ sent ∷ [])
+    HasAbsorbed state seed (before ++ body ∷ []) → HasAbsorbed state seed (before ++ sent ∷ [])
 stands_with_digest state seed before body sent a b c d long s e =
     e ∙ ap hash_state (rw s (message-same seed before body (with_digest body (a ∷ b ∷ c ∷ d ∷ [])) (zeroed-digest body a b c d long)))
 

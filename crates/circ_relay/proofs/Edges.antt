@@ -7,7 +7,7 @@ use Rattle.tor_spec.specs.Connected.{connected_payload}
 use Rattle.tor_spec.specs.RelayCell.{relay_body, connected_command, data_command, end_command, sendme_command}
 use Rattle.tor_spec.specs.CircuitWindow.{CircuitWindow, after_packaging}
 use Rattle.tor_spec.specs.Extend.{Address}
-use Rattle.sendme_windows.specs.WindowsState.{KeepsLimits, WindowsState, StandsFor}
+use Rattle.sendme_windows.specs.WindowsState.{KeepsLimits, WindowsState, HasCountsOf}
 use Rattle.stream_edge.specs.declared.held.Held.{Held}
 use Rattle.stream_edge.specs.declared.held.Phase.TheVariants.{Reaching, Joined, Ending}
 use Rattle.stream_edge.specs.PlacesState.{PlacesState, held_at, with_held}
@@ -123,7 +123,7 @@ report_goes_on c new rules h e x place g holds r =
       rest = r.rest ∙ (λ i. record c { packager = new.packager; windows = sym same_windows i; places = with_held c.places place holds });
       limits = same_limits c.windows new.windows same_windows;
       packager = r.packager;
-      windows = subst (λ w. StandsFor w (window_of (log rules (e ∷ h)))) (sym same_windows)
+      windows = subst (λ w. HasCountsOf w (window_of (log rules (e ∷ h)))) (sym same_windows)
           (stands_still c.windows (log rules h) (log rules (e ∷ h)) r.before.parts.windows r.leaves);
       places = r.places;
     }
@@ -318,8 +318,8 @@ data_packs c rules h key place stream bytes body at body_is is =
 pub data_windows : (c : Circuit) (state : WindowsState) (rules : Rules) (h : List Event) (key : StreamKey) (place : ℕ) (stream : Held) (bytes body sent digest : List ℕ)
     → IsAt c key place stream → body ≡ relay_body data_command key.id bytes → sent ≡ finished (log rules h) body
     → digest ≡ back_digest (log rules h) (own (log rules h) ++ sent ∷ [])
-    → ((w : CircuitWindow) → StandsFor c.windows w → StandsFor state (after_packaging w digest))
-    → IsCircuit c rules h → StandsFor state (window_of (log rules (Data key.serial bytes ∷ h)))
+    → ((w : CircuitWindow) → HasCountsOf c.windows w → HasCountsOf state (after_packaging w digest))
+    → IsCircuit c rules h → HasCountsOf state (window_of (log rules (Data key.serial bytes ∷ h)))
 data_windows c state rules h key place stream bytes body sent digest at body_is sent_is digest_is stands is =
     let names = named c key place stream at in
     let of_log : IsOfLog (log rules h) stream = is.parts.places.streams place stream at.held in
@@ -331,7 +331,7 @@ data_windows c state rules h key place stream bytes body sent digest at body_is 
     ap (λ n. window_of (log rules (Data n bytes ∷ h))) (sym names.1)
     ∙ edge_data_moves rules (log rules h) stream.serial bytes of_log.place is.unclosed of_log.found
     ∙ ap (after_packaging (window_of (log rules h))) (sym digest_of_log) in
-    subst (λ w. StandsFor state w) (sym moved) (stands (window_of (log rules h)) is.parts.windows)
+    subst (λ w. HasCountsOf state w) (sym moved) (stands (window_of (log rules h)) is.parts.windows)
 
 pub data_goes_on : (c new : Circuit) (rules : Rules) (h : List Event) (key : StreamKey) (place : ℕ) (stream : Held) (bytes body : List ℕ)
     → IsAt c key place stream
@@ -339,7 +339,7 @@ pub data_goes_on : (c new : Circuit) (rules : Rules) (h : List Event) (key : Str
     → (IsPackager c.packager (log rules h) → IsPackagedNext new.packager (log rules h) (Some (finished (log rules h) body)))
     → effects rules h (Data key.serial bytes) ≡ packs (log rules h) body
     → KeepsLimits c.windows new.windows
-    → StandsFor new.windows (window_of (log rules (Data key.serial bytes ∷ h)))
+    → HasCountsOf new.windows (window_of (log rules (Data key.serial bytes ∷ h)))
     → IsCircuit c rules h → IsCircuit new rules (Data key.serial bytes ∷ h)
 data_goes_on c new rules h key place stream bytes body at rest next gives limits windows is =
     let names = named c key place stream at in

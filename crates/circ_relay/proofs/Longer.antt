@@ -2,7 +2,7 @@
 use Rattle.std.proofs.Common.{◌≡◌, ℕ, ◌+◌, ◌==◌, ◌||◌, List, ◌∷◌, Bool, true, false, Option, Some, None, if◌then◌else◌, is_some, slice_index_or, refl, sym, ap, subst, ◌∙◌}
 use Rattle.std.specs.Option.{unwrap_or, option_or}
 use Rattle.tr_io.specs.declared.names.Dest.{Dest}
-use Rattle.sendme_windows.specs.WindowsState.{KeepsLimits, StandsFor, WindowsState}
+use Rattle.sendme_windows.specs.WindowsState.{KeepsLimits, HasCountsOf, WindowsState}
 use Rattle.stream_edge.specs.declared.held.Held.{Held}
 use Rattle.stream_edge.specs.PlacesState.{PlacesState, held_at, with_held}
 use Rattle.stream_edge.proofs.Holding.{held_there, held_elsewhere}
@@ -84,8 +84,8 @@ none_packaged state log is = λ longer more same. record {
 }
 
 -- The window, where it stays.
-pub stands_still : (windows : WindowsState) (log longer : Log) → StandsFor windows (window_of log) → window_of longer ≡ window_of log → StandsFor windows (window_of longer)
-stands_still windows log longer stands same = subst (λ w. StandsFor windows w) (sym same) stands
+pub stands_still : (windows : WindowsState) (log longer : Log) → HasCountsOf windows (window_of log) → window_of longer ≡ window_of log → HasCountsOf windows (window_of longer)
+stands_still windows log longer stands same = subst (λ w. HasCountsOf windows w) (sym same) stands
 
 -- Addresses stay where their streams stay.
 
@@ -156,7 +156,7 @@ aside_by entry x opens_none hop gives plain = record {
 -- All parts, where the next hop stays.
 pub parts_after : (c d : Circuit) (entry : Entry) (log : Log) → HasParts c log → IsAside entry
     → d.next_hop ≡ c.next_hop → d.create2 ≡ c.create2 → d.addresses ≡ c.addresses → IsPackager d.packager (entry ∷ log)
-    → StandsFor d.windows (window_of (entry ∷ log)) → ArePlaces d.places (entry ∷ log) → KeepsStreams c.places d.places → HasParts d (entry ∷ log)
+    → HasCountsOf d.windows (window_of (entry ∷ log)) → ArePlaces d.places (entry ∷ log) → KeepsStreams c.places d.places → HasParts d (entry ∷ log)
 parts_after c d entry log has aside hop create2 addresses packager windows places keeps = record {
   hop = hop ∙ has.hop ∙ sym (hop_after entry log aside.hop);
   asked = λ dialling. request_after entry log aside.dial ∙ has.asked (sym hop ∙ dialling) ∙ ap (λ p. sends_create2 p) (sym create2);
@@ -186,7 +186,7 @@ pub record IsStep (c new : Circuit) (rules : Rules) (h : List Event) (e : Event)
   pub rest : new ≡ record c { packager = new.packager; windows = new.windows; places = with_held c.places place holds }
   pub limits : KeepsLimits c.windows new.windows
   pub packager : IsPackager new.packager (log rules (e ∷ h))
-  pub windows : StandsFor new.windows (window_of (log rules (e ∷ h)))
+  pub windows : HasCountsOf new.windows (window_of (log rules (e ∷ h)))
   pub places : ArePlaces (with_held c.places place holds) (log rules (e ∷ h))
 
 pub step_goes_on : (c new : Circuit) (rules : Rules) (h : List Event) (e : Event) (place : ℕ) (g : Held) (holds : Option Held)

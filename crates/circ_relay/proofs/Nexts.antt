@@ -6,7 +6,7 @@ use Rattle.tor_spec.specs.CircuitWindow.{CircuitWindow, fresh_window}
 use Rattle.tor_spec.specs.Extend.{handshake_reply, handshake_reply_payload}
 use Rattle.tor_spec.specs.RelayCell.{extended2_command, relay_body}
 use Rattle.tr_io.specs.declared.names.Dest.{Dest}
-use Rattle.sendme_windows.specs.WindowsState.{StandsFor}
+use Rattle.sendme_windows.specs.WindowsState.{HasCountsOf}
 use Rattle.stream_edge.specs.PlacesState.{PlacesState}
 use Rattle.kdf_tor.specs.declared.LayerKeys.{LayerKeys}
 use Rattle.circuit_model.specs.Events.{Event, CircuitCell}
@@ -206,7 +206,7 @@ no_places : (state : PlacesState) → state ≡ record { streams = replicate 32 
 no_places state is = subst (λ (s : PlacesState). ArePlaces s []) (sym is) nothing_is_held
 
 opened_parts : (c : Circuit) (rules : Rules) (reply : CircuitCell) (keys : LayerKeys) (pad : Option (List ℕ)) → c.next_hop ≡ Absent →
-    ((log : Log) → own log ≡ [] → (born_keys log).db ≡ keys.db → born_pad log ≡ pad → IsPackager c.packager log) → StandsFor c.windows fresh_window →
+    ((log : Log) → own log ≡ [] → (born_keys log).db ≡ keys.db → born_pad log ≡ pad → IsPackager c.packager log) → HasCountsOf c.windows fresh_window →
     c.places ≡ record { streams = replicate 32 None; next_serial = 0; calls = 0 } → HasParts c (entry_after rules [] (Born reply keys pad) ∷ [])
 opened_parts c rules reply keys pad hop packs stands free =
     let entry : Entry = entry_after rules [] (Born reply keys pad) in
@@ -214,13 +214,13 @@ opened_parts c rules reply keys pad hop packs stands free =
       hop = hop ∙ sym (first_hop rules reply keys pad);
       asked = λ dialling. cc;
       packager = packs (entry ∷ []) (nothing_packaged rules reply keys pad) refl (or_none pad);
-      windows = subst (λ (w : CircuitWindow). StandsFor c.windows w) (sym (opening_is_fresh rules reply keys pad)) stands;
+      windows = subst (λ (w : CircuitWindow). HasCountsOf c.windows w) (sym (opening_is_fresh rules reply keys pad)) stands;
       places = no_message_leaves_places c.places rules [] (Born reply keys pad) (no_places c.places free) refl refl;
       addresses = addresses_after c.addresses c.places c.places entry [] (same_streams c.places) (no_place rules reply keys pad) (no_addresses c.addresses c.places);
     }
 
 pub opened : (c : Circuit) (rules : Rules) (reply : CircuitCell) (keys : LayerKeys) (pad : Option (List ℕ)) → c.next_hop ≡ Absent → c.early ≡ 0 → IsMadeBy c rules →
-    ((log : Log) → own log ≡ [] → (born_keys log).db ≡ keys.db → born_pad log ≡ pad → IsPackager c.packager log) → StandsFor c.windows fresh_window →
+    ((log : Log) → own log ≡ [] → (born_keys log).db ≡ keys.db → born_pad log ≡ pad → IsPackager c.packager log) → HasCountsOf c.windows fresh_window →
     c.places ≡ record { streams = replicate 32 None; next_serial = 0; calls = 0 } → IsCircuit c rules (Born reply keys pad ∷ [])
 opened c rules reply keys pad hop early made packs stands free = record {
   unclosed = nothing_closed rules reply keys pad;

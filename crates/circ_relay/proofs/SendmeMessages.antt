@@ -1,7 +1,7 @@
 -- The parts of a circuit behind a SENDME.
 use Rattle.std.proofs.Common.{◌+◌, if◌then◌else◌, ◌≡◌, ◌<◌, ℕ, ◌==◌, ◌&&◌, List, Bool, true, false, Option, Some, None, refl, sym, ap, subst, ◌∙◌, arith, nat_lt}
 use Rattle.tor_spec.specs.RelayCell.{begin_command, data_command, sendme_command}
-use Rattle.sendme_windows.specs.WindowsState.{StandsFor, WindowsState}
+use Rattle.sendme_windows.specs.WindowsState.{HasCountsOf, WindowsState}
 use Rattle.tor_spec.specs.StreamWindow.{stream_start, stream_step}
 use Rattle.circuit_model.specs.Places.{live_place}
 use Rattle.stream_edge.specs.PlacesState.{PlacesState, held_at, with_held}
@@ -74,7 +74,7 @@ zero_place message log command body m b zero_ = brought_place message log comman
 
 pub good_sendme_parts : (c : Circuit) (new : WindowsState) (message : CodeMessage) (rules : Rules) (log : Log) (command : ℕ) (body : List ℕ) (m : Message) (answer : ProofAnswer)
     → IsBrought message log command body m → HasParts c log → m.command ≡ sendme_command → message.stream ≡ 0
-    → answer ≡ answer_to rules.least (window_of log) message.payload.now → answer ≡ Good → StandsFor new (window_after answer (window_of log))
+    → answer ≡ answer_to rules.least (window_of log) message.payload.now → answer ≡ Good → HasCountsOf new (window_after answer (window_of log))
     → HasParts (record c { windows = new }) (after_cell rules log command body)
 good_sendme_parts c new message rules log command body m answer b has is zero_ judged good stands =
     let window : window_of (after_cell rules log command body) ≡ window_after answer (window_of log) =
@@ -82,7 +82,7 @@ good_sendme_parts c new message rules log command body m answer b has is zero_ j
     ∙ ap (λ p. window_after (answer_to rules.least (window_of log) p) (window_of log)) (sym b.payload) ∙ ap (λ a. window_after a (window_of log)) (sym judged) in
     let given = does message rules log command body m b ∙ of_sendme rules log m is ∙ good_sendme_does rules log m message.payload.now answer (sym b.stream ∙ zero_) b.payload judged good in
     cell_parts c (record c { windows = new }) rules log command body no_effects has given refl refl refl refl refl refl
-    (none_packaged c.packager log has.packager) (subst (λ w. StandsFor new w) (sym window) stands)
+    (none_packaged c.packager log has.packager) (subst (λ w. HasCountsOf new w) (sym window) stands)
     (placeless_places c.places message rules log command body m b (ap (λ k. k == begin_command) is) (zero_place message log command body m b zero_) has.places) (same_streams c.places)
 
 -- A stream's SENDME.

@@ -3,7 +3,7 @@ use Rattle.std.specs.Prelude.{◌≡◌, ◌≢◌, ◌<◌, ◌^◌, ℕ, List,
 use Rattle.tor_spec.specs.CellCommands.{create2_command}
 use Rattle.tr_io.specs.declared.names.Dest.{Dest}
 use Rattle.tr_io.specs.declared.names.StreamKey.{StreamKey}
-use Rattle.sendme_windows.specs.WindowsState.{StandsFor, HasRoom}
+use Rattle.sendme_windows.specs.WindowsState.{HasCountsOf, HasRoom}
 use Rattle.stream_edge.specs.PlacesState.{PlacesState, held_at}
 use Rattle.stream_edge.specs.declared.held.Held.{Held}
 use Rattle.stream_edge.specs.declared.held.Phase.{Phase}
@@ -39,7 +39,7 @@ pub record HasParts (c : Circuit) (log : Log) : Type 0 where
   pub hop : c.next_hop ≡ next_hop log
   pub asked : c.next_hop ≡ Dialling → linked_effects log ≡ sends_create2 c.create2
   pub packager : IsPackager c.packager log
-  pub windows : StandsFor c.windows (window_of log)
+  pub windows : HasCountsOf c.windows (window_of log)
   pub places : ArePlaces c.places log
   pub addresses : AreAddresses c.addresses c.places log
 

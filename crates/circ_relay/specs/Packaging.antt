@@ -1,6 +1,6 @@
 -- What a `Packager` has to do with a circuit's log.
 use Rattle.std.specs.Prelude.{◌≡◌, ℕ, List, length, Option, Some}
-use Rattle.run_digest.specs.HashState.{HashState, StandsFor}
+use Rattle.run_digest.specs.HashState.{HashState, HasAbsorbed}
 use Rattle.circuit_model.specs.Log.{Log, pushed}
 use Rattle.circuit_model.specs.Opened.{born_keys, born_pad}
 use Rattle.circuit_model.specs.Packaged.{own, finished}
@@ -14,7 +14,7 @@ pub record PackagerState : Type 0 where
 -- It is that of a circuit: its running digest is that of the bodies that the circuit packaged, and its
 -- padding goes on with the next one.
 pub record IsPackager (state : PackagerState) (log : Log) : Type 0 where
-  pub digest : StandsFor state.digest (born_keys log).db (own log)
+  pub digest : HasAbsorbed state.digest (born_keys log).db (own log)
   pub key : state.padding.key ≡ born_pad log
   pub count : state.padding.count ≡ length (own log)
 

@@ -4,7 +4,7 @@
 ghost use Rattle.std.specs.Prelude.{◌≡◌, ℕ, ◌+◌, ◌^◌, ◌<◌, ◌≤◌, [], ◌∷◌, List, length, position, is_some, Some, None, IfSome, IfNone, IsTrue};
 ghost use Rattle.tor_spec.specs.RelayCell.{relay_body, data_command, end_command, sendme_command};
 ghost use Rattle.tor_spec.specs.CircuitWindow.{CircuitWindow, after_accepting};
-ghost use Rattle.sendme_windows.specs.WindowsState.{KeepsLimits, StandsFor};
+ghost use Rattle.sendme_windows.specs.WindowsState.{KeepsLimits, HasCountsOf};
 ghost use Rattle.circuit_model.specs.Rules.{Rules as ModelRules};
 ghost use Rattle.circuit_model.specs.Log.{Log, Message as ModelMessage, no_effects};
 ghost use Rattle.circuit_model.specs.Places.{live_place};
@@ -104,9 +104,9 @@ impl Circuit {
         requires calls { self.old.windows.calls < 2 ^ 63 }
         requires packaged { self.old.packager.padding.count < 2 ^ 63 }
         requires blank { effects_of outcome.old ≡ no_effects }
-        ensures effects { (log : Log) (m : ModelMessage) → IsPackager self.old.packager log → StandsFor self.old.windows (window_of log) → m.digest ≡ digest.now → effects_of outcome.new ≡ acknowledging log m }
-        ensures packager { (log : Log) (m : ModelMessage) → IsPackager self.old.packager log → StandsFor self.old.windows (window_of log) → m.digest ≡ digest.now → IsPackagedNext self.new.packager log (acknowledging log m).back }
-        ensures stands { (w : CircuitWindow) → StandsFor self.old.windows w → StandsFor self.new.windows (after_accepting w) }
+        ensures effects { (log : Log) (m : ModelMessage) → IsPackager self.old.packager log → HasCountsOf self.old.windows (window_of log) → m.digest ≡ digest.now → effects_of outcome.new ≡ acknowledging log m }
+        ensures packager { (log : Log) (m : ModelMessage) → IsPackager self.old.packager log → HasCountsOf self.old.windows (window_of log) → m.digest ≡ digest.now → IsPackagedNext self.new.packager log (acknowledging log m).back }
+        ensures stands { (w : CircuitWindow) → HasCountsOf self.old.windows w → HasCountsOf self.new.windows (after_accepting w) }
         ensures windows { self.new.windows.calls ≡ self.old.windows.calls + 1 }
         ensures limits { KeepsLimits self.old.windows self.new.windows }
         ensures packaged { self.new.packager.padding.count ≤ self.old.packager.padding.count + 1 }

@@ -5,7 +5,7 @@ use Rattle.std.specs.FinMap.{empty, get, insert, remove, len, retain_keys, get-r
 use Rattle.std.specs.Ordering.{eq_by_cmp}
 use Rattle.hashed_maps.specs.Pairs.{pair_cmp}
 use Rattle.hashed_maps.proofs.Keys.{pair_keys, tied_key}
-use Rattle.circuit_table.specs.Ports.{Port, Leg, Ports, on_channel, ids_of}
+use Rattle.circuit_table.specs.Ports.{Port, LegName, Ports, on_channel, ids_of}
 
 -- What the part of a map on one channel has.
 pub get-on_channel : (ports : Ports) (chan : ℕ) (q : Port)
@@ -24,7 +24,7 @@ on_channel-empty chan =
     same_part _ _ (λ q. get-on_channel empty chan q ∙ ap (λ o. cond (nat_eq q.0 chan) o None) (get-empty pair_cmp q) ∙ either_way (nat_eq q.0 chan) None ∙ sym (get-empty pair_cmp q))
 
 pub ids_of-empty : (chan : ℕ) → ids_of empty chan ≡ 0
-ids_of-empty chan = ap len (on_channel-empty chan) ∙ len-empty pair_cmp Leg
+ids_of-empty chan = ap len (on_channel-empty chan) ∙ len-empty pair_cmp LegName
 
 -- One test first or the other.
 exchanged : {A : Type 0} (a b : Bool) (x : Option A) → cond a (cond b None x) None ≡ cond b None (cond a x None)
@@ -55,7 +55,7 @@ added_elsewhere false here leg x of = refl
 added_elsewhere true true leg x of = cc (of refl)
 added_elsewhere true false leg x of = refl
 
-inserted_part : (ports : Ports) (port : Port) (leg : Leg) (chan : ℕ) (q : Port)
+inserted_part : (ports : Ports) (port : Port) (leg : LegName) (chan : ℕ) (q : Port)
     → get (on_channel (insert ports port leg) chan) q ≡ cond (nat_eq q.0 chan) (cond (eq_by_cmp pair_cmp q port) (Some leg) (get ports q)) None
 inserted_part ports port leg chan q =
     get-on_channel (insert ports port leg) chan q ∙ ap (λ o. cond (nat_eq q.0 chan) o None)
@@ -65,7 +65,7 @@ chan_of_same : (port q : Port) (chan : ℕ) (is : Bool) → nat_eq port.0 chan �
     → nat_eq q.0 chan ≡ is
 chan_of_same port q chan is at tied = ap (λ p. nat_eq p.0 chan) (tied_key pair_keys q port tied) ∙ at
 
-on_channel-insert : (ports : Ports) (port : Port) (leg : Leg) (chan : ℕ) → nat_eq port.0 chan ≡ true
+on_channel-insert : (ports : Ports) (port : Port) (leg : LegName) (chan : ℕ) → nat_eq port.0 chan ≡ true
     → on_channel (insert ports port leg) chan ≡ insert (on_channel ports chan) port leg
 on_channel-insert ports port leg chan at =
     same_part _ _ (λ q.
@@ -74,7 +74,7 @@ on_channel-insert ports port leg chan at =
     ∙ ap (cond (eq_by_cmp pair_cmp q port) (Some leg)) (sym (get-on_channel ports chan q))
     ∙ sym (get-insert pair_keys.total (on_channel ports chan) port leg q))
 
-on_channel-insert_elsewhere : (ports : Ports) (port : Port) (leg : Leg) (chan : ℕ) → nat_eq port.0 chan ≡ false
+on_channel-insert_elsewhere : (ports : Ports) (port : Port) (leg : LegName) (chan : ℕ) → nat_eq port.0 chan ≡ false
     → on_channel (insert ports port leg) chan ≡ on_channel ports chan
 on_channel-insert_elsewhere ports port leg chan off =
     same_part _ _ (λ q.
@@ -83,7 +83,7 @@ on_channel-insert_elsewhere ports port leg chan off =
     ∙ sym (get-on_channel ports chan q))
 
 -- A channel has one CircID more, once a free one is given.
-pub ids_of-insert : (ports : Ports) (port : Port) (leg : Leg) (chan : ℕ) → get ports port ≡ None
+pub ids_of-insert : (ports : Ports) (port : Port) (leg : LegName) (chan : ℕ) → get ports port ≡ None
     → ids_of (insert ports port leg) chan ≡ cond (nat_eq port.0 chan) (ids_of ports chan + 1) (ids_of ports chan)
 ids_of-insert ports port leg chan free =
     elim (nat_eq port.0 chan) as (λ b. nat_eq port.0 chan ≡ b → ids_of (insert ports port leg) chan ≡ cond b (ids_of ports chan + 1) (ids_of ports chan)) [
@@ -96,7 +96,7 @@ ids_of-insert ports port leg chan free =
     ] refl
 
 -- It has one less, once one is freed.
-pub ids_of-remove : (ports : Ports) (port : Port) (leg : Leg) (chan : ℕ) → get ports port ≡ Some leg
+pub ids_of-remove : (ports : Ports) (port : Port) (leg : LegName) (chan : ℕ) → get ports port ≡ Some leg
     → ids_of (remove ports port) chan ≡ cond (nat_eq port.0 chan) (ids_of ports chan - 1) (ids_of ports chan)
 ids_of-remove ports port leg chan has =
     let found : is_some (get (on_channel ports chan) port) ≡ nat_eq port.0 chan = ap is_some
@@ -113,7 +113,7 @@ above_zero zero not_zero = absurd (not_zero refl)
 above_zero (suc n) not_zero = omega arith
 
 -- A channel with a CircID in use has at least one.
-pub ids_of-used : (ports : Ports) (port : Port) (leg : Leg) → get ports port ≡ Some leg → 0 < ids_of ports port.0
+pub ids_of-used : (ports : Ports) (port : Port) (leg : LegName) → get ports port ≡ Some leg → 0 < ids_of ports port.0
 ids_of-used ports port leg has =
     above_zero _ (λ none.
     let gone : get (on_channel ports port.0) port ≡ None = ap (λ m. get m port) (empty_of_len _ none) ∙ get-empty pair_cmp port in

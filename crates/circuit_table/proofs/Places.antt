@@ -12,7 +12,7 @@ use Rattle.slab.specs.Slab as slab
 use Rattle.hashed_maps.specs.Pairs.{pair_cmp, pair_eq}
 use Rattle.hashed_maps.proofs.Keys.{pair_keys, agrees_back, tied_key, same_key, eq-itself}
 use Rattle.hashed_maps.proofs.Entries.{get-entries, lookup-mapped}
-use Rattle.circuit_table.specs.Ports.{Port, Leg, Ports, ids_of}
+use Rattle.circuit_table.specs.Ports.{Port, LegName, Ports, ids_of}
 use Rattle.circuit_table.specs.Indexing.{leg_at, ports_of, place_of, count_of, IsIndexed}
 use Rattle.circuit_table.proofs.Ids.{ids_of-empty, ids_of-insert, ids_of-remove, ids_of-used}
 
@@ -22,7 +22,7 @@ Index = List (Port × ℕ)
 abbrev Counts : Type 0
 Counts = List (ℕ × ℕ)
 
-pub get-ports_of : (legs : Slab Leg) (places : Index) (q : Port)
+pub get-ports_of : (legs : Slab LegName) (places : Index) (q : Port)
     → get (ports_of legs places) q ≡ option_map (leg_at legs) (place_of places q)
 get-ports_of legs places q = get-entries pair_keys _ q ∙ lookup-mapped (pair_eq q) (leg_at legs) places
 
@@ -31,11 +31,11 @@ alike : {A B : Type 0} (f g : A → B) (o : Option A) → ((x : A) → o ≡ Som
 alike f g None same = refl
 alike f g (Some x) same = ap Some (same x refl)
 
-same_legs : (old new : Slab Leg) (place : ℕ) → slab.get new place ≡ slab.get old place → leg_at new place ≡ leg_at old place
+same_legs : (old new : Slab LegName) (place : ℕ) → slab.get new place ≡ slab.get old place → leg_at new place ≡ leg_at old place
 same_legs old new place same = ap (λ o. unwrap_or o (record { 0 = 0 }, 0)) same
 
 -- Places in another order, over the same legs, are the same map.
-pub ports_of-reordered : (old new : Slab Leg) (before after : Index) → new.slots ≡ old.slots
+pub ports_of-reordered : (old new : Slab LegName) (before after : Index) → new.slots ≡ old.slots
     → ((q : Port) → place_of after q ≡ place_of before q) → ports_of new after ≡ ports_of old before
 ports_of-reordered old new before after slots places =
     same_map pair_keys.total pair_keys.exact _ _ (λ q.
@@ -45,20 +45,20 @@ ports_of-reordered old new before after slots places =
     ∙ sym (get-ports_of old before q))
 
 -- What a look-up finds.
-pub find-none : (legs : Slab Leg) (places : Index) (q : Port) → place_of places q ≡ None → get (ports_of legs places) q ≡ None
+pub find-none : (legs : Slab LegName) (places : Index) (q : Port) → place_of places q ≡ None → get (ports_of legs places) q ≡ None
 find-none legs places q free = get-ports_of legs places q ∙ ap (option_map (leg_at legs)) free
 
-pub find-some : (legs : Slab Leg) (places : Index) (q : Port) (place : ℕ) → place_of places q ≡ Some place
+pub find-some : (legs : Slab LegName) (places : Index) (q : Port) (place : ℕ) → place_of places q ≡ Some place
     → IsSome (slab.get legs place) → get (ports_of legs places) q ≡ slab.get legs place
 find-some legs places q place used there =
     get-ports_of legs places q ∙ ap (option_map (leg_at legs)) used ∙ read (slab.get legs place) there
   where
-    read : (o : Option Leg) → IsSome o → Some (unwrap_or o (record { 0 = 0 }, 0)) ≡ o
+    read : (o : Option LegName) → IsSome o → Some (unwrap_or o (record { 0 = 0 }, 0)) ≡ o
     read None there = cc
     read (Some leg) there = refl
 
 -- The same in another order.
-pub is_indexed-reordered : (old new : Slab Leg) (before after : Index) (counts recounted : Counts)
+pub is_indexed-reordered : (old new : Slab LegName) (before after : Index) (counts recounted : Counts)
     → IsIndexed old before counts → new.slots ≡ old.slots → ((q : Port) → place_of after q ≡ place_of before q)
     → recounted ≡ counts → IsIndexed new after recounted
 is_indexed-reordered old new before after counts recounted was slots places same =
@@ -79,17 +79,17 @@ counts_more before after chan n moved more q = ap (λ o. unwrap_or o 0) (moved q
     read true is = more ∙ ap (λ c. count_of before c + 1) (eqb-true chan q is)
     read false is = refl
 
-pub counted_port : (legs : Slab Leg) (places : Index) (counts : Counts) (port : Port) (place : ℕ)
+pub counted_port : (legs : Slab LegName) (places : Index) (counts : Counts) (port : Port) (place : ℕ)
     → IsIndexed legs places counts → place_of places port ≡ Some place → 0 < count_of counts port.0
 counted_port legs places counts port place is used =
     rw (is.counted port.0) (ids_of-used (ports_of legs places) port (leg_at legs place) (get-ports_of legs places port ∙ ap (option_map (leg_at legs)) used))
 
-module _ (old new : Slab Leg) (before after : Index) (port : Port) (place : ℕ) where
-  module _ (leg : Leg) (free : slab.get old place ≡ None) (updates : Updates old new place (Some leg)) (moved : (q : Port) → place_of after q ≡ cond (pair_eq port q) (Some place) (place_of before q)) where
+module _ (old new : Slab LegName) (before after : Index) (port : Port) (place : ℕ) where
+  module _ (leg : LegName) (free : slab.get old place ≡ None) (updates : Updates old new place (Some leg)) (moved : (q : Port) → place_of after q ≡ cond (pair_eq port q) (Some place) (place_of before q)) where
     module _ (has_leg : (q : Port) (at : ℕ) → place_of before q ≡ Some at → IsSome (slab.get old at)) where
       -- a place that was used is not the one that was free
       other_place : (q : Port) (at : ℕ) → place_of before q ≡ Some at → at ≢ place
-      other_place q at used same = let gone : IsSome {T = Leg} None = subst IsSome (ap (slab.get old) same ∙ free) (has_leg q at used) in cc
+      other_place q at used same = let gone : IsSome {T = LegName} None = subst IsSome (ap (slab.get old) same ∙ free) (has_leg q at used) in cc
 
       read_after : (q : Port) (here : Bool)
           → option_map (leg_at new) (cond here (Some place) (place_of before q)) ≡ cond here (Some leg) (get (ports_of old before) q)
@@ -195,7 +195,7 @@ module _ (old new : Slab Leg) (before after : Index) (port : Port) (place : ℕ)
           }
 
 -- A port that is free stays free.
-pub ports_of-absent : (legs : Slab Leg) (before after : Index) (port : Port) → place_of before port ≡ None
+pub ports_of-absent : (legs : Slab LegName) (before after : Index) (port : Port) → place_of before port ≡ None
     → ((q : Port) → place_of after q ≡ place_of before q) → ports_of legs after ≡ remove (ports_of legs before) port
 ports_of-absent legs before after port free same =
     same_map pair_keys.total pair_keys.exact _ _ (λ q.
@@ -211,7 +211,7 @@ ports_of-absent legs before after port free same =
     without q false is = refl
 
 -- A table without entries.
-pub is_indexed-empty : (legs : Slab Leg) (places : Index) (counts : Counts) → places ≡ [] → counts ≡ []
+pub is_indexed-empty : (legs : Slab LegName) (places : Index) (counts : Counts) → places ≡ [] → counts ≡ []
     → IsIndexed legs places counts
 is_indexed-empty legs places counts none uncounted =
     record {

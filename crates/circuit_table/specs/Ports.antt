@@ -11,15 +11,15 @@ abbrev pub Port : Type 0
 Port = Pair
 
 -- A circuit's number and the number of one of its legs.
-abbrev pub Leg : Type 0
-Leg = CircNo × ℕ
+abbrev pub LegName : Type 0
+LegName = CircNo × ℕ
 
-abbrev pub leg_code : Coded Leg
+abbrev pub leg_code : Coded LegName
 leg_code =
     code_by (ℕ × ℕ) (coded× coded_ℕ coded_ℕ) (λ leg. (leg.0.0, leg.1)) (λ p. (record { 0 = p.0 }, p.1)) (λ _. refl)
 
 abbrev pub Ports : Type 0
-Ports = FinMap pair_cmp Leg
+Ports = FinMap pair_cmp LegName
 
 -- The part of the map that is on one channel.
 abbrev pub on_channel : Ports → ℕ → Ports

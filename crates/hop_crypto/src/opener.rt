@@ -3,7 +3,7 @@
 ghost use Rattle.std.specs.Prelude.{◌≡◌, ℕ, ◌+◌, ◌^◌, ◌<◌, ◌↔◌, [], ◌∷◌, ◌++◌, List, IsTrue, IfSome, IfNone, true, false};
 ghost use Rattle.crypto_spec.specs.RunningDigest.{running_digest};
 ghost use Rattle.crypto_spec.specs.HopLayer.{OpeningLayer, fresh_opening, is_recognised, opened, after_opening};
-ghost use Rattle.run_digest.specs.HashState.{StandsFor};
+ghost use Rattle.run_digest.specs.HashState.{HasAbsorbed};
 ghost use Rattle.hop_crypto.specs.OpenerState.{IsOpenerOfLayer, opener_of, place_of};
 
 use aes_ctr::Stream;
@@ -97,10 +97,10 @@ impl Opener {
 // The running digest behind `plain` and its 20 bytes, where that body is recognised.
 #[tactic(auto, unfolding(crypto_spec::specs::HopLayer::is_recognised))]
 fn recognise(before: &Running, plain: &[u8; 509]) -> Option<(Running, [u8; 20])>
-    ensures digest { IfSome result (λ r. (seed : List ℕ) (bodies : List (List ℕ)) → StandsFor before.now seed bodies → StandsFor r.0 seed (bodies ++ plain.now ∷ [])) }
-    ensures bytes { IfSome result (λ r. (seed : List ℕ) (bodies : List (List ℕ)) → StandsFor before.now seed bodies → r.1 ≡ running_digest seed (bodies ++ plain.now ∷ [])) }
-    ensures some { IfSome result (λ r. (seed : List ℕ) (bodies : List (List ℕ)) → StandsFor before.now seed bodies → is_recognised seed bodies plain.now ≡ true) }
-    ensures none { IfNone result ((seed : List ℕ) (bodies : List (List ℕ)) → StandsFor before.now seed bodies → is_recognised seed bodies plain.now ≡ false) }
+    ensures digest { IfSome result (λ r. (seed : List ℕ) (bodies : List (List ℕ)) → HasAbsorbed before.now seed bodies → HasAbsorbed r.0 seed (bodies ++ plain.now ∷ [])) }
+    ensures bytes { IfSome result (λ r. (seed : List ℕ) (bodies : List (List ℕ)) → HasAbsorbed before.now seed bodies → r.1 ≡ running_digest seed (bodies ++ plain.now ∷ [])) }
+    ensures some { IfSome result (λ r. (seed : List ℕ) (bodies : List (List ℕ)) → HasAbsorbed before.now seed bodies → is_recognised seed bodies plain.now ≡ true) }
+    ensures none { IfNone result ((seed : List ℕ) (bodies : List (List ℕ)) → HasAbsorbed before.now seed bodies → is_recognised seed bodies plain.now ≡ false) }
 {
     if plain[1..3] != [0, 0] {
         return None;

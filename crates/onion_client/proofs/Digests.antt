@@ -5,7 +5,7 @@ use Rattle.std.proofs.lemmas.Grind.{flat_map-append}
 use Rattle.sha1.specs.Sha1.{sha1}
 use Rattle.crypto_spec.specs.RunningDigest.{zeroed, digest_message, running_digest}
 use Rattle.tor_spec.specs.RelayCell.{with_digest}
-use Rattle.run_digest.specs.HashState.{HashState, hash_state, StandsFor}
+use Rattle.run_digest.specs.HashState.{HashState, hash_state, HasAbsorbed}
 use Rattle.hop_crypto.specs.OpenerState.{StreamPlace, OpenerState}
 use Rattle.circuit_model.specs.PathLayers.{PathHop}
 use Rattle.onion_client.specs.LayerState.{sealing_of, with_meant}
@@ -27,7 +27,7 @@ message-same seed before x y same =
 -- a body that was given its Digest
 pub stands_with_digest : (state : HashState) (seed : List ℕ) (before : List (List ℕ)) (body sent : List ℕ) (a b c d : ℕ) →
     length body ≡ 509 → sent ≡ with_digest body (a ∷ b ∷ c ∷ d ∷ []) →
-    StandsFor state seed (before ++ body ∷ []) → StandsFor state seed (before ++ sent ∷ [])
+    HasAbsorbed state seed (before ++ body ∷ []) → HasAbsorbed state seed (before ++ sent ∷ [])
 stands_with_digest state seed before body sent a b c d long s e =
     e ∙ ap hash_state (rw s (message-same seed before body (with_digest body (a ∷ b ∷ c ∷ d ∷ [])) (zeroed-digest body a b c d long)))
 
@@ -40,7 +40,7 @@ digest_with_digest seed before body sent a b c d long s =
 
 -- A layer by its parts, with one more body that was meant for its hop.
 pub sealing_by_parts : (o : OpenerState) (hop : PathHop) (body : List ℕ) → o.stream ≡ (sealing_of hop).stream →
-    StandsFor o.digest hop.keys.df (hop.meant ++ body ∷ []) → o ≡ sealing_of (with_meant hop body)
+    HasAbsorbed o.digest hop.keys.df (hop.meant ++ body ∷ []) → o ≡ sealing_of (with_meant hop body)
 sealing_by_parts o hop body place digest =
     let made : StreamPlace → HashState → OpenerState = λ s d. record { stream = s; digest = d } in
     ap (λ (s : StreamPlace). made s o.digest) place ∙ ap (λ (d : HashState). made (sealing_of hop).stream d) digest

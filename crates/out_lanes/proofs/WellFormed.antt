@@ -9,7 +9,7 @@ use Rattle.cell_codec.specs.Roomy.{Roomy}
 use Rattle.cell_codec.specs.declared.cell.Cell.{Cell}
 use Rattle.hashed_maps.specs.Pairs.{pair_eq}
 use Rattle.out_lanes.specs.Forms.{EachWellFormed, AreWellFormed}
-use Rattle.out_lanes.specs.Waiting.{Leg}
+use Rattle.out_lanes.specs.Waiting.{LegName}
 
 each-append : (cells : List Cell) (cell : Cell) → EachWellFormed cells → IsWellFormed cell → EachWellFormed (cells ++ cell ∷ [])
 each-append [] cell each form = (form, tt)
@@ -43,8 +43,8 @@ first_formed None cells rest is each = tt
 first_formed (Some cell) cells rest is each = (subst EachWellFormed is each).0
 
 -- The map as one queue of it changes.
-are-moved : (before after : List (Leg × Roomy Cell)) (key : Leg) (now : Option (Roomy Cell)) → AreWellFormed before
-    → ((q : Leg) → lookup (pair_eq q) after ≡ cond (pair_eq key q) now (lookup (pair_eq q) before))
+are-moved : (before after : List (LegName × Roomy Cell)) (key : LegName) (now : Option (Roomy Cell)) → AreWellFormed before
+    → ((q : LegName) → lookup (pair_eq q) after ≡ cond (pair_eq key q) now (lookup (pair_eq q) before))
     → ((queue : Roomy Cell) → now ≡ Some queue → EachWellFormed queue.items) → AreWellFormed after
 are-moved before after key now were moved formed leg queue found = cases (pair_eq key leg) (sym (moved leg) ∙ found)
   where
@@ -52,7 +52,7 @@ are-moved before after key now were moved formed leg queue found = cases (pair_e
     cases true is = formed queue is
     cases false is = were leg queue is
 
-module _ {S : Type 0} (m n : HashMap Leg (Roomy Cell) S) (key : Leg) (were : AreWellFormed m.entries) where
+module _ {S : Type 0} (m n : HashMap LegName (Roomy Cell) S) (key : LegName) (were : AreWellFormed m.entries) where
   pub are-written : (was is : Roomy Cell) → WritesThrough pair_eq (pair_eq key) m is n
       → Some was ≡ lookup (pair_eq key) m.entries → (EachWellFormed was.items → EachWellFormed is.items) → AreWellFormed n.entries
   are-written was is writes found keeps =

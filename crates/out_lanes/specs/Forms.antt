@@ -5,11 +5,11 @@ use Rattle.cell_codec.specs.Cells.{IsWellFormed}
 use Rattle.cell_codec.specs.Roomy.{Roomy}
 use Rattle.cell_codec.specs.declared.cell.Cell.{Cell}
 use Rattle.hashed_maps.specs.Pairs.{pair_eq}
-use Rattle.out_lanes.specs.Waiting.{Leg}
+use Rattle.out_lanes.specs.Waiting.{LegName}
 
 abbrev pub EachWellFormed : List Cell → Type 0
 EachWellFormed [] = Unit {0}
 EachWellFormed (cell ∷ cells) = IsWellFormed cell × EachWellFormed cells
 
-abbrev pub AreWellFormed : List (Leg × Roomy Cell) → Type 0
-AreWellFormed queues = (leg : Leg) (queue : Roomy Cell) → lookup (pair_eq leg) queues ≡ Some queue → EachWellFormed queue.items
+abbrev pub AreWellFormed : List (LegName × Roomy Cell) → Type 0
+AreWellFormed queues = (leg : LegName) (queue : Roomy Cell) → lookup (pair_eq leg) queues ≡ Some queue → EachWellFormed queue.items

@@ -13,8 +13,8 @@ use Rattle.out_lanes.specs.declared.destroy.Destroy.{Destroy}
 use Rattle.out_lanes.specs.Lines.{line_at, roomy_code, OthersStay}
 
 -- A circuit's number and the number of one of its legs.
-abbrev pub Leg : Type 0
-Leg = Pair
+abbrev pub LegName : Type 0
+LegName = Pair
 
 -- The cells that wait, by leg.
 abbrev pub CellQueues : Type 0

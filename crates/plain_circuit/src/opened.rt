@@ -4,7 +4,7 @@ ghost use Rattle.std.specs.Prelude.{◌≡◌, ℕ, ◌+◌, ◌*◌, ◌^◌, �
 ghost use Rattle.crypto_spec.specs.HopLayer.{layered};
 ghost use Rattle.crypto_spec.specs.Keystream.{keystream_part};
 ghost use Rattle.crypto_spec.specs.RunningDigest.{running_digest};
-ghost use Rattle.run_digest.specs.HashState.{StandsFor};
+ghost use Rattle.run_digest.specs.HashState.{HasAbsorbed};
 ghost use Rattle.circuit_model.specs.Log.{Entry as ModelEntry, pushed};
 ghost use Rattle.circuit_model.specs.Opened.{keys_in, no_keys, born_keys, pad_in, born_pad, is_forward, forward_count, plain_body, with_recognised, recognised_with, recognised_bodies};
 ghost use Rattle.plain_circuit.specs.Reading.{IsReader};
@@ -131,7 +131,7 @@ pub fn plain_body(log: &[Entry<'_>], body: &[u8; 509]) -> [u8; 509]
 }
 
 fn running_of(seed: &[u8; 20], bodies: &[[u8; 509]]) -> Running
-    ensures { StandsFor result seed.now bodies.now }
+    ensures { HasAbsorbed result seed.now bodies.now }
 {
     let mut running = Running::seeded(seed);
     for body in bodies {
@@ -183,7 +183,7 @@ impl Reader {
     fn of(keys: &LayerKeys, count: usize, recognised: &[[u8; 509]]) -> Reader
         ensures key { result.stream.key ≡ keys.now.kf }
         ensures position { result.stream.position ≡ 509 * count }
-        ensures digest { StandsFor result.running keys.now.df recognised.now }
+        ensures digest { HasAbsorbed result.running keys.now.df recognised.now }
     {
         Reader {
             stream: keystream_behind(&keys.kf, count),
@@ -195,8 +195,8 @@ impl Reader {
     #[tactic(auto, unfolding(crypto_spec::specs::HopLayer::layered, crypto_spec::specs::HopLayer::is_recognised))]
     fn open(&mut self, body: &[u8; 509]) -> Option<[u8; 509]>
         requires { self.old.stream.position < 2 ^ 100 }
-        ensures more { (seed : List ℕ) (before : List (List ℕ)) → StandsFor self.old.running seed before → pushed before result ≡ with_recognised seed before (layered self.old.stream.key self.old.stream.position body.now) }
-        ensures digest { (seed : List ℕ) (before : List (List ℕ)) → StandsFor self.old.running seed before → StandsFor self.new.running seed (pushed before result) }
+        ensures more { (seed : List ℕ) (before : List (List ℕ)) → HasAbsorbed self.old.running seed before → pushed before result ≡ with_recognised seed before (layered self.old.stream.key self.old.stream.position body.now) }
+        ensures digest { (seed : List ℕ) (before : List (List ℕ)) → HasAbsorbed self.old.running seed before → HasAbsorbed self.new.running seed (pushed before result) }
         ensures key { self.new.stream.key ≡ self.old.stream.key }
         ensures position { self.new.stream.position ≡ self.old.stream.position + 509 }
     {

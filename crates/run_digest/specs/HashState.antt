@@ -20,5 +20,5 @@ hash_state m = record {
 }
 
 -- The state is that of a running digest with this seed, by which these bodies have gone.
-abbrev pub StandsFor : HashState → List ℕ → List (List ℕ) → Type 0
-StandsFor state seed bodies = state ≡ hash_state (digest_message seed bodies)
+abbrev pub HasAbsorbed : HashState → List ℕ → List (List ℕ) → Type 0
+HasAbsorbed state seed bodies = state ≡ hash_state (digest_message seed bodies)

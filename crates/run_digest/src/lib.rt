@@ -7,7 +7,7 @@
 
 ghost use Rattle.std.specs.Prelude.{◌≡◌, ℕ, ◌↔◌, [], ◌∷◌, ◌++◌, List, IsTrue};
 ghost use Rattle.crypto_spec.specs.RunningDigest.{running_digest};
-ghost use Rattle.run_digest.specs.HashState.{StandsFor};
+ghost use Rattle.run_digest.specs.HashState.{HasAbsorbed};
 
 use hasher::Hasher;
 use std::marker::Model;
@@ -39,7 +39,7 @@ impl Model for Running {
 impl Running {
     /// The digest that has only its seed: Df forward, Db backward.
     pub fn seeded(seed: &[u8; 20]) -> Running
-        ensures { StandsFor result seed.now [] }
+        ensures { HasAbsorbed result seed.now [] }
     {
         let mut state = Hasher::new();
         state.update(seed);
@@ -48,7 +48,7 @@ impl Running {
 
     /// The digest that this one is once `body` has gone by.
     pub fn followed_by(&self, body: &[u8; 509]) -> Running
-        ensures { (seed : List ℕ) (bodies : List (List ℕ)) → StandsFor self.now seed bodies → StandsFor result seed (bodies ++ body.now ∷ []) }
+        ensures { (seed : List ℕ) (bodies : List (List ℕ)) → HasAbsorbed self.now seed bodies → HasAbsorbed result seed (bodies ++ body.now ∷ []) }
     {
         let mut state = self.state;
         state.update(&body[..5]);
@@ -59,21 +59,21 @@ impl Running {
 
     /// The 20 bytes of the digest.
     pub fn digest(&self) -> [u8; 20]
-        ensures { (seed : List ℕ) (bodies : List (List ℕ)) → StandsFor self.now seed bodies → result ≡ running_digest seed bodies }
+        ensures { (seed : List ℕ) (bodies : List (List ℕ)) → HasAbsorbed self.now seed bodies → result ≡ running_digest seed bodies }
     {
         self.state.finish()
     }
 
     /// The 20 bytes that the digest would have after `body`.
     pub fn look_with(&self, body: &[u8; 509]) -> [u8; 20]
-        ensures { (seed : List ℕ) (bodies : List (List ℕ)) → StandsFor self.now seed bodies → result ≡ running_digest seed (bodies ++ body.now ∷ []) }
+        ensures { (seed : List ℕ) (bodies : List (List ℕ)) → HasAbsorbed self.now seed bodies → result ≡ running_digest seed (bodies ++ body.now ∷ []) }
     {
         self.followed_by(body).digest()
     }
 
     /// Lets `body` go by.
     pub fn absorb(&mut self, body: &[u8; 509])
-        ensures { (seed : List ℕ) (bodies : List (List ℕ)) → StandsFor self.old seed bodies → StandsFor self.new seed (bodies ++ body.now ∷ []) }
+        ensures { (seed : List ℕ) (bodies : List (List ℕ)) → HasAbsorbed self.old seed bodies → HasAbsorbed self.new seed (bodies ++ body.now ∷ []) }
     {
         *self = self.followed_by(body);
     }

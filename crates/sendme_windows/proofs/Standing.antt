@@ -3,12 +3,12 @@ use Rattle.std.proofs.Common.{◌≡◌, ◌≢◌, ℕ, ◌+◌, ◌-◌, ◌/�
 use Rattle.std.proofs.lemmas.List.{take-append-le, drop-take}
 use Rattle.tor_spec.specs.CircuitWindow.{CircuitWindow, proofs, after_packaging, after_acknowledging, after_accepting}
 use Rattle.tor_spec.proofs.CircuitWindows.{owed_more, owed_same, owed_less}
-use Rattle.sendme_windows.specs.WindowsState.{WindowsState, StandsFor}
+use Rattle.sendme_windows.specs.WindowsState.{WindowsState, HasCountsOf}
 
 -- One more DATA cell, the 100th of its hundred.
-pub packed_due : (s : WindowsState) (w : CircuitWindow) (digest : List ℕ) (calls : ℕ) (more : List (List ℕ)) → StandsFor s w
+pub packed_due : (s : WindowsState) (w : CircuitWindow) (digest : List ℕ) (calls : ℕ) (more : List (List ℕ)) → HasCountsOf s w
     → (s.packed + 1) % 100 ≡ 0 → s.good ≤ s.packed / 100 → more ≡ s.owed_proofs ++ digest ∷ []
-    → StandsFor (record s { calls = calls; packed = s.packed + 1; owed_proofs = more }) (after_packaging w digest)
+    → HasCountsOf (record s { calls = calls; packed = s.packed + 1; owed_proofs = more }) (after_packaging w digest)
 packed_due s w digest calls more stands due behind grown =
     let count : s.packed ≡ length w.packaged = stands.packed in
     let good : s.good ≡ w.acknowledged = stands.good in
@@ -20,8 +20,8 @@ packed_due s w digest calls more stands due behind grown =
     }
 
 -- One more DATA cell that isn't.
-pub packed_other : (s : WindowsState) (w : CircuitWindow) (digest : List ℕ) (calls : ℕ) → StandsFor s w → (s.packed + 1) % 100 ≢ 0
-    → StandsFor (record s { calls = calls; packed = s.packed + 1 }) (after_packaging w digest)
+pub packed_other : (s : WindowsState) (w : CircuitWindow) (digest : List ℕ) (calls : ℕ) → HasCountsOf s w → (s.packed + 1) % 100 ≢ 0
+    → HasCountsOf (record s { calls = calls; packed = s.packed + 1 }) (after_packaging w digest)
 packed_other s w digest calls stands other =
     let count : s.packed ≡ length w.packaged = stands.packed in
     record {
@@ -32,8 +32,8 @@ packed_other s w digest calls stands other =
     }
 
 -- A good proof is paid for.
-pub proved : (s : WindowsState) (w : CircuitWindow) (calls : ℕ) (fewer : List (List ℕ)) → StandsFor s w → fewer ≡ drop 1 s.owed_proofs
-    → StandsFor (record s { calls = calls; good = s.good + 1; owed_proofs = fewer }) (after_acknowledging w)
+pub proved : (s : WindowsState) (w : CircuitWindow) (calls : ℕ) (fewer : List (List ℕ)) → HasCountsOf s w → fewer ≡ drop 1 s.owed_proofs
+    → HasCountsOf (record s { calls = calls; good = s.good + 1; owed_proofs = fewer }) (after_acknowledging w)
 proved s w calls fewer stands paid = record {
   packed = stands.packed;
   good = ap (λ n. n + 1) stands.good;
@@ -49,8 +49,8 @@ turned n xs some within =
     take-append-le (n - 1) (drop 1 xs) (take 1 xs) front ∙ sym (rw whole at (drop-take 1 (n - 1) xs))
 
 -- One more DATA cell of the other side.
-pub one_accepted : (s : WindowsState) (w : CircuitWindow) (calls : ℕ) → StandsFor s w
-    → StandsFor (record s { calls = calls; accepted = s.accepted + 1 }) (after_accepting w)
+pub one_accepted : (s : WindowsState) (w : CircuitWindow) (calls : ℕ) → HasCountsOf s w
+    → HasCountsOf (record s { calls = calls; accepted = s.accepted + 1 }) (after_accepting w)
 unfolding proofs
 one_accepted s w calls stands = record {
   packed = stands.packed;

@@ -15,7 +15,7 @@ pub record WindowsState : Type 0 where
   pub owed_proofs : List (List ℕ)
 
 -- It is that of a circuit's window.
-pub record StandsFor (state : WindowsState) (w : CircuitWindow) : Type 0 where
+pub record HasCountsOf (state : WindowsState) (w : CircuitWindow) : Type 0 where
   pub packed : state.packed ≡ length w.packaged
   pub good : state.good ≡ w.acknowledged
   pub accepted : state.accepted ≡ w.accepted

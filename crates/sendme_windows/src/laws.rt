@@ -2,13 +2,13 @@
 
 ghost use Rattle.std.specs.Prelude.{◌≡◌, ◌↔◌, IsTrue};
 ghost use Rattle.tor_spec.specs.CircuitWindow.{CircuitWindow, circuit_step, may_package, most_owed};
-ghost use Rattle.sendme_windows.specs.WindowsState.{WindowsState, StandsFor, HasRoom};
+ghost use Rattle.sendme_windows.specs.WindowsState.{WindowsState, HasCountsOf, HasRoom};
 
 use crate::{MOST_OWED, STEP};
 
 /// There is room for one more DATA cell exactly where the standard lets one be packaged.
 pub fn room_is_the_standards()
-    ensures { (state : WindowsState) (w : CircuitWindow) → StandsFor state w →
+    ensures { (state : WindowsState) (w : CircuitWindow) → HasCountsOf state w →
         HasRoom state ↔ IsTrue (may_package state.start w) }
 {}
 

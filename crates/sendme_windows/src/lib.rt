@@ -13,7 +13,7 @@ ghost use Rattle.std.specs.Prelude.{◌≡◌, ℕ, ◌+◌, ◌^◌, ◌<◌, �
 ghost use Rattle.std.specs.Option.{option_map};
 ghost use Rattle.tor_spec.specs.CircuitWindow.{CircuitWindow, circuit_start, least_start, fresh_window, after_packaging, after_accepting, next_owed, is_sendme_due};
 ghost use Rattle.tor_spec.specs.Sendme.{needs_no_proof};
-ghost use Rattle.sendme_windows.specs.WindowsState.{StandsFor, HasRoom, KeepsLimits};
+ghost use Rattle.sendme_windows.specs.WindowsState.{HasCountsOf, HasRoom, KeepsLimits};
 ghost use Rattle.sendme_windows.specs.Answers.{answer_to, judged, window_after};
 
 pub use proof_answer::ProofAnswer;
@@ -32,7 +32,7 @@ const MOST_OWED: usize = 10;
 /// Both windows of a circuit at one side.
 ///
 /// Contracts see what it was made with, the calls made, the counts, and the proofs that are owed;
-/// `StandsFor` ties them to the cells and SENDMEs that went by.
+/// `HasCountsOf` ties them to the cells and SENDMEs that went by.
 #[derive(Drop)]
 pub struct Windows {
     start: u32,
@@ -65,7 +65,7 @@ impl Windows {
         requires least_start { least_start ≤ start }
         requires most_start { start ≤ circuit_start }
         requires version { least ≤ 1 }
-        ensures stands { StandsFor result fresh_window }
+        ensures stands { HasCountsOf result fresh_window }
         ensures start { result.start ≡ start }
         ensures least { result.least ≡ least }
         ensures calls { result.calls ≡ 0 }
@@ -94,7 +94,7 @@ impl Windows {
     pub fn packed(&mut self, digest: &[u8; 20])
         requires calls { self.old.calls < 2 ^ 63 }
         requires room { HasRoom self.old }
-        ensures stands { (w : CircuitWindow) → StandsFor self.old w → StandsFor self.new (after_packaging w digest.now) }
+        ensures stands { (w : CircuitWindow) → HasCountsOf self.old w → HasCountsOf self.new (after_packaging w digest.now) }
         ensures limits { KeepsLimits self.old self.new }
         ensures calls { self.new.calls ≡ self.old.calls + 1 }
     {
@@ -111,8 +111,8 @@ impl Windows {
     /// another than the oldest.
     pub fn proof_of(&mut self, payload: &[u8]) -> ProofAnswer
         requires { self.old.calls < 2 ^ 63 }
-        ensures answer { (w : CircuitWindow) → StandsFor self.old w → result ≡ answer_to self.old.least w payload.now }
-        ensures stands { (w : CircuitWindow) → StandsFor self.old w → StandsFor self.new (window_after result w) }
+        ensures answer { (w : CircuitWindow) → HasCountsOf self.old w → result ≡ answer_to self.old.least w payload.now }
+        ensures stands { (w : CircuitWindow) → HasCountsOf self.old w → HasCountsOf self.new (window_after result w) }
         ensures limits { KeepsLimits self.old self.new }
         ensures calls { self.new.calls ≡ self.old.calls + 1 }
     {
@@ -128,8 +128,8 @@ impl Windows {
 
     /// Judges a SENDME by its proof, or one that needs none.
     fn judge(&mut self, given: Option<[u8; 20]>) -> ProofAnswer
-        ensures answer { (w : CircuitWindow) → StandsFor self.old w → result ≡ judged (next_owed w) given }
-        ensures stands { (w : CircuitWindow) → StandsFor self.old w → StandsFor self.new (window_after result w) }
+        ensures answer { (w : CircuitWindow) → HasCountsOf self.old w → result ≡ judged (next_owed w) given }
+        ensures stands { (w : CircuitWindow) → HasCountsOf self.old w → HasCountsOf self.new (window_after result w) }
         ensures limits { KeepsLimits self.old self.new }
         ensures calls { self.new.calls ≡ self.old.calls }
     {
@@ -152,8 +152,8 @@ impl Windows {
     /// it: for each 100th one.
     pub fn accepted(&mut self) -> bool
         requires { self.old.calls < 2 ^ 63 }
-        ensures due { (w : CircuitWindow) → StandsFor self.old w → result ≡ is_sendme_due (after_accepting w).accepted }
-        ensures stands { (w : CircuitWindow) → StandsFor self.old w → StandsFor self.new (after_accepting w) }
+        ensures due { (w : CircuitWindow) → HasCountsOf self.old w → result ≡ is_sendme_due (after_accepting w).accepted }
+        ensures stands { (w : CircuitWindow) → HasCountsOf self.old w → HasCountsOf self.new (after_accepting w) }
         ensures limits { KeepsLimits self.old self.new }
         ensures calls { self.new.calls ≡ self.old.calls + 1 }
     {

@@ -16,7 +16,7 @@ use Rattle.tape.specs.Steps.{tape_start, steps_of, IsRecords, output}
 use Rattle.tape.specs.Input.{EndCause, IsRead, NothingLeft, IsTape}
 use Rattle.tr_io.specs.Output.{IsWritten}
 use Rattle.tape.proofs.Tapes.{front_of_output}
-use Rattle.tape.specs.Runs.{status_by, status_at, Reads, Writes, BeginsNone, SameReading, IsOnlyReading, IsFrontOfOutput, SwitchBehind, FirstRecords, Played, NotBegun, EndsPlay, IsRun, IsDone, IsGood, rules_status}
+use Rattle.tape.specs.Runs.{status_by, status_at, SourceRun, SinkRun, BeginsNone, SameReading, IsOnlyReading, IsFrontOfOutput, SwitchBehind, FirstRecords, Played, NotBegun, EndsPlay, IsRun, IsDone, IsGood, rules_status}
 
 pub one_reading : (bytes : List ℕ) (a b : List Record) (x y : List ℕ) → IsRecords bytes a x → IsRecords bytes b y → BeginsNone x → BeginsNone y → SameReading a b x y
 unfolding IsRecords
@@ -60,7 +60,7 @@ too_long told tape bytes (Some rest) is read =
     let whole : tape ≡ bytes ++ rest = subst (λ o. IsRead o bytes (Some rest)) is read in
     omega (arith, ap length whole, length-append bytes rest)
 
-pub read_whole : (ending : Ending) (tape bytes : List ℕ) (rules : Rules) (records : List Record) (r : Reads) (w : Writes) → IsGood tape rules records r w → EndCause ending r.faults r.faults_after → IsTape ending r.left bytes r.left_after → ReadWhole ending tape bytes
+pub read_whole : (ending : Ending) (tape bytes : List ℕ) (rules : Rules) (records : List Record) (r : SourceRun) (w : SinkRun) → IsGood tape rules records r w → EndCause ending r.faults r.faults_after → IsTape ending r.left bytes r.left_after → ReadWhole ending tape bytes
 read_whole End tape bytes rules records r w good cause read =
     record { at_end = refl; all = told_read r.left tape bytes r.left_after good.told read.0 read.1 }
 read_whole Fault tape bytes rules records r w good cause read = absurd (good.reading cause)
@@ -84,7 +84,7 @@ same_start tape a b x y one other =
     let same : rules_and a x ≡ rules_and b y = sym one ∙ other in
     record { rules = cc; first = cc }
 
-played_done : (status : Status) (ending : Ending) (tape bytes : List ℕ) (rules : Rules) (records : List Record) (r : Reads) (w : Writes) → IsGood tape rules records r w → ReadWhole ending tape bytes → Played status ending bytes w → IsDone status rules records w
+played_done : (status : Status) (ending : Ending) (tape bytes : List ℕ) (rules : Rules) (records : List Record) (r : SourceRun) (w : SinkRun) → IsGood tape rules records r w → ReadWhole ending tape bytes → Played status ending bytes w → IsDone status rules records w
 unfolding IsDone
 played_done status ending tape bytes rules records r w good whole played =
     let start : SameStart played.rules rules played.first good.first =
@@ -96,12 +96,12 @@ played_done status ending tape bytes rules records r w good whole played =
     inl (end_done _ _ _ same.rest at_end, subst (λ rs. IsWritten w.contents (output rules rs) w.contents_after) same.records written, played.flushed)
 
 -- A good tape's rules are whole.
-begun : (status : Status) (ending : Ending) (tape bytes : List ℕ) (rules : Rules) (records : List Record) (r : Reads) (w : Writes) → IsGood tape rules records r w → ReadWhole ending tape bytes → NotBegun status ending bytes w → ⊥
+begun : (status : Status) (ending : Ending) (tape bytes : List ℕ) (rules : Rules) (records : List Record) (r : SourceRun) (w : SinkRun) → IsGood tape rules records r w → ReadWhole ending tape bytes → NotBegun status ending bytes w → ⊥
 begun status ending tape bytes rules records r w good whole not_begun =
     let ahead : rules_ahead bytes ≡ rules_and rules good.first = ap rules_ahead whole.all ∙ good.ahead in
     let none : None ≡ Some status = sym (ap (rules_status ending bytes) ahead) ∙ not_begun.ends in cc
 
-pub run_done : (status : Status) (r : Reads) (w : Writes) → IsRun status r w → (tape : List ℕ) (rules : Rules) (records : List Record) → IsGood tape rules records r w → IsDone status rules records w
+pub run_done : (status : Status) (r : SourceRun) (w : SinkRun) → IsRun status r w → (tape : List ℕ) (rules : Rules) (records : List Record) → IsGood tape rules records r w → IsDone status rules records w
 unfolding IsRun IsDone
 run_done status r w (inl run) tape rules records good =
     let whole : ReadWhole run.ending tape run.tape = read_whole run.ending tape run.tape rules records r w good run.cause run.bytes in
@@ -117,11 +117,11 @@ run_done status r w (inl run) tape rules records good =
     ]
 run_done status r w (inr unread) tape rules records good = inr unread.is
 
-pub finished : (status : Status) (ending : Ending) (tape : List ℕ) (r : Reads) (w : Writes) → EndCause ending r.faults r.faults_after → IsTape ending r.left tape r.left_after → EndsPlay status ending tape w → IsRun status r w
+pub finished : (status : Status) (ending : Ending) (tape : List ℕ) (r : SourceRun) (w : SinkRun) → EndCause ending r.faults r.faults_after → IsTape ending r.left tape r.left_after → EndsPlay status ending tape w → IsRun status r w
 unfolding IsRun
 finished status ending tape r w cause bytes play = inl (record { ending = ending; tape = tape; cause = cause; bytes = bytes; play = play })
 
-pub unread : (r : Reads) (w : Writes) → (bytes : List ℕ) × IsRead r.left bytes r.left_after → w.contents_after ≡ w.contents → IsRun Memory r w
+pub unread : (r : SourceRun) (w : SinkRun) → (bytes : List ℕ) × IsRead r.left bytes r.left_after → w.contents_after ≡ w.contents → IsRun Memory r w
 unfolding IsRun
 unread r w read same = inr (record { is = refl; bytes = read.0; read = read.1; contents = same })
 

@@ -23,30 +23,30 @@ use Rattle.tape.specs.Input.{tape_limit, EndCause, IsRead, IsTape}
 use Rattle.tr_io.specs.Output.{IsWritten, IsPartWritten}
 
 -- What a source tells of its bytes and faults, before and after a run.
-pub record Reads : Type 0 where
+pub record SourceRun : Type 0 where
   pub left : Option (List ℕ)
   pub faults : ℕ
   pub left_after : Option (List ℕ)
   pub faults_after : ℕ
 
-abbrev pub reads : Option (List ℕ) → ℕ → Option (List ℕ) → ℕ → Reads
-reads left faults left_after faults_after =
+abbrev pub source_run : Option (List ℕ) → ℕ → Option (List ℕ) → ℕ → SourceRun
+source_run left faults left_after faults_after =
     record { left = left; faults = faults; left_after = left_after; faults_after = faults_after }
 
 -- What a sink tells of its bytes and faults, before and after a run, and which bytes are flushed after it.
-pub record Writes : Type 0 where
+pub record SinkRun : Type 0 where
   pub contents : Option (List ℕ)
   pub faults : ℕ
   pub contents_after : Option (List ℕ)
   pub flushed_after : Option (List ℕ)
   pub faults_after : ℕ
 
-abbrev pub writes : Option (List ℕ) → ℕ → Option (List ℕ) → Option (List ℕ) → ℕ → Writes
-writes contents faults contents_after flushed_after faults_after =
+abbrev pub sink_run : Option (List ℕ) → ℕ → Option (List ℕ) → Option (List ℕ) → ℕ → SinkRun
+sink_run contents faults contents_after flushed_after faults_after =
     record { contents = contents; faults = faults; contents_after = contents_after; flushed_after = flushed_after; faults_after = faults_after }
 
 -- All that the sink has taken is flushed.
-abbrev pub IsFlushed : Writes → Type 0
+abbrev pub IsFlushed : SinkRun → Type 0
 IsFlushed w = w.flushed_after ≡ w.contents_after
 
 -- The status where the bytes that are left are less than a record, at this place.
@@ -116,7 +116,7 @@ pub record FirstRecords (rules : Rules) (tape first rest : List ℕ) (records : 
 
 -- All of the tape's records were played, up to the first place that begins none, and answered, and
 -- the answers are flushed.
-pub record Played (status : Status) (ending : Ending) (tape : List ℕ) (w : Writes) : Type 0 where
+pub record Played (status : Status) (ending : Ending) (tape : List ℕ) (w : SinkRun) : Type 0 where
   pub rules : Rules
   pub first : List ℕ
   pub records : List Record
@@ -128,7 +128,7 @@ pub record Played (status : Status) (ending : Ending) (tape : List ℕ) (w : Wri
   pub flushed : IsFlushed w
 
 -- The sink failed: a front of the output was written.
-pub record CutOff (status : Status) (tape : List ℕ) (w : Writes) : Type 0 where
+pub record CutOff (status : Status) (tape : List ℕ) (w : SinkRun) : Type 0 where
   pub is : status ≡ WriteFault
   pub cause : Rose w.faults w.faults_after
   pub rules : Rules
@@ -139,7 +139,7 @@ pub record CutOff (status : Status) (tape : List ℕ) (w : Writes) : Type 0 wher
   pub written : IsPartWritten w.contents (output rules records) w.contents_after
 
 -- Memory was wanting at some record: the answers of those before it were written, each whole.
-pub record OutOfMemory (status : Status) (tape : List ℕ) (w : Writes) : Type 0 where
+pub record OutOfMemory (status : Status) (tape : List ℕ) (w : SinkRun) : Type 0 where
   pub is : status ≡ Memory
   pub rules : Rules
   pub first : List ℕ
@@ -149,16 +149,16 @@ pub record OutOfMemory (status : Status) (tape : List ℕ) (w : Writes) : Type 0
   pub written : IsWritten w.contents (output rules records) w.contents_after
 
 -- The tape's rules are cut, or are none: nothing was played.
-pub record NotBegun (status : Status) (ending : Ending) (tape : List ℕ) (w : Writes) : Type 0 where
+pub record NotBegun (status : Status) (ending : Ending) (tape : List ℕ) (w : SinkRun) : Type 0 where
   pub ends : rules_status ending tape (rules_ahead tape) ≡ Some status
   pub contents : w.contents_after ≡ w.contents
 
-abbrev pub EndsPlay : Status → Ending → List ℕ → Writes → Type 0
+abbrev pub EndsPlay : Status → Ending → List ℕ → SinkRun → Type 0
 EndsPlay status ending tape w =
     Played status ending tape w ⊎ (CutOff status tape w ⊎ (OutOfMemory status tape w ⊎ NotBegun status ending tape w))
 
 -- The tape was read, up to the end, a fault or the limit, and played.
-pub record Finished (status : Status) (r : Reads) (w : Writes) : Type 0 where
+pub record Finished (status : Status) (r : SourceRun) (w : SinkRun) : Type 0 where
   pub ending : Ending
   pub tape : List ℕ
   pub cause : EndCause ending r.faults r.faults_after
@@ -166,25 +166,25 @@ pub record Finished (status : Status) (r : Reads) (w : Writes) : Type 0 where
   pub play : EndsPlay status ending tape w
 
 -- Memory was wanting while the tape was read: nothing was written.
-pub record Unread (status : Status) (r : Reads) (w : Writes) : Type 0 where
+pub record NotRead (status : Status) (r : SourceRun) (w : SinkRun) : Type 0 where
   pub is : status ≡ Memory
   pub bytes : List ℕ
   pub read : IsRead r.left bytes r.left_after
   pub contents : w.contents_after ≡ w.contents
 
 -- A run of a tape.
-unfoldable pub IsRun : Status → Reads → Writes → Type 0
-IsRun status r w = Finished status r w ⊎ Unread status r w
+unfoldable pub IsRun : Status → SourceRun → SinkRun → Type 0
+IsRun status r w = Finished status r w ⊎ NotRead status r w
 
 -- A run of a tape that is rules and these records and nothing else: all is done, and all answers are
 -- written and flushed, unless memory was wanting.
-unfoldable pub IsDone : Status → Rules → List Record → Writes → Type 0
+unfoldable pub IsDone : Status → Rules → List Record → SinkRun → Type 0
 IsDone status rules records w =
     ((status ≡ Done) × IsWritten w.contents (output rules records) w.contents_after × IsFlushed w) ⊎ (status ≡ Memory)
 
 -- What makes a run end so: the source tells a tape that is rules and these records and nothing else, it
 -- isn't too long, and neither source nor sink failed.
-pub record IsGood (tape : List ℕ) (rules : Rules) (records : List Record) (r : Reads) (w : Writes) : Type 0 where
+pub record IsGood (tape : List ℕ) (rules : Rules) (records : List Record) (r : SourceRun) (w : SinkRun) : Type 0 where
   pub told : r.left ≡ Some tape
   pub first : List ℕ
   pub ahead : rules_ahead tape ≡ rules_and rules first

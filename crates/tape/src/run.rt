@@ -8,7 +8,7 @@ ghost use Rattle.tape.specs.Causes.{is_tape_line, IsRunStatus};
 ghost use Rattle.tape.specs.Input.{EndCause, IsTape};
 ghost use Rattle.tr_io.specs.Output.{IsWritten, IsPartWritten};
 ghost use Rattle.tape.specs.Playing.{HandedOn, Stopped, Broken};
-ghost use Rattle.tape.specs.Runs.{cut_status, reads, writes, EndsPlay, IsRun, IsGood, IsDone};
+ghost use Rattle.tape.specs.Runs.{cut_status, source_run, sink_run, EndsPlay, IsRun, IsGood, IsDone};
 ghost use Rattle.tape.specs.Steps.{tape_start};
 ghost use Rattle.tape.specs.TapeRules.{tape_rules, rules_and, rules_ahead};
 
@@ -42,12 +42,12 @@ pub fn tape_main<S: Source, K: Sink>(
     ensures read { result ≡ Status.ReadFault → Rose (S.faults source.old) (S.faults source.new) }
     ensures write { result ≡ Status.WriteFault → Rose (K.faults sink.old) (K.faults sink.new) }
     ensures run { is_tape_line (map string_bytes words.now) ≡ true → IsRun result
-        (reads (S.left source.old) (S.faults source.old) (S.left source.new) (S.faults source.new))
-        (writes (K.written sink.old) (K.faults sink.old) (K.written sink.new) (K.flushed sink.new) (K.faults sink.new)) }
+        (source_run (S.left source.old) (S.faults source.old) (S.left source.new) (S.faults source.new))
+        (sink_run (K.written sink.old) (K.faults sink.old) (K.written sink.new) (K.flushed sink.new) (K.faults sink.new)) }
     ensures done { is_tape_line (map string_bytes words.now) ≡ true → (tape : List ℕ) (rules : Rules) (records : List Record) → IsGood tape rules records
-        (reads (S.left source.old) (S.faults source.old) (S.left source.new) (S.faults source.new))
-        (writes (K.written sink.old) (K.faults sink.old) (K.written sink.new) (K.flushed sink.new) (K.faults sink.new)) →
-        IsDone result rules records (writes (K.written sink.old) (K.faults sink.old) (K.written sink.new) (K.flushed sink.new) (K.faults sink.new)) }
+        (source_run (S.left source.old) (S.faults source.old) (S.left source.new) (S.faults source.new))
+        (sink_run (K.written sink.old) (K.faults sink.old) (K.written sink.new) (K.flushed sink.new) (K.faults sink.new)) →
+        IsDone result rules records (sink_run (K.written sink.old) (K.faults sink.old) (K.written sink.new) (K.flushed sink.new) (K.faults sink.new)) }
 {
     if !is_tape_line(words) {
         return Status::Usage;
@@ -73,7 +73,7 @@ fn play<K: Sink>(alloc: Global, input: &Input, sink: &mut K) -> Status
     ensures status { IsRunStatus result }
     ensures read { result ≡ Status.ReadFault → input.now.ending ≡ Ending.Fault }
     ensures write { result ≡ Status.WriteFault → Rose (K.faults sink.old) (K.faults sink.new) }
-    ensures play { EndsPlay result input.now.ending input.now.bytes.items (writes (K.written sink.old) (K.faults sink.old) (K.written sink.new) (K.flushed sink.new) (K.faults sink.new)) }
+    ensures play { EndsPlay result input.now.ending input.now.bytes.items (sink_run (K.written sink.old) (K.faults sink.old) (K.written sink.new) (K.flushed sink.new) (K.faults sink.new)) }
 {
     let tape = input.bytes.as_slice();
     match read_rules(tape) {
@@ -97,7 +97,7 @@ fn play_under<K: Sink>(
     ensures status { IsRunStatus result }
     ensures read { result ≡ Status.ReadFault → input.now.ending ≡ Ending.Fault }
     ensures write { result ≡ Status.WriteFault → Rose (K.faults sink.old) (K.faults sink.new) }
-    ensures play { EndsPlay result input.now.ending input.now.bytes.items (writes (K.written sink.old) (K.faults sink.old) (K.written sink.new) (K.flushed sink.new) (K.faults sink.new)) }
+    ensures play { EndsPlay result input.now.ending input.now.bytes.items (sink_run (K.written sink.old) (K.faults sink.old) (K.written sink.new) (K.flushed sink.new) (K.faults sink.new)) }
 {
     let Ok(mut player) = Player::new(alloc, rules) else {
         return Status::Memory;

@@ -3,7 +3,7 @@ use Rattle.std.proofs.Common.{◌≡◌, inl, ℕ, List, Option, refl, sym, subs
 use Rattle.tr_io.specs.declared.status.Status.{Status}
 use Rattle.tr_io.specs.declared.status.Status.TheVariants.{Done, Usage, Settings, ReadFault, WriteFault, BadTape, NotBuilt, TooLong, DoorFault, CrewFault, Memory, LinkRefused, CircuitClosed, StreamEnded}
 use Rattle.tor_relay.specs.Program.{message, end_message, IsSaid}
-use Rattle.tape.specs.Runs.{Writes, writes}
+use Rattle.tape.specs.Runs.{SinkRun, sink_run}
 use Rattle.tr_io.proofs.OutputLaws.{starts_empty}
 
 -- What is said where not all was done.
@@ -23,11 +23,11 @@ said_of (LinkRefused cause) other = refl
 said_of (CircuitClosed cause) other = refl
 said_of (StreamEnded reason) other = refl
 
-pub says_end : (status : Status) (text : List ℕ) (e : Writes) → (status ≡ Done → ⊥) → text ≡ end_message status → IsSaid text e → IsSaid (message status) e
+pub says_end : (status : Status) (text : List ℕ) (e : SinkRun) → (status ≡ Done → ⊥) → text ≡ end_message status → IsSaid text e → IsSaid (message status) e
 says_end status text e other is said =
     subst (λ xs. IsSaid xs e) (sym (said_of status other)) (subst (λ xs. IsSaid xs e) is said)
 
-pub says_nothing : (status : Status) (contents flushed : Option (List ℕ)) (faults : ℕ) → status ≡ Done → IsSaid (message status) (writes contents faults contents flushed faults)
+pub says_nothing : (status : Status) (contents flushed : Option (List ℕ)) (faults : ℕ) → status ≡ Done → IsSaid (message status) (sink_run contents faults contents flushed faults)
 says_nothing status contents flushed faults done =
-    let Said : Status → Type 0 = λ s. IsSaid (message s) (writes contents faults contents flushed faults) in
+    let Said : Status → Type 0 = λ s. IsSaid (message s) (sink_run contents faults contents flushed faults) in
     subst Said (sym done) (inl (starts_empty contents))

@@ -9,7 +9,7 @@ use Rattle.tr_io.specs.Statuses.{status_number, status_text}
 use Rattle.tape.specs.declared.record.Record.{Record}
 use Rattle.tape.specs.Causes.{is_tape_line, IsRunStatus}
 use Rattle.tr_io.specs.Output.{IsWritten, IsPartWritten}
-use Rattle.tape.specs.Runs.{Reads, Writes, IsRun, IsGood, IsDone}
+use Rattle.tape.specs.Runs.{SourceRun, SinkRun, IsRun, IsGood, IsDone}
 
 -- The command lines, which are said behind `usage`.
 abbrev pub usage_line : Status → List ℕ
@@ -55,11 +55,11 @@ message (CircuitClosed cause) = end_message (CircuitClosed cause)
 message (StreamEnded reason) = end_message (StreamEnded reason)
 
 -- All of a text is written; or standard error failed, and the front of it is.
-abbrev pub IsSaid : List ℕ → Writes → Type 0
+abbrev pub IsSaid : List ℕ → SinkRun → Type 0
 IsSaid text e = IsWritten e.contents text e.contents_after ⊎ (IsPartWritten e.contents text e.contents_after × Rose e.faults e.faults_after)
 
 -- A run of the command line that these words are ends with this status.
-pub record EndsAs {S K : Type 0} (words : List (List ℕ)) (status : Status) (source source_after : S) (sink sink_after : K) (r : Reads) (w : Writes) : Type 0 where
+pub record EndsAs {S K : Type 0} (words : List (List ℕ)) (status : Status) (source source_after : S) (sink sink_after : K) (r : SourceRun) (w : SinkRun) : Type 0 where
   pub usage : is_tape_line words ≡ false → status ≡ Usage
   pub unused : is_tape_line words ≡ false → (source_after ≡ source) × (sink_after ≡ sink)
   pub possible : is_tape_line words ≡ true → IsRunStatus status
@@ -69,12 +69,12 @@ pub record EndsAs {S K : Type 0} (words : List (List ℕ)) (status : Status) (so
   pub done : is_tape_line words ≡ true → (tape : List ℕ) (rules : Rules) (records : List Record) → IsGood tape rules records r w → IsDone status rules records w
 
 -- The number is that of a status, which is said.
-pub record Tells (number : ℕ) (status : Status) (e : Writes) : Type 0 where
+pub record Tells (number : ℕ) (status : Status) (e : SinkRun) : Type 0 where
   pub exit : number ≡ status_number status
   pub said : IsSaid (message status) e
 
 -- A run with these words.
-pub record IsProgramRun {S K : Type 0} (words : List (List ℕ)) (number : ℕ) (source source_after : S) (sink sink_after : K) (r : Reads) (w e : Writes) : Type 0 where
+pub record IsProgramRun {S K : Type 0} (words : List (List ℕ)) (number : ℕ) (source source_after : S) (sink sink_after : K) (r : SourceRun) (w e : SinkRun) : Type 0 where
   pub status : Status
   pub tells : Tells number status e
   pub ends : EndsAs words status source source_after sink sink_after r w

@@ -3,7 +3,7 @@ ghost use Rattle.std.specs.Prelude.{◌≡◌, ◌⊎◌, ◌≤◌, ◌+◌, �
 ghost use Rattle.tr_io.specs.Statuses.{number_text};
 ghost use Rattle.std.specs.IoError.{error_kind};
 ghost use Rattle.tor_relay.specs.Program.{message, end_message, usage_line, wordless_end, IsSaid, Tells, IsProgramRun};
-ghost use Rattle.tape.specs.Runs.{reads, writes};
+ghost use Rattle.tape.specs.Runs.{source_run, sink_run};
 
 use arrayvec::ArrayString;
 use itoa::Buffer;
@@ -31,9 +31,9 @@ pub fn run_program<S: Source, K: Sink, E: Sink>(
     errors: &mut E,
 ) -> u8
     ensures { IsProgramRun (map string_bytes words.now) result source.old source.new sink.old sink.new
-        (reads (S.left source.old) (S.faults source.old) (S.left source.new) (S.faults source.new))
-        (writes (K.written sink.old) (K.faults sink.old) (K.written sink.new) (K.flushed sink.new) (K.faults sink.new))
-        (writes (E.written errors.old) (E.faults errors.old) (E.written errors.new) (E.flushed errors.new) (E.faults errors.new)) }
+        (source_run (S.left source.old) (S.faults source.old) (S.left source.new) (S.faults source.new))
+        (sink_run (K.written sink.old) (K.faults sink.old) (K.written sink.new) (K.flushed sink.new) (K.faults sink.new))
+        (sink_run (E.written errors.old) (E.faults errors.old) (E.written errors.new) (E.flushed errors.new) (E.faults errors.new)) }
 {
     let status = tape_main(alloc, words, source, sink);
     end_program(status, errors)
@@ -41,7 +41,7 @@ pub fn run_program<S: Source, K: Sink, E: Sink>(
 
 /// Says how the program ended, and gives the number that it exits with.
 pub fn end_program<E: Sink>(status: Status, errors: &mut E) -> u8
-    ensures { Tells result status (writes (E.written errors.old) (E.faults errors.old) (E.written errors.new) (E.flushed errors.new) (E.faults errors.new)) }
+    ensures { Tells result status (sink_run (E.written errors.old) (E.faults errors.old) (E.written errors.new) (E.flushed errors.new) (E.faults errors.new)) }
 {
     report(status, errors);
     status.number()
@@ -61,7 +61,7 @@ pub fn end_without_words(error: &io::Error) -> Status
 /// Says how the program ended, unless all was done. A fault of standard error is passed over.
 #[tactic(auto, using(crate::proofs::Programs::says_nothing))]
 fn report<E: Sink>(status: Status, errors: &mut E)
-    ensures { IsSaid (message status) (writes (E.written errors.old) (E.faults errors.old) (E.written errors.new) (E.flushed errors.new) (E.faults errors.new)) }
+    ensures { IsSaid (message status) (sink_run (E.written errors.old) (E.faults errors.old) (E.written errors.new) (E.flushed errors.new) (E.faults errors.new)) }
 {
     match status {
         Status::Done => {}
@@ -71,7 +71,7 @@ fn report<E: Sink>(status: Status, errors: &mut E)
 
 /// Writes a text, as far as it can be.
 fn say<E: Sink>(text: &str, errors: &mut E)
-    ensures { IsSaid text.now (writes (E.written errors.old) (E.faults errors.old) (E.written errors.new) (E.flushed errors.new) (E.faults errors.new)) }
+    ensures { IsSaid text.now (sink_run (E.written errors.old) (E.faults errors.old) (E.written errors.new) (E.flushed errors.new) (E.faults errors.new)) }
 {
     let _ = write_all(text.as_bytes(), errors);
 }

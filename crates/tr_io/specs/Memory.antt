@@ -2,9 +2,9 @@
 use Rattle.std.specs.Prelude.{ℕ, ◌+◌, ◌-◌, ◌^◌, min, List, [], ◌∷◌, length, Bool, ◌==◌, if◌then◌else◌}
 use Rattle.std.specs.List.{list_any}
 use Rattle.tr_io.specs.declared.source.ReadAnswer.{ReadAnswer}
-use Rattle.tr_io.specs.declared.source.ReadAnswer.TheVariants as Reads
+use Rattle.tr_io.specs.declared.source.ReadAnswer.TheVariants as ReadAnswers
 use Rattle.tr_io.specs.declared.sink.WriteAnswer.{WriteAnswer}
-use Rattle.tr_io.specs.declared.sink.WriteAnswer.TheVariants as Writes
+use Rattle.tr_io.specs.declared.sink.WriteAnswer.TheVariants as WriteAnswers
 
 -- The bytes that are left, how many a read gets at most, the numbers of the reads that fail, how many
 -- were made, and how many failed.
@@ -35,12 +35,12 @@ next_call number = min (number + 1) (2 ^ 64 - 1)
 
 -- n bytes, or the end where there are none.
 abbrev pub got : ℕ → ReadAnswer
-got n = if n == 0 then Reads.End else Reads.Got n
+got n = if n == 0 then ReadAnswers.End else ReadAnswers.Got n
 
 -- To a read into so many bytes: a listed one fails, and any other gets what is left, as much as fits.
 abbrev pub read_answer : SourceState → ℕ → ReadAnswer
 read_answer s room =
-    if is_listed s.failing s.calls then Reads.Failed else got (min (min (length s.left) room) s.most)
+    if is_listed s.failing s.calls then ReadAnswers.Failed else got (min (min (length s.left) room) s.most)
 
 -- A write of no bytes is no call.
 abbrev pub calls_after_write : ℕ → List ℕ → ℕ
@@ -48,4 +48,4 @@ calls_after_write calls [] = calls
 calls_after_write calls (byte ∷ piece) = next_call calls
 
 abbrev pub flush_answer : SinkState → WriteAnswer
-flush_answer s = if is_listed s.failing s.calls then Writes.Failed else Writes.Took 0
+flush_answer s = if is_listed s.failing s.calls then WriteAnswers.Failed else WriteAnswers.Took 0

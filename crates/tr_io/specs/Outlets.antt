@@ -4,7 +4,7 @@ use Rattle.tr_io.specs.declared.names.Dest.{Dest}
 use Rattle.tr_io.specs.declared.door_answer.DoorAnswer.{DoorAnswer}
 use Rattle.tr_io.specs.declared.door_answer.DoorAnswer.TheVariants as Doors
 use Rattle.tr_io.specs.declared.source.ReadAnswer.{ReadAnswer}
-use Rattle.tr_io.specs.declared.source.ReadAnswer.TheVariants as Reads
+use Rattle.tr_io.specs.declared.source.ReadAnswer.TheVariants as ReadAnswers
 use Rattle.tr_io.specs.Pieces.{Piece}
 
 -- A session: its number, and the destination that was reached.
@@ -25,14 +25,14 @@ Reaches Doors.Failed to (Some before) after = after ≡ Some before
 -- tell what was read never does.
 abbrev pub ReadsFor : ℕ → ReadAnswer → List ℕ → Option (List Piece) → Option (List Piece) → Type 0
 ReadsFor session answer buffer None after = after ≡ None
-ReadsFor session (Reads.Got n) buffer (Some before) after =
+ReadsFor session (ReadAnswers.Got n) buffer (Some before) after =
     after ≡ Some (before ++ record { session = session; bytes = take n buffer } ∷ [])
-ReadsFor session Reads.End buffer (Some before) after = after ≡ Some before
-ReadsFor session Reads.Failed buffer (Some before) after = after ≡ Some before
+ReadsFor session ReadAnswers.End buffer (Some before) after = after ≡ Some before
+ReadsFor session ReadAnswers.Failed buffer (Some before) after = after ≡ Some before
 
 -- The end comes exactly where the session's input is told to be at its end, as far as that is told.
 abbrev pub EndsRight : ReadAnswer → Option Bool → Type 0
 EndsRight answer None = ⊤
-EndsRight (Reads.Got n) (Some is_at_end) = is_at_end ≡ false
-EndsRight Reads.End (Some is_at_end) = is_at_end ≡ true
-EndsRight Reads.Failed (Some is_at_end) = ⊤
+EndsRight (ReadAnswers.Got n) (Some is_at_end) = is_at_end ≡ false
+EndsRight ReadAnswers.End (Some is_at_end) = is_at_end ≡ true
+EndsRight ReadAnswers.Failed (Some is_at_end) = ⊤

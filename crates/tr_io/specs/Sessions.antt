@@ -2,9 +2,9 @@
 use Rattle.std.specs.Prelude.{◌≡◌, ℕ, ◌+◌, ◌≤◌, ⊤, List, [], ◌∷◌, ◌++◌, take, Option, Some, None, Bool, true, false}
 use Rattle.tr_io.specs.declared.names.Dest.{Dest}
 use Rattle.tr_io.specs.declared.source.ReadAnswer.{ReadAnswer}
-use Rattle.tr_io.specs.declared.source.ReadAnswer.TheVariants as Reads
+use Rattle.tr_io.specs.declared.source.ReadAnswer.TheVariants as ReadAnswers
 use Rattle.tr_io.specs.declared.sink.WriteAnswer.{WriteAnswer}
-use Rattle.tr_io.specs.declared.sink.WriteAnswer.TheVariants as Writes
+use Rattle.tr_io.specs.declared.sink.WriteAnswer.TheVariants as WriteAnswers
 use Rattle.tr_io.specs.declared.door_answer.DoorAnswer.{DoorAnswer}
 use Rattle.tr_io.specs.declared.door_answer.DoorAnswer.TheVariants as Doors
 
@@ -70,16 +70,16 @@ HasNone (Some waiting) = waiting ≡ 0
 
 -- A read puts the bytes got behind those read, and ends only where the input is at its end.
 abbrev pub ReadsOn : ReadAnswer → List ℕ → Session → Session → Type 0
-ReadsOn (Reads.Got n) buffer before after =
+ReadsOn (ReadAnswers.Got n) buffer before after =
     (before.is_at_end ≡ false) × (after ≡ record before { input = before.input ++ take n buffer; is_at_end = after.is_at_end })
-ReadsOn Reads.End buffer before after = (before.is_at_end ≡ true) × (after ≡ before)
-ReadsOn Reads.Failed buffer before after = after ≡ before
+ReadsOn ReadAnswers.End buffer before after = (before.is_at_end ≡ true) × (after ≡ before)
+ReadsOn ReadAnswers.Failed buffer before after = after ≡ before
 
 -- Without a session a read fails.
 abbrev pub ReadsPresent : ReadAnswer → List ℕ → Option Session → Option Session → Type 0
-ReadsPresent (Reads.Got n) buffer None after = ⊥
-ReadsPresent Reads.End buffer None after = ⊥
-ReadsPresent Reads.Failed buffer None after = after ≡ None
+ReadsPresent (ReadAnswers.Got n) buffer None after = ⊥
+ReadsPresent ReadAnswers.End buffer None after = ⊥
+ReadsPresent ReadAnswers.Failed buffer None after = after ≡ None
 ReadsPresent answer buffer (Some before) None = ⊥
 ReadsPresent answer buffer (Some before) (Some after) = ReadsOn answer buffer before after
 
@@ -91,13 +91,13 @@ ReadsSession answer buffer (Some before) (Some after) =
 
 -- What was taken of a piece stands behind the bytes said.
 abbrev pub SaysOn : WriteAnswer → List ℕ → Session → Session → Type 0
-SaysOn (Writes.Took n) piece before after = after ≡ record before { greeting = before.greeting ++ take n piece }
-SaysOn Writes.Failed piece before after = after ≡ before
+SaysOn (WriteAnswers.Took n) piece before after = after ≡ record before { greeting = before.greeting ++ take n piece }
+SaysOn WriteAnswers.Failed piece before after = after ≡ before
 
 -- Without a session nothing is said.
 abbrev pub SaysPresent : WriteAnswer → List ℕ → Option Session → Option Session → Type 0
-SaysPresent (Writes.Took n) piece None after = (take n piece ≡ []) × (after ≡ None)
-SaysPresent Writes.Failed piece None after = after ≡ None
+SaysPresent (WriteAnswers.Took n) piece None after = (take n piece ≡ []) × (after ≡ None)
+SaysPresent WriteAnswers.Failed piece None after = after ≡ None
 SaysPresent answer piece (Some before) None = ⊥
 SaysPresent answer piece (Some before) (Some after) = SaysOn answer piece before after
 

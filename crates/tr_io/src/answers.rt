@@ -153,11 +153,3 @@ pub enum DialAnswer {
     /// Memory is wanting; the order is handed out again.
     Memory,
 }
-
-/// An answer behind a lock.
-pub enum Turn<A> {
-    /// The call was made, with this answer.
-    Did(A),
-    /// The lock's history is full, and nothing was done.
-    Spent,
-}

@@ -1,5 +1,5 @@
 use Rattle.std.proofs.Common.{[], ◌∷◌, ◌++◌, ◌∙◌, ap, sym, arith, length-append}
-use Rattle.run_digest.specs.HashState.{StandsFor}
+use Rattle.run_digest.specs.HashState.{HasAbsorbed}
 use Rattle.circuit_model.specs.Opened.{born_keys}
 use Rattle.circuit_model.specs.Packaged.{own}
 use Rattle.circ_relay.specs.Packaging.{PackagerState}
@@ -17,7 +17,7 @@ pub returns-clause-next : goal.returns-clause-next
 returns-clause-next c = λ log is longer more same.
     let seed = (born_keys log).db in
     let before = own log in
-    let now : StandsFor c.absorb.new.self seed (before ++ c.put_digest.new.body ∷ []) =
+    let now : HasAbsorbed c.absorb.new.self seed (before ++ c.put_digest.new.body ∷ []) =
     stands_with_digest c.absorb.new.self seed before c.put.new.body c.put_digest.new.body _ _ _ _ c.put.array_long c.put_digest.ensures
     (c.absorb.ensures seed before (ap (λ (s : PackagerState). s.digest) c.self.view_is ∙ is.digest)) in
     record {
