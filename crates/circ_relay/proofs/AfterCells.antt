@@ -19,11 +19,13 @@ use Rattle.circ_relay.proofs.Longer.{KeepsStreams, IsAside, aside_by, packager_a
 
 -- What a message is to its event.
 
-pub message_of_cell : (log : Log) (command : ℕ) (body : List ℕ) (m : Message) → is_closed log ≡ false → received log command body ≡ ForUs m
+pub message_of_cell : (log : Log) (command : ℕ) (body : List ℕ) (m : Message) → is_closed log ≡ false
+    → received log command body ≡ ForUs m
     → message_at log (Forward command body) ≡ Some m
 message_of_cell log command body m unclosed got = rw (unclosed, got) refl
 
-pub effects_of_cell : (rules : Rules) (log : Log) (command : ℕ) (body : List ℕ) (m : Message) → is_closed log ≡ false → received log command body ≡ ForUs m
+pub effects_of_cell : (rules : Rules) (log : Log) (command : ℕ) (body : List ℕ) (m : Message) → is_closed log ≡ false
+    → received log command body ≡ ForUs m
     → effects_after rules log (Forward command body) ≡ message_effects rules log m
 unfolding open_effects
 effects_of_cell rules log command body m unclosed got = rw (unclosed, got) refl
@@ -32,10 +34,12 @@ effects_of_cell rules log command body m unclosed got = rw (unclosed, got) refl
 pub cell_parts : (c d : Circuit) (rules : Rules) (log : Log) (command : ℕ) (body : List ℕ) (given : Effects) → HasParts c log
     → effects_after rules log (Forward command body) ≡ given → given.dial ≡ None → given.cut ≡ false → place_of given.edge ≡ None
     → d.next_hop ≡ c.next_hop → d.create2 ≡ c.create2 → d.addresses ≡ c.addresses → IsPackagedNext d.packager log given.back
-    → HasCountsOf d.windows (window_of (after_cell rules log command body)) → ArePlaces d.places (after_cell rules log command body) → KeepsStreams c.places d.places
+    → HasCountsOf d.windows (window_of (after_cell rules log command body))
+    → ArePlaces d.places (after_cell rules log command body) → KeepsStreams c.places d.places
     → HasParts d (after_cell rules log command body)
 cell_parts c d rules log command body given has same undialled uncut placeless hop create2 addresses packages windows places keeps =
     let entry : Entry = entry_after rules log (Forward command body) in
-    let aside : IsAside entry = aside_by entry given refl refl same (record { dial = undialled; cut = uncut; makes_none = placeless }) in
+    let aside : IsAside entry =
+    aside_by entry given refl refl same (record { dial = undialled; cut = uncut; makes_none = placeless }) in
     parts_after c d entry log has aside hop create2 addresses
     (packager_after d.packager entry log given.back refl (ap (λ (e : Effects). e.back) same) packages) windows places keeps

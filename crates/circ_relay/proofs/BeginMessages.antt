@@ -29,7 +29,7 @@ use Rattle.circ_relay.specs.PlacesOfLog.{ArePlaces, AreNamed}
 use Rattle.circ_relay.specs.Values.{address_of}
 use Rattle.circ_relay.proofs.Changing.{same_by, apart_by}
 use Rattle.circ_relay.proofs.Lists.{same_some, got_before, got_last}
-use Rattle.circ_relay.proofs.Named.{message_place}
+use Rattle.circ_relay.proofs.Naming.{message_place}
 use Rattle.circ_relay.proofs.Begun.{after_begin, place_made, places_more, begin_takes_a_place}
 use Rattle.circ_relay.proofs.Others.{refused_leaves_places}
 use Rattle.circ_relay.proofs.Taken.{full_by_the_log}
@@ -41,27 +41,35 @@ some_none : (x : Option ℕ) → is_some x ≡ not (is_none x)
 some_none None = refl
 some_none (Some n) = refl
 
-pub free_by_the_log : (s : PlacesState) (log : Log) (free : Bool) → free ≡ is_some (position is_free s.streams) → length s.streams ≡ 32 → ArePlaces s log → AreNamed log
+pub free_by_the_log : (s : PlacesState) (log : Log) (free : Bool) → free ≡ is_some (position is_free s.streams)
+    → length s.streams ≡ 32 → ArePlaces s log → AreNamed log
     → free ≡ not (nat_le place_limit (taken_places log))
-free_by_the_log s log free is whole are named = is ∙ some_none (position is_free s.streams) ∙ ap not (full_by_the_log s log are named whole)
+free_by_the_log s log free is whole are named =
+    is ∙ some_none (position is_free s.streams) ∙ ap not (full_by_the_log s log are named whole)
 
 -- What a BEGIN does.
 
-begin_test : (message : CodeMessage) (log : Log) (command : ℕ) (body : List ℕ) (m : Message) (may : Bool) → IsBrought message log command body m
-    → may ≡ not ((message.stream == 0) || is_some (live_place log message.stream)) → ((m.stream == 0) || is_some m.place) ≡ not may
+begin_test : (message : CodeMessage) (log : Log) (command : ℕ) (body : List ℕ) (m : Message) (may : Bool)
+    → IsBrought message log command body m
+    → may ≡ not ((message.stream == 0) || is_some (live_place log message.stream))
+    → ((m.stream == 0) || is_some m.place) ≡ not may
 begin_test message log command body m may b is =
     ap (λ p. (m.stream == 0) || is_some p) (message_place log (Forward command body) m (found message log command body m b))
     ∙ ap (λ n. (n == 0) || is_some (live_place log n)) (sym b.stream)
     ∙ not-not ((message.stream == 0) || is_some (live_place log message.stream)) ∙ ap not (sym is)
 
-pub refused_does : (message : CodeMessage) (rules : Rules) (log : Log) (command : ℕ) (body : List ℕ) (m : Message) (may : Bool) → IsBrought message log command body m
-    → may ≡ not ((message.stream == 0) || is_some (live_place log message.stream)) → may ≡ false → begin_effects rules log m ≡ closing 1
+pub refused_does : (message : CodeMessage) (rules : Rules) (log : Log) (command : ℕ) (body : List ℕ) (m : Message) (may : Bool)
+    → IsBrought message log command body m
+    → may ≡ not ((message.stream == 0) || is_some (live_place log message.stream)) → may ≡ false
+    → begin_effects rules log m ≡ closing 1
 refused_does message rules log command body m may b is none =
     rw (begin_test message log command body m may b is ∙ ap not none) refl
 
 -- It may begin, and asks for this.
-pub begin_does : (message : CodeMessage) (rules : Rules) (log : Log) (command : ℕ) (body : List ℕ) (m : Message) (may : Bool) (target : Option Target) → IsBrought message log command body m
-    → may ≡ not ((message.stream == 0) || is_some (live_place log message.stream)) → may ≡ true → begin_target message.payload.now ≡ target
+pub begin_does : (message : CodeMessage) (rules : Rules) (log : Log) (command : ℕ) (body : List ℕ) (m : Message) (may : Bool) (target : Option Target)
+    → IsBrought message log command body m
+    → may ≡ not ((message.stream == 0) || is_some (live_place log message.stream)) → may ≡ true
+    → begin_target message.payload.now ≡ target
     → begin_effects rules log m ≡ beginning rules log m.stream target
 begin_does message rules log command body m may target b is so asks =
     rw (begin_test message log command body m may b is ∙ ap not so) (ap (λ t. beginning rules log m.stream t) (ap begin_target (sym b.payload) ∙ asks))
@@ -74,22 +82,28 @@ not-right : (free full : Bool) → free ≡ not full → free ≡ true → full 
 not-right free false is so = refl
 not-right free true is so = (let never : true ≡ false = sym so ∙ is in cc)
 
-pub full_does : (rules : Rules) (log : Log) (stream : ℕ) (target : Target) (free : Bool) → free ≡ not (nat_le place_limit (taken_places log)) → free ≡ false
+pub full_does : (rules : Rules) (log : Log) (stream : ℕ) (target : Target) (free : Bool)
+    → free ≡ not (nat_le place_limit (taken_places log)) → free ≡ false
     → beginning rules log stream (Some target) ≡ ending log stream 11
 full_does rules log stream target free is none = rw (not-left free (nat_le place_limit (taken_places log)) is none) refl
 
-pub fitting_does : (rules : Rules) (log : Log) (stream : ℕ) (target : Target) (free : Bool) (to : Option Address) → free ≡ not (nat_le place_limit (taken_places log)) → free ≡ true
+pub fitting_does : (rules : Rules) (log : Log) (stream : ℕ) (target : Target) (free : Bool) (to : Option Address)
+    → free ≡ not (nat_le place_limit (taken_places log)) → free ≡ true
     → to ≡ allowed_address rules target → beginning rules log stream (Some target) ≡ reaching log stream to
-fitting_does rules log stream target free to is so allowed = rw (not-right free (nat_le place_limit (taken_places log)) is so) (ap (λ t. reaching log stream t) (sym allowed))
+fitting_does rules log stream target free to is so allowed =
+    rw (not-right free (nat_le place_limit (taken_places log)) is so) (ap (λ t. reaching log stream t) (sym allowed))
 
 -- The END of a BEGIN that is refused.
 pub unbegun_parts : (c d : Circuit) (message : CodeMessage) (rules : Rules) (log : Log) (command : ℕ) (body : List ℕ) (m : Message) (reason : ℕ)
-    → IsBrought message log command body m → HasParts c log → m.command ≡ begin_command → begin_effects rules log m ≡ ending log m.stream reason
-    → Packages c.packager d.packager (relay_body end_command message.stream (reason ∷ [])) → d ≡ record c { packager = d.packager } → HasParts d (after_cell rules log command body)
+    → IsBrought message log command body m → HasParts c log → m.command ≡ begin_command
+    → begin_effects rules log m ≡ ending log m.stream reason
+    → Packages c.packager d.packager (relay_body end_command message.stream (reason ∷ []))
+    → d ≡ record c { packager = d.packager } → HasParts d (after_cell rules log command body)
 unbegun_parts c d message rules log command body m reason b has is ends packages rest =
     let given : message_effects rules log m ≡ record no_effects { back = Some (finished log (relay_body end_command message.stream (reason ∷ []))) } =
     of_begin rules log m is ∙ ends ∙ ap (λ n. ending log n reason) (sym b.stream) in
-    let edge : (effects_after rules log (Forward command body)).edge ≡ None = ap (λ (e : Effects). e.edge) (does message rules log command body m b ∙ given) in
+    let edge : (effects_after rules log (Forward command body)).edge ≡ None =
+    ap (λ (e : Effects). e.edge) (does message rules log command body m b ∙ given) in
     subst (λ e. HasParts e (after_cell rules log command body)) (sym rest)
     (packaged_parts c d.packager message rules log command body m (relay_body end_command message.stream (reason ∷ [])) b has given packages
     (other_window message rules log command body m b (ap (λ k. k == data_command) is) (ap (λ k. k == sendme_command) is))
@@ -102,45 +116,61 @@ pub record IsKept (old new : List Dest) (place : ℕ) (to : Dest) : Type 0 where
   pub there : (none : Dest) → slice_index_or new place none ≡ to
   pub elsewhere : (other : ℕ) (none : Dest) → other ≢ place → slice_index_or new other none ≡ slice_index_or old other none
 
-reached_there : (s : PlacesState) (log longer : Log) (place id : ℕ) (to : Dest) (h : Held) (of_log : Place) → ArePlaces s log → place < length s.streams
-    → places longer ≡ places log ++ place_made log id (address_of to) ∷ [] → held_at (after_begin s place id) place ≡ Some h → place_at longer h.serial ≡ Some of_log → of_log.to ≡ address_of to
+reached_there : (s : PlacesState) (log longer : Log) (place id : ℕ) (to : Dest) (h : Held) (of_log : Place) → ArePlaces s log
+    → place < length s.streams
+    → places longer ≡ places log ++ place_made log id (address_of to) ∷ [] → held_at (after_begin s place id) place ≡ Some h
+    → place_at longer h.serial ≡ Some of_log → of_log.to ≡ address_of to
 reached_there s log longer place id to h of_log are within more holds at =
-    let there : held_at (after_begin s place id) place ≡ Some (begun id s.next_serial) = get_or-set_same s.streams place (Some (begun id s.next_serial)) None within in
+    let there : held_at (after_begin s place id) place ≡ Some (begun id s.next_serial) =
+    get_or-set_same s.streams place (Some (begun id s.next_serial)) None within in
     let h_is : begun id s.next_serial ≡ h = same_some (begun id s.next_serial) h (sym there ∙ holds) in
     let serial : h.serial ≡ length (places log) = ap (λ (k : Held). k.serial) (sym h_is) ∙ are.next in
     let got : slice_get (places log ++ place_made log id (address_of to) ∷ []) (length (places log)) ≡ Some of_log =
-    ap (λ (ps : List Place). slice_get ps (length (places log))) (sym more) ∙ ap (λ n. slice_get (places longer) n) (sym serial) ∙ at in
+    ap (λ (ps : List Place). slice_get ps (length (places log))) (sym more) ∙ ap (λ n. slice_get (places longer) n) (sym serial)
+    ∙ at in
     ap (λ (p : Place). p.to) (sym (same_some (place_made log id (address_of to)) of_log (sym (got_last (places log) (place_made log id (address_of to))) ∙ got)))
 
-reached_elsewhere : (s : PlacesState) (addresses : List Dest) (log longer : Log) (place id other : ℕ) (to : Dest) (h : Held) (of_log : Place) (none : Dest) → ArePlaces s log → AreAddresses addresses s log
-    → places longer ≡ places log ++ place_made log id (address_of to) ∷ [] → other ≢ place → held_at (after_begin s place id) other ≡ Some h → place_at longer h.serial ≡ Some of_log
+reached_elsewhere : (s : PlacesState) (addresses : List Dest) (log longer : Log) (place id other : ℕ) (to : Dest) (h : Held) (of_log : Place) (none : Dest)
+    → ArePlaces s log → AreAddresses addresses s log
+    → places longer ≡ places log ++ place_made log id (address_of to) ∷ [] → other ≢ place
+    → held_at (after_begin s place id) other ≡ Some h → place_at longer h.serial ≡ Some of_log
     → of_log.to ≡ address_of (slice_index_or addresses other none)
 reached_elsewhere s addresses log longer place id other to h of_log none are kept more apart holds at =
-    let before : held_at s other ≡ Some h = sym (get_or-set_other s.streams place other (Some (begun id s.next_serial)) None apart) ∙ holds in
+    let before : held_at s other ≡ Some h =
+    sym (get_or-set_other s.streams place other (Some (begun id s.next_serial)) None apart) ∙ holds in
     let old = are.streams other h before in
-    let got : place_at longer h.serial ≡ Some old.place = ap (λ (ps : List Place). slice_get ps h.serial) more ∙ got_before (places log) (place_made log id (address_of to)) old.place h.serial old.found in
+    let got : place_at longer h.serial ≡ Some old.place =
+    ap (λ (ps : List Place). slice_get ps h.serial) more
+    ∙ got_before (places log) (place_made log id (address_of to)) old.place h.serial old.found in
     ap (λ (p : Place). p.to) (sym (same_some old.place of_log (sym got ∙ at))) ∙ kept other h old.place none before old.found
 
-reached_address : (s : PlacesState) (addresses new : List Dest) (log longer : Log) (place id other : ℕ) (to : Dest) (h : Held) (of_log : Place) (none : Dest) → ArePlaces s log → AreAddresses addresses s log
-    → IsKept addresses new place to → place < length s.streams → places longer ≡ places log ++ place_made log id (address_of to) ∷ [] → (b : Bool) → (other == place) ≡ b
-    → held_at (after_begin s place id) other ≡ Some h → place_at longer h.serial ≡ Some of_log → of_log.to ≡ address_of (slice_index_or new other none)
+reached_address : (s : PlacesState) (addresses new : List Dest) (log longer : Log) (place id other : ℕ) (to : Dest) (h : Held) (of_log : Place) (none : Dest)
+    → ArePlaces s log → AreAddresses addresses s log
+    → IsKept addresses new place to → place < length s.streams
+    → places longer ≡ places log ++ place_made log id (address_of to) ∷ [] → (b : Bool) → (other == place) ≡ b
+    → held_at (after_begin s place id) other ≡ Some h → place_at longer h.serial ≡ Some of_log
+    → of_log.to ≡ address_of (slice_index_or new other none)
 reached_address s addresses new log longer place id other to h of_log none are old kept within more true at holds got =
     let spot : other ≡ place = same_by other place at in
     reached_there s log longer place id to h of_log are within more (ap (λ n. held_at (after_begin s place id) n) (sym spot) ∙ holds) got
     ∙ ap address_of (sym (kept.there none)) ∙ ap (λ n. address_of (slice_index_or new n none)) (sym spot)
 reached_address s addresses new log longer place id other to h of_log none are old kept within more false at holds got =
     let apart : other ≢ place = apart_by other place at in
-    reached_elsewhere s addresses log longer place id other to h of_log none are old more apart holds got ∙ ap address_of (sym (kept.elsewhere other none apart))
+    reached_elsewhere s addresses log longer place id other to h of_log none are old more apart holds got
+    ∙ ap address_of (sym (kept.elsewhere other none apart))
 
 pub reached_parts : (c d : Circuit) (new : PlacesState) (message : CodeMessage) (rules : Rules) (log : Log) (command : ℕ) (body : List ℕ) (m : Message) (place : ℕ) (to : Dest)
-    → IsBrought message log command body m → HasParts c log → m.command ≡ begin_command → begin_effects rules log m ≡ reaching log m.stream (Some (address_of to))
-    → position is_free c.places.streams ≡ Some place → new ≡ after_begin c.places place message.stream → IsKept c.addresses d.addresses place to
+    → IsBrought message log command body m → HasParts c log → m.command ≡ begin_command
+    → begin_effects rules log m ≡ reaching log m.stream (Some (address_of to))
+    → position is_free c.places.streams ≡ Some place → new ≡ after_begin c.places place message.stream
+    → IsKept c.addresses d.addresses place to
     → d ≡ record c { places = new; addresses = d.addresses } → HasParts d (after_cell rules log command body)
 reached_parts c d new message rules log command body m place to b has is reaches free becomes kept rest =
     let entry : Entry = entry_after rules log (Forward command body) in
     let order : Effects = ordering (Reach (record { stream = message.stream; serial = length (places log) }) (address_of to)) in
     let given : effects_after rules log (Forward command body) ≡ order =
-    does message rules log command body m b ∙ of_begin rules log m is ∙ reaches ∙ ap (λ n. reaching log n (Some (address_of to))) (sym b.stream) in
+    does message rules log command body m b ∙ of_begin rules log m is ∙ reaches
+    ∙ ap (λ n. reaching log n (Some (address_of to))) (sym b.stream) in
     let edge : (effects_after rules log (Forward command body)).edge ≡ Some (Reach (record { stream = message.stream; serial = length (places log) }) (address_of to)) =
     ap (λ (e : Effects). e.edge) given in
     let more : places (after_cell rules log command body) ≡ places log ++ place_made log message.stream (address_of to) ∷ [] =
@@ -154,8 +184,10 @@ reached_parts c d new message rules log command body m place to b has is reaches
     (record {
       hop = has.hop ∙ sym (hop_after entry log (ap hop_by_effects given));
       asked = λ dialling. request_after entry log (ap (λ (e : Effects). e.dial) given) ∙ has.asked dialling;
-      packager = packager_after c.packager entry log None refl (ap (λ (e : Effects). e.back) given) (none_packaged c.packager log has.packager);
-      windows = stands_still c.windows log (after_cell rules log command body) has.windows (other_window message rules log command body m b (ap (λ k. k == data_command) is) (ap (λ k. k == sendme_command) is));
+      packager =
+          packager_after c.packager entry log None refl (ap (λ (e : Effects). e.back) given) (none_packaged c.packager log has.packager);
+      windows =
+          stands_still c.windows log (after_cell rules log command body) has.windows (other_window message rules log command body m b (ap (λ k. k == data_command) is) (ap (λ k. k == sendme_command) is));
       places = subst (λ s. ArePlaces s (after_cell rules log command body)) (sym becomes) are;
       addresses = subst (λ s. AreAddresses d.addresses s (after_cell rules log command body)) (sym becomes) addressed;
     })

@@ -17,14 +17,17 @@ pub silent_entry_leaves_places : (state new : PlacesState) (log : Log) (entry : 
     new.streams ≡ state.streams → new.next_serial ≡ state.next_serial → place_of entry.effects.edge ≡ None →
     ((serial : ℕ) → IsSilent entry serial) → ArePlaces state log → ArePlaces new (entry ∷ log)
 silent_entry_leaves_places state new log entry held next none silent are =
-    let same : (place : ℕ) → held_at new place ≡ held_at state place = λ place. ap (λ (xs : List (Option Held)). get_or xs place None) held in
-    let count : length (places (entry ∷ log)) ≡ length (places log) = ap (λ (xs : List Place). length xs) (places_stay entry log none) in
+    let same : (place : ℕ) → held_at new place ≡ held_at state place =
+    λ place. ap (λ (xs : List (Option Held)). get_or xs place None) held in
+    let count : length (places (entry ∷ log)) ≡ length (places log) =
+    ap (λ (xs : List Place). length xs) (places_stay entry log none) in
     record {
       next = next ∙ are.next ∙ sym count;
       streams = λ place h holds. stream_stays entry log h none (silent h.serial) (are.streams place h (sym (same place) ∙ holds));
       once = λ one other g h holds also equal. are.once one other g h (sym (same one) ∙ holds) (sym (same other) ∙ also) equal;
       whole = λ serial below lasts.
-          let old : IsHeld state serial = are.whole serial (omega (arith, count, below)) (λ free. lasts (silent_phase entry log serial (silent serial) ∙ free)) in
+          let old : IsHeld state serial =
+          are.whole serial (omega (arith, count, below)) (λ free. lasts (silent_phase entry log serial (silent serial) ∙ free)) in
           record { place = old.place; stream = old.stream; holds = same old.place ∙ old.holds; named = old.named };
       untold = λ serial beyond. untold_stays entry log serial (silent serial) (are.untold serial (omega (arith, count, beyond)));
     }
@@ -46,23 +49,29 @@ pub apart_by : (a b : ℕ) → (a == b) ≡ false → a ≢ b
 apart_by a b is same = grind arith
 
 -- What a place holds after the change, it held before with the same serial.
-before-by : (state : PlacesState) (log : Log) (entry : Entry) (place : ℕ) (g : Held) (holds : Option Held) → IsChange state log entry place g holds →
+before-by : (state : PlacesState) (log : Log) (entry : Entry) (place : ℕ) (g : Held) (holds : Option Held)
+    → IsChange state log entry place g holds →
     (other : ℕ) (h : Held) → held_at (with_held state place holds) other ≡ Some h → (b : Bool) → (other == place) ≡ b →
     (x : Held) × (held_at state other ≡ Some x) × (x.serial ≡ h.serial)
 before-by state log entry place g holds change other h is true same =
     let there : other ≡ place = same_by other place same in
-    let fits = change.fits h (sym (held_there state place g holds change.at) ∙ sym (ap (λ p. held_at (with_held state place holds) p) there) ∙ is) in
+    let fits =
+    change.fits h (sym (held_there state place g holds change.at) ∙ sym (ap (λ p. held_at (with_held state place holds) p) there) ∙ is) in
     (g, ap (λ p. held_at state p) there ∙ change.at, sym fits.0)
 before-by state log entry place g holds change other h is false same =
     (h, sym (held_elsewhere state place other holds (apart_by other place same)) ∙ is, refl)
 
-before : (state : PlacesState) (log : Log) (entry : Entry) (place : ℕ) (g : Held) (holds : Option Held) → IsChange state log entry place g holds →
+before : (state : PlacesState) (log : Log) (entry : Entry) (place : ℕ) (g : Held) (holds : Option Held)
+    → IsChange state log entry place g holds →
     (other : ℕ) (h : Held) → held_at (with_held state place holds) other ≡ Some h →
     (x : Held) × (held_at state other ≡ Some x) × (x.serial ≡ h.serial)
-before state log entry place g holds change other h is = before-by state log entry place g holds change other h is (other == place) refl
+before state log entry place g holds change other h is =
+    before-by state log entry place g holds change other h is (other == place) refl
 
-streams-by : (state : PlacesState) (log : Log) (entry : Entry) (place : ℕ) (g : Held) (holds : Option Held) → IsChange state log entry place g holds →
-    (other : ℕ) (h : Held) → held_at (with_held state place holds) other ≡ Some h → (b : Bool) → (other == place) ≡ b → IsOfLog (entry ∷ log) h
+streams-by : (state : PlacesState) (log : Log) (entry : Entry) (place : ℕ) (g : Held) (holds : Option Held)
+    → IsChange state log entry place g holds →
+    (other : ℕ) (h : Held) → held_at (with_held state place holds) other ≡ Some h → (b : Bool) → (other == place) ≡ b
+    → IsOfLog (entry ∷ log) h
 streams-by state log entry place g holds change other h is true same =
     let there : other ≡ place = same_by other place same in
     (change.fits h (sym (held_there state place g holds change.at) ∙ sym (ap (λ p. held_at (with_held state place holds) p) there) ∙ is)).1
@@ -73,23 +82,28 @@ streams-by state log entry place g holds change other h is false same =
     (change.silent h.serial (λ equal. apart (change.are.once other place h g old change.at equal)))
     (change.are.streams other h old)
 
-whole-by : (state : PlacesState) (log : Log) (entry : Entry) (place : ℕ) (g : Held) (holds : Option Held) → IsChange state log entry place g holds →
-    (serial : ℕ) → serial < length (places log) → phase (entry ∷ log) serial ≢ Free → (b : Bool) → (serial == g.serial) ≡ b → IsHeld (with_held state place holds) serial
+whole-by : (state : PlacesState) (log : Log) (entry : Entry) (place : ℕ) (g : Held) (holds : Option Held)
+    → IsChange state log entry place g holds →
+    (serial : ℕ) → serial < length (places log) → phase (entry ∷ log) serial ≢ Free → (b : Bool) → (serial == g.serial) ≡ b
+    → IsHeld (with_held state place holds) serial
 whole-by state log entry place g holds change serial below lasts true same =
     let named : serial ≡ g.serial = same_by serial g.serial same in
     let still = change.lasts (λ free. lasts (ap (λ n. phase (entry ∷ log) n) named ∙ free)) in
     record { place = place; stream = still.0; holds = held_there state place g holds change.at ∙ still.1; named = still.2 ∙ sym named }
 whole-by state log entry place g holds change serial below lasts false same =
     let apart : serial ≢ g.serial = apart_by serial g.serial same in
-    let old : IsHeld state serial = change.are.whole serial below (λ free. lasts (silent_phase entry log serial (change.silent serial apart) ∙ free)) in
-    let elsewhere : old.place ≢ place = λ there. apart (sym old.named ∙ ap (λ (x : Held). x.serial) (same_some old.stream g (sym old.holds ∙ ap (λ p. held_at state p) there ∙ change.at))) in
+    let old : IsHeld state serial =
+    change.are.whole serial below (λ free. lasts (silent_phase entry log serial (change.silent serial apart) ∙ free)) in
+    let elsewhere : old.place ≢ place =
+    λ there. apart (sym old.named ∙ ap (λ (x : Held). x.serial) (same_some old.stream g (sym old.holds ∙ ap (λ p. held_at state p) there ∙ change.at))) in
     record { place = old.place; stream = old.stream; holds = held_elsewhere state place old.place holds elsewhere ∙ old.holds; named = old.named }
 
 pub one_place_changes : (state : PlacesState) (log : Log) (entry : Entry) (place : ℕ) (g : Held) (holds : Option Held) →
     IsChange state log entry place g holds → ArePlaces (with_held state place holds) (entry ∷ log)
 one_place_changes state log entry place g holds change =
     let are : ArePlaces state log = change.are in
-    let count : length (places (entry ∷ log)) ≡ length (places log) = ap (λ (xs : List Place). length xs) (places_stay entry log change.makes_none) in
+    let count : length (places (entry ∷ log)) ≡ length (places log) =
+    ap (λ (xs : List Place). length xs) (places_stay entry log change.makes_none) in
     record {
       next = are.next ∙ sym count;
       streams = λ other h is. streams-by state log entry place g holds change other h is (other == place) refl;
@@ -97,15 +111,18 @@ one_place_changes state log entry place g holds change =
           let x = before state log entry place g holds change one a is in
           let y = before state log entry place g holds change other b also in
           are.once one other x.0 y.0 x.1 y.1 (x.2 ∙ equal ∙ sym y.2);
-      whole = λ serial below lasts. whole-by state log entry place g holds change serial (omega (arith, count, below)) lasts (serial == g.serial) refl;
+      whole =
+          λ serial below lasts. whole-by state log entry place g holds change serial (omega (arith, count, below)) lasts (serial == g.serial) refl;
       untold = λ serial beyond.
-          let within : g.serial < length (places log) = slice_get_within (places log) g.serial (are.streams place g change.at).place (are.streams place g change.at).found in
+          let within : g.serial < length (places log) =
+          slice_get_within (places log) g.serial (are.streams place g change.at).place (are.streams place g change.at).found in
           untold_stays entry log serial (change.silent serial (λ same. omega (arith, count, beyond, within, same))) (are.untold serial (omega (arith, count, beyond)));
     }
 
 -- The place holds the stream as it has become.
 pub stream_changes : (state : PlacesState) (log : Log) (entry : Entry) (place : ℕ) (g h : Held) →
-    held_at state place ≡ Some g → place_of entry.effects.edge ≡ None → ((serial : ℕ) → serial ≢ g.serial → IsSilent entry serial) →
+    held_at state place ≡ Some g → place_of entry.effects.edge ≡ None
+    → ((serial : ℕ) → serial ≢ g.serial → IsSilent entry serial) →
     h.serial ≡ g.serial → IsOfLog (entry ∷ log) h → ArePlaces state log → ArePlaces (with_held state place (Some h)) (entry ∷ log)
 stream_changes state log entry place g h at none silent named becomes are =
     one_place_changes state log entry place g (Some h) (record {
@@ -122,7 +139,8 @@ none-held h is = cc
 
 -- The place holds nothing.
 pub stream_goes : (state : PlacesState) (log : Log) (entry : Entry) (place : ℕ) (g : Held) →
-    held_at state place ≡ Some g → place_of entry.effects.edge ≡ None → ((serial : ℕ) → serial ≢ g.serial → IsSilent entry serial) →
+    held_at state place ≡ Some g → place_of entry.effects.edge ≡ None
+    → ((serial : ℕ) → serial ≢ g.serial → IsSilent entry serial) →
     phase (entry ∷ log) g.serial ≡ Free → ArePlaces state log → ArePlaces (with_held state place None) (entry ∷ log)
 stream_goes state log entry place g at none silent free are =
     one_place_changes state log entry place g None (record {
@@ -135,9 +153,11 @@ stream_goes state log entry place g at none silent free are =
     })
 
 -- Calls that change no place say nothing of the log.
-pub calls_say_nothing : (state new : PlacesState) (log : Log) → new.streams ≡ state.streams → new.next_serial ≡ state.next_serial → ArePlaces state log → ArePlaces new log
+pub calls_say_nothing : (state new : PlacesState) (log : Log) → new.streams ≡ state.streams → new.next_serial ≡ state.next_serial
+    → ArePlaces state log → ArePlaces new log
 calls_say_nothing state new log held next are =
-    let same : (place : ℕ) → held_at new place ≡ held_at state place = λ place. ap (λ (xs : List (Option Held)). get_or xs place None) held in
+    let same : (place : ℕ) → held_at new place ≡ held_at state place =
+    λ place. ap (λ (xs : List (Option Held)). get_or xs place None) held in
     record {
       next = next ∙ are.next;
       streams = λ place h holds. are.streams place h (sym (same place) ∙ holds);

@@ -30,7 +30,8 @@ one_more_body (first ∷ bodies) body =
     spread (is_data_body (Some first)) (first ∷ []) _ _ _ behind
 
 -- One more that is DATA.
-pub one_more_data : (bodies : Bodies) (next : Option (List ℕ)) (body : List ℕ) → next ≡ Some body → is_data_body (Some body) ≡ true
+pub one_more_data : (bodies : Bodies) (next : Option (List ℕ)) (body : List ℕ) → next ≡ Some body
+    → is_data_body (Some body) ≡ true
     → up_to_each_data (pushed bodies next) ≡ up_to_each_data bodies ++ (bodies ++ body ∷ []) ∷ []
 one_more_data bodies next body is counts = rw is (one_more_body bodies body ∙ rw counts refl)
 
@@ -40,14 +41,16 @@ pub no_more_data : (bodies : Bodies) (next : Option (List ℕ)) → is_data_body
 no_more_data bodies None other = refl
 no_more_data bodies (Some body) other = one_more_body bodies body ∙ rw other (append-nil (up_to_each_data bodies))
 
-counted : (b : Bool) (x : Bodies) (xs : List Bodies) → length (xs ++ (if b then x ∷ [] else [])) ≡ (if b then length xs + 1 else length xs)
+counted : (b : Bool) (x : Bodies) (xs : List Bodies)
+    → length (xs ++ (if b then x ∷ [] else [])) ≡ (if b then length xs + 1 else length xs)
 counted true x xs = length-append xs (x ∷ [])
 counted false x xs = ap length (append-nil xs)
 
 count_pushed : (bodies : Bodies) (next : Option (List ℕ))
     → length (up_to_each_data (pushed bodies next)) ≡ (if is_data_body next then length (up_to_each_data bodies) + 1 else length (up_to_each_data bodies))
 count_pushed bodies None = refl
-count_pushed bodies (Some body) = ap length (one_more_body bodies body) ∙ counted (is_data_body (Some body)) (bodies ++ body ∷ []) (up_to_each_data bodies)
+count_pushed bodies (Some body) =
+    ap length (one_more_body bodies body) ∙ counted (is_data_body (Some body)) (bodies ++ body ∷ []) (up_to_each_data bodies)
 
 -- There are as many as the circuit packaged DATA.
 pub count_packaged : (log : Log) → length (up_to_each_data (own log)) ≡ circuit_packaged log

@@ -1,28 +1,26 @@
 -- What the edge reports of a stream, by the circuit's log.
-use Rattle.std.proofs.Common.{◌≡◌, ℕ, ◌+◌, ◌%◌, ◌==◌, ◌<◌, List, ◌∷◌, ◌++◌, [], Bool, true, false, Option, Some, None, if◌then◌else◌, position, slice_index_or, unwrap_or, refl, sym, ap, subst, ◌∙◌, arith}
-use Rattle.std.proofs.lemmas.Bool.Decides.{nat_tests}
+use Rattle.std.proofs.Common.{◌≡◌, ℕ, List, ◌∷◌, [], true, false, Option, Some, None, position, slice_index_or, refl, sym, ap, subst, ◌∙◌}
 use Rattle.tr_io.specs.declared.names.Dest.{Dest}
 use Rattle.tr_io.specs.declared.names.StreamKey.{StreamKey}
 use Rattle.tor_spec.specs.Connected.{connected_payload}
-use Rattle.tor_spec.specs.RelayCell.{relay_body, connected_command, data_command, end_command, sendme_command}
-use Rattle.tor_spec.specs.CircuitWindow.{CircuitWindow, after_packaging}
+use Rattle.tor_spec.specs.RelayCell.{relay_body, connected_command, end_command}
 use Rattle.tor_spec.specs.Extend.{Address}
-use Rattle.sendme_windows.specs.WindowsState.{KeepsLimits, WindowsState, HasCountsOf}
+use Rattle.sendme_windows.specs.WindowsState.{HasCountsOf}
 use Rattle.stream_edge.specs.declared.held.Held.{Held}
 use Rattle.stream_edge.specs.declared.held.Phase.TheVariants.{Reaching, Joined, Ending}
-use Rattle.stream_edge.specs.PlacesState.{PlacesState, held_at, with_held}
-use Rattle.stream_edge.specs.Streams.{is_stream, after_packaging as one_packaged, after_draining, may_drain, sendme_due}
+use Rattle.stream_edge.specs.PlacesState.{held_at, with_held}
+use Rattle.stream_edge.specs.Streams.{is_stream}
 use Rattle.circuit_model.specs.Events.{Event}
-use Rattle.circuit_model.specs.declared.event.Event.TheVariants.{Born, Forward, Backward, Connected, Data, Ended, Drained, Freed, Linked, Answered}
+use Rattle.circuit_model.specs.declared.event.Event.TheVariants.{Born, Forward, Backward, Connected, Ended, Linked, Answered}
 use Rattle.circuit_model.specs.Rules.{Rules}
-use Rattle.circuit_model.specs.Log.{Log, StreamKey as ModelKey, Effects, no_effects, is_closed}
+use Rattle.circuit_model.specs.Log.{Log, StreamKey as ModelKey, Effects, no_effects}
 use Rattle.circuit_model.specs.declared.effects.Order.TheVariants.{Close}
 use Rattle.circuit_model.specs.Opened.{keys_in}
-use Rattle.circuit_model.specs.Packaged.{own, finished, back_digest, package_of, packaged_by}
+use Rattle.circuit_model.specs.Packaged.{finished, packaged_by}
 use Rattle.circuit_model.specs.NextHop.{hop_by, hop_by_effects}
 use Rattle.circuit_model.specs.Received.{is_early}
 use Rattle.circuit_model.specs.Streams.{time_to_live}
-use Rattle.circuit_model.specs.Effects.{open_effects, effects_after}
+use Rattle.circuit_model.specs.Effects.{effects_after}
 use Rattle.circuit_model.specs.Words.{entry_after, log, effects}
 use Rattle.circ_relay.specs.declared.circuit.Circuit.{Circuit}
 use Rattle.circ_relay.specs.CircuitOfLog.{IsAt, IsCircuit}
@@ -30,18 +28,20 @@ use Rattle.circ_relay.specs.Packaging.{PackagerState, IsPackager, IsPackagedNext
 use Rattle.circ_relay.specs.PlacesOfLog.{ArePlaces, IsOfLog, key_of as held_key, is_edge_report}
 use Rattle.circ_relay.specs.Values.{address_of, key_of}
 use Rattle.circ_relay.specs.WindowOfLog.{window_of}
-use Rattle.circ_relay.proofs.Doing.{connected_does, bytes_do, ended_does, drained_does}
+use Rattle.circ_relay.proofs.Doing.{connected_does, ended_does}
 use Rattle.circ_relay.proofs.Lists.{same_some}
-use Rattle.circ_relay.proofs.Longer.{IsAside, IsPlain, aside_by, packager_after, none_packaged, stands_still, same_held, none_held, same_limits, step_goes_on}
+use Rattle.circ_relay.proofs.Longer.{IsAside, IsPlain, aside_by, packager_after, stands_still, same_held, same_limits, step_goes_on}
 use Rattle.circ_relay.proofs.NamedStreams.{has_name, passes}
-use Rattle.circ_relay.proofs.QuietEvents.{connected_leaves, ended_leaves, drained_leaves, freed_leaves}
-use Rattle.circ_relay.proofs.Reports.{connected_joins, bytes_package, drained_drains, ended_ends, freed_frees}
-use Rattle.circ_relay.proofs.WindowByEvent.{edge_data_moves}
+use Rattle.circ_relay.proofs.QuietEvents.{connected_leaves, ended_leaves}
+use Rattle.circ_relay.proofs.Reports.{connected_joins}
+use Rattle.circ_relay.proofs.Closes.{ended_ends}
 
 -- The stream that a name finds.
 
-pub named : (c : Circuit) (key : StreamKey) (place : ℕ) (stream : Held) → IsAt c key place stream → (stream.stream ≡ key.id) × (stream.serial ≡ key.serial)
-named c key place stream at = has_name stream key.id key.serial (ap (is_stream key.id key.serial) (sym at.held) ∙ passes c key place at.first)
+pub named : (c : Circuit) (key : StreamKey) (place : ℕ) (stream : Held) → IsAt c key place stream
+    → (stream.stream ≡ key.id) × (stream.serial ≡ key.serial)
+named c key place stream at =
+    has_name stream key.id key.serial (ap (is_stream key.id key.serial) (sym at.held) ∙ passes c key place at.first)
 
 -- The place at which it is found.
 pub at_found : (c : Circuit) (key : StreamKey) (place found : ℕ) (stream : Held) → IsAt c key place stream
@@ -86,12 +86,14 @@ pub record IsPlainReport (rules : Rules) (log : Log) (e : Event) (x : Effects) :
   pub plain : IsPlain x
   pub close : x.close ≡ None
 
-report_is_aside : (rules : Rules) (log : Log) (e : Event) (x : Effects) → IsPlainReport rules log e x → IsAside (entry_after rules log e)
+pub report_is_aside : (rules : Rules) (log : Log) (e : Event) (x : Effects) → IsPlainReport rules log e x
+    → IsAside (entry_after rules log e)
 report_is_aside rules log e x is =
     aside_by (entry_after rules log e) x (keys_of_report e is.report) (hop_of_report e (effects_after rules log e) is.report) is.gives is.plain
 
 -- The running digest behind one body more, or none.
-pub packager_after_report : (state : PackagerState) (rules : Rules) (log : Log) (e : Event) (x : Effects) → IsPlainReport rules log e x
+pub packager_after_report : (state : PackagerState) (rules : Rules) (log : Log) (e : Event) (x : Effects)
+    → IsPlainReport rules log e x
     → IsPackagedNext state log x.back → IsPackager state (entry_after rules log e ∷ log)
 packager_after_report state rules log e x is next =
     packager_after state (entry_after rules log e) log x.back (keys_of_report e is.report)
@@ -109,7 +111,7 @@ pub record IsReported (c new : Circuit) (rules : Rules) (h : List Event) (e : Ev
   pub leaves : window_of (log rules (e ∷ h)) ≡ window_of (log rules h)
   pub places : ArePlaces (with_held c.places place holds) (log rules (e ∷ h))
 
-report_goes_on : (c new : Circuit) (rules : Rules) (h : List Event) (e : Event) (x : Effects) (place : ℕ) (g : Held) (holds : Option Held)
+pub report_goes_on : (c new : Circuit) (rules : Rules) (h : List Event) (e : Event) (x : Effects) (place : ℕ) (g : Held) (holds : Option Held)
     → IsReported c new rules h e x place g holds → IsCircuit new rules (e ∷ h)
 report_goes_on c new rules h e x place g holds r =
     let same_windows : new.windows ≡ c.windows = ap (λ (y : Circuit). y.windows) r.rest in
@@ -120,7 +122,9 @@ report_goes_on c new rules h e x place g holds r =
       close = ap (λ (given : Effects). given.close) r.is.gives ∙ r.is.close;
       at = r.at;
       same = r.same;
-      rest = r.rest ∙ (λ i. record c { packager = new.packager; windows = sym same_windows i; places = with_held c.places place holds });
+      rest =
+          r.rest
+          ∙ (λ i. record c { packager = new.packager; windows = sym same_windows i; places = with_held c.places place holds });
       limits = same_limits c.windows new.windows same_windows;
       packager = r.packager;
       windows = subst (λ w. HasCountsOf w (window_of (log rules (e ∷ h)))) (sym same_windows)
@@ -128,21 +132,23 @@ report_goes_on c new rules h e x place g holds r =
       places = r.places;
     }
 
-plain_packs : (log : Log) (body : List ℕ) → IsPlain (packs log body)
+pub plain_packs : (log : Log) (body : List ℕ) → IsPlain (packs log body)
 plain_packs log body = record { dial = refl; cut = refl; makes_none = refl }
 
-plain_nothing : IsPlain no_effects
+pub plain_nothing : IsPlain no_effects
 plain_nothing = record { dial = refl; cut = refl; makes_none = refl }
 
 -- Connected.
 
 pub connected_packs : (c : Circuit) (rules : Rules) (h : List Event) (key : StreamKey) (place : ℕ) (stream : Held) (none : Dest) (body : List ℕ)
-    → IsAt c key place stream → body ≡ relay_body connected_command key.id (connected_payload (slice_index_or c.addresses place none).ip 60)
+    → IsAt c key place stream
+    → body ≡ relay_body connected_command key.id (connected_payload (slice_index_or c.addresses place none).ip 60)
     → IsCircuit c rules h → effects rules h (Connected key.serial) ≡ packs (log rules h) body
 connected_packs c rules h key place stream none body at body_is is =
     let names = named c key place stream at in
     let of_log : IsOfLog (log rules h) stream = is.parts.places.streams place stream at.held in
-    let to : of_log.place.to ≡ address_of (slice_index_or c.addresses place none) = is.parts.addresses place stream of_log.place none at.held of_log.found in
+    let to : of_log.place.to ≡ address_of (slice_index_or c.addresses place none) =
+    is.parts.addresses place stream of_log.place none at.held of_log.found in
     ap (λ n. effects rules h (Connected n)) (sym names.1)
     ∙ connected_does c.places rules (log rules h) place stream of_log.place is.parts.places is.unclosed at.held of_log.found
     ∙ ap (λ id. packs (log rules h) (relay_body connected_command id (connected_payload of_log.place.to.ip time_to_live))) names.0
@@ -166,9 +172,11 @@ connected_goes_on c new rules h key place stream body at reaching rest next give
       at = at.held;
       same = same_held stream joined refl;
       rest = rest;
-      packager = packager_after_report new.packager rules (log rules h) (Connected key.serial) (packs (log rules h) body) report (next is.parts.packager);
+      packager =
+          packager_after_report new.packager rules (log rules h) (Connected key.serial) (packs (log rules h) body) report (next is.parts.packager);
       leaves = connected_leaves rules (log rules h) key.serial;
-      places = subst (λ n. ArePlaces (with_held c.places place (Some joined)) (entry_after rules (log rules h) (Connected n) ∷ log rules h)) names.1
+      places =
+          subst (λ n. ArePlaces (with_held c.places place (Some joined)) (entry_after rules (log rules h) (Connected n) ∷ log rules h)) names.1
           (connected_joins c.places rules (log rules h) place stream is.parts.places at.held reaching);
     }
 
@@ -205,158 +213,10 @@ ended_goes_on c new rules h key place stream reason body at rest next gives is =
       at = at.held;
       same = same_held stream ended refl;
       rest = rest;
-      packager = packager_after_report new.packager rules (log rules h) (Ended key.serial reason) x report (next is.parts.packager);
+      packager =
+          packager_after_report new.packager rules (log rules h) (Ended key.serial reason) x report (next is.parts.packager);
       leaves = ended_leaves rules (log rules h) key.serial reason;
-      places = subst (λ n. ArePlaces (with_held c.places place (Some ended)) (entry_after rules (log rules h) (Ended n reason) ∷ log rules h)) names.1
+      places =
+          subst (λ n. ArePlaces (with_held c.places place (Some ended)) (entry_after rules (log rules h) (Ended n reason) ∷ log rules h)) names.1
           (ended_ends c.places rules (log rules h) place stream reason is.parts.places is.unclosed at.held);
-    }
-
--- Drained.
-
-may_drain_is : (stream : Held) → stream.drained < stream.accepted → may_drain stream ≡ true
-may_drain_is stream undrained = grind (arith, nat_tests)
-
-due_is : (stream : Held) (due : Bool) → may_drain stream ≡ true → due ≡ unwrap_or (sendme_due stream) false → sendme_due stream ≡ Some due
-due_is stream due may is =
-    let test : sendme_due stream ≡ Some (((stream.drained + 1) % 50) == 0) = rw may refl in
-    test ∙ ap (λ (b : Bool). Some b) (sym (is ∙ ap (λ o. unwrap_or o false) test))
-
-pub drained_packs : (c : Circuit) (rules : Rules) (h : List Event) (key : StreamKey) (place : ℕ) (stream : Held) (due : Bool)
-    → IsAt c key place stream → stream.drained < stream.accepted → due ≡ unwrap_or (sendme_due stream) false
-    → IsCircuit c rules h → effects rules h (Drained key.serial) ≡ (if due then packs (log rules h) (relay_body sendme_command key.id []) else no_effects)
-drained_packs c rules h key place stream due at undrained due_by is =
-    let names = named c key place stream at in
-    ap (λ n. effects rules h (Drained n)) (sym names.1)
-    ∙ drained_does c.places rules (log rules h) place stream due is.parts.places is.unclosed at.held (due_is stream due (may_drain_is stream undrained) due_by)
-    ∙ ap (λ id. if due then packs (log rules h) (relay_body sendme_command id []) else no_effects) names.0
-
-drained_serial : (stream : Held) → may_drain stream ≡ true → (after_draining stream).serial ≡ stream.serial
-drained_serial stream may = rw may refl
-
-pub drained_goes_on : (c new : Circuit) (rules : Rules) (h : List Event) (key : StreamKey) (place : ℕ) (stream : Held) (x : Effects)
-    → IsAt c key place stream → stream.drained < stream.accepted
-    → new ≡ record c { packager = new.packager; places = with_held c.places place (Some (after_draining stream)) }
-    → IsPlainReport rules (log rules h) (Drained key.serial) x → IsPackagedNext new.packager (log rules h) x.back
-    → IsCircuit c rules h → IsCircuit new rules (Drained key.serial ∷ h)
-drained_goes_on c new rules h key place stream x at undrained rest report next is =
-    let names = named c key place stream at in
-    report_goes_on c new rules h (Drained key.serial) x place stream (Some (after_draining stream)) record {
-      before = is;
-      is = report;
-      at = at.held;
-      same = same_held stream (after_draining stream) (drained_serial stream (may_drain_is stream undrained));
-      rest = rest;
-      packager = packager_after_report new.packager rules (log rules h) (Drained key.serial) x report next;
-      leaves = drained_leaves rules (log rules h) key.serial;
-      places = subst (λ n. ArePlaces (with_held c.places place (Some (after_draining stream))) (entry_after rules (log rules h) (Drained n) ∷ log rules h)) names.1
-          (drained_drains c.places rules (log rules h) place stream is.parts.places at.held (may_drain_is stream undrained));
-    }
-
-pub due_goes_on : (c new : Circuit) (rules : Rules) (h : List Event) (key : StreamKey) (place : ℕ) (stream : Held) (body : List ℕ)
-    → IsAt c key place stream → stream.drained < stream.accepted
-    → new ≡ record c { packager = new.packager; places = with_held c.places place (Some (after_draining stream)) }
-    → (IsPackager c.packager (log rules h) → IsPackagedNext new.packager (log rules h) (Some (finished (log rules h) body)))
-    → effects rules h (Drained key.serial) ≡ packs (log rules h) body
-    → IsCircuit c rules h → IsCircuit new rules (Drained key.serial ∷ h)
-due_goes_on c new rules h key place stream body at undrained rest next gives is =
-    drained_goes_on c new rules h key place stream (packs (log rules h) body) at undrained rest
-    (record { report = refl; gives = gives; plain = plain_packs (log rules h) body; close = refl }) (next is.parts.packager) is
-
-pub undue_goes_on : (c new : Circuit) (rules : Rules) (h : List Event) (key : StreamKey) (place : ℕ) (stream : Held)
-    → IsAt c key place stream → stream.drained < stream.accepted
-    → new ≡ record c { places = with_held c.places place (Some (after_draining stream)) }
-    → effects rules h (Drained key.serial) ≡ no_effects
-    → IsCircuit c rules h → IsCircuit new rules (Drained key.serial ∷ h)
-undue_goes_on c new rules h key place stream at undrained rest gives is =
-    let same : new.packager ≡ c.packager = ap (λ (y : Circuit). y.packager) rest in
-    let after : PlacesState = with_held c.places place (Some (after_draining stream)) in
-    drained_goes_on c new rules h key place stream no_effects at undrained
-    (rest ∙ (λ i. record c { packager = sym same i; places = after }))
-    (record { report = refl; gives = gives; plain = plain_nothing; close = refl })
-    (none_packaged new.packager (log rules h) (subst (λ s. IsPackager s (log rules h)) (sym same) is.parts.packager)) is
-
--- Freed.
-
-freed-gives : (rules : Rules) (log : Log) (serial : ℕ) → is_closed log ≡ false → effects_after rules log (Freed serial) ≡ no_effects
-unfolding open_effects
-freed-gives rules log serial live = rw live refl
-
-pub freed_goes_on : (c new : Circuit) (rules : Rules) (h : List Event) (key : StreamKey) (place : ℕ) (stream : Held)
-    → IsAt c key place stream
-    → new ≡ record c { places = with_held c.places place None }
-    → IsCircuit c rules h → IsCircuit new rules (Freed key.serial ∷ h)
-freed_goes_on c new rules h key place stream at rest is =
-    let names = named c key place stream at in
-    let same : new.packager ≡ c.packager = ap (λ (y : Circuit). y.packager) rest in
-    let report : IsPlainReport rules (log rules h) (Freed key.serial) no_effects =
-    record { report = refl; gives = freed-gives rules (log rules h) key.serial is.unclosed; plain = plain_nothing; close = refl } in
-    report_goes_on c new rules h (Freed key.serial) no_effects place stream None record {
-      before = is;
-      is = report;
-      at = at.held;
-      same = none_held stream;
-      rest = rest ∙ (λ i. record c { packager = sym same i; places = with_held c.places place None });
-      packager = packager_after_report new.packager rules (log rules h) (Freed key.serial) no_effects report
-          (none_packaged new.packager (log rules h) (subst (λ s. IsPackager s (log rules h)) (sym same) is.parts.packager));
-      leaves = freed_leaves rules (log rules h) key.serial;
-      places = subst (λ n. ArePlaces (with_held c.places place None) (entry_after rules (log rules h) (Freed n) ∷ log rules h)) names.1
-          (freed_frees c.places rules (log rules h) place stream is.parts.places at.held);
-    }
-
--- Bytes.
-
-pub data_packs : (c : Circuit) (rules : Rules) (h : List Event) (key : StreamKey) (place : ℕ) (stream : Held) (bytes body : List ℕ)
-    → IsAt c key place stream → body ≡ relay_body data_command key.id bytes
-    → IsCircuit c rules h → effects rules h (Data key.serial bytes) ≡ packs (log rules h) body
-data_packs c rules h key place stream bytes body at body_is is =
-    let names = named c key place stream at in
-    ap (λ n. effects rules h (Data n bytes)) (sym names.1)
-    ∙ bytes_do c.places rules (log rules h) place stream bytes is.parts.places is.unclosed at.held
-    ∙ ap (λ id. packs (log rules h) (relay_body data_command id bytes)) names.0
-    ∙ ap (packs (log rules h)) (sym body_is)
-
-pub data_windows : (c : Circuit) (state : WindowsState) (rules : Rules) (h : List Event) (key : StreamKey) (place : ℕ) (stream : Held) (bytes body sent digest : List ℕ)
-    → IsAt c key place stream → body ≡ relay_body data_command key.id bytes → sent ≡ finished (log rules h) body
-    → digest ≡ back_digest (log rules h) (own (log rules h) ++ sent ∷ [])
-    → ((w : CircuitWindow) → HasCountsOf c.windows w → HasCountsOf state (after_packaging w digest))
-    → IsCircuit c rules h → HasCountsOf state (window_of (log rules (Data key.serial bytes ∷ h)))
-data_windows c state rules h key place stream bytes body sent digest at body_is sent_is digest_is stands is =
-    let names = named c key place stream at in
-    let of_log : IsOfLog (log rules h) stream = is.parts.places.streams place stream at.held in
-    let id : key.id ≡ of_log.place.key.stream = sym (ap (λ (k : ModelKey). k.stream) of_log.key ∙ names.0) in
-    let body_of_log : body ≡ relay_body data_command of_log.place.key.stream bytes = body_is ∙ ap (λ n. relay_body data_command n bytes) id in
-    let digest_of_log : digest ≡ back_digest (log rules h) (own (log rules h) ++ package_of (log rules h) data_command of_log.place.key.stream bytes ∷ []) =
-    digest_is ∙ ap (λ (b : List ℕ). back_digest (log rules h) (own (log rules h) ++ b ∷ [])) (sent_is ∙ ap (finished (log rules h)) body_of_log) in
-    let moved : window_of (log rules (Data key.serial bytes ∷ h)) ≡ after_packaging (window_of (log rules h)) digest =
-    ap (λ n. window_of (log rules (Data n bytes ∷ h))) (sym names.1)
-    ∙ edge_data_moves rules (log rules h) stream.serial bytes of_log.place is.unclosed of_log.found
-    ∙ ap (after_packaging (window_of (log rules h))) (sym digest_of_log) in
-    subst (λ w. HasCountsOf state w) (sym moved) (stands (window_of (log rules h)) is.parts.windows)
-
-pub data_goes_on : (c new : Circuit) (rules : Rules) (h : List Event) (key : StreamKey) (place : ℕ) (stream : Held) (bytes body : List ℕ)
-    → IsAt c key place stream
-    → new ≡ record c { packager = new.packager; windows = new.windows; places = with_held c.places place (Some (one_packaged stream)) }
-    → (IsPackager c.packager (log rules h) → IsPackagedNext new.packager (log rules h) (Some (finished (log rules h) body)))
-    → effects rules h (Data key.serial bytes) ≡ packs (log rules h) body
-    → KeepsLimits c.windows new.windows
-    → HasCountsOf new.windows (window_of (log rules (Data key.serial bytes ∷ h)))
-    → IsCircuit c rules h → IsCircuit new rules (Data key.serial bytes ∷ h)
-data_goes_on c new rules h key place stream bytes body at rest next gives limits windows is =
-    let names = named c key place stream at in
-    let x : Effects = packs (log rules h) body in
-    let report : IsPlainReport rules (log rules h) (Data key.serial bytes) x =
-    record { report = refl; gives = gives; plain = plain_packs (log rules h) body; close = refl } in
-    step_goes_on c new rules h (Data key.serial bytes) place stream (Some (one_packaged stream)) record {
-      before = is;
-      aside = report_is_aside rules (log rules h) (Data key.serial bytes) x report;
-      early = refl;
-      close = ap (λ (given : Effects). given.close) gives;
-      at = at.held;
-      same = same_held stream (one_packaged stream) refl;
-      rest = rest;
-      limits = limits;
-      packager = packager_after_report new.packager rules (log rules h) (Data key.serial bytes) x report (next is.parts.packager);
-      windows = windows;
-      places = subst (λ n. ArePlaces (with_held c.places place (Some (one_packaged stream))) (entry_after rules (log rules h) (Data n bytes) ∷ log rules h)) names.1
-          (bytes_package c.places rules (log rules h) place stream bytes is.parts.places at.held);
     }

@@ -28,7 +28,8 @@ message_in_no_keys : (log : Log) (e : Event) (m : Message) → message_in log e 
 message_in_no_keys log (Born reply keys pad) m found = cc
 message_in_no_keys log e m found = refl
 
-message_no_keys_by : (log : Log) (e : Event) (m : Message) (closed : Bool) → (if closed then None else message_in log e) ≡ Some m → keys_in e ≡ None
+message_no_keys_by : (log : Log) (e : Event) (m : Message) (closed : Bool) → (if closed then None else message_in log e) ≡ Some m
+    → keys_in e ≡ None
 message_no_keys_by log e m true found = cc
 message_no_keys_by log e m false found = message_in_no_keys log e m found
 
@@ -50,7 +51,8 @@ pub no_data_by : (e : Event) (back : Option (List ℕ)) → is_data_body back �
 no_data_by (Backward body) back none = refl
 no_data_by e back none = none
 
-pub message_no_data : (rules : Rules) (log : Log) (e : Event) (m : Message) → message_at log e ≡ Some m → packs_data (entry_after rules log e) ≡ false
+pub message_no_data : (rules : Rules) (log : Log) (e : Event) (m : Message) → message_at log e ≡ Some m
+    → packs_data (entry_after rules log e) ≡ false
 message_no_data rules log e m found =
     no_data_by e (effects_after rules log e).back
     (subst (λ (x : Effects). is_data_body x.back ≡ false) (sym (read-effects rules log e m found)) (message-tame rules log m).no_data)
@@ -59,7 +61,8 @@ none_by : (o : Option Message) (b : Bool) → ((m : Message) → o ≡ Some m �
 none_by None b other is = refl
 none_by (Some m) b other is = not_both b is (other m refl)
 
-pub data_no_message : (rules : Rules) (log : Log) (e : Event) → packs_data (entry_after rules log e) ≡ true → message_at log e ≡ None
+pub data_no_message : (rules : Rules) (log : Log) (e : Event) → packs_data (entry_after rules log e) ≡ true
+    → message_at log e ≡ None
 data_no_message rules log e packs = none_by (message_at log e) (packs_data (entry_after rules log e)) (message_no_data rules log e) packs
 
 -- A message by its command.
@@ -69,7 +72,8 @@ pub record HasMessage (brought : Option Message) (command : ℕ) : Type 0 where
   pub found : brought ≡ Some message
   pub by_command : message.command ≡ command
 
-pub message_of_command : (command : ℕ) (brought : Option Message) (more : Bool) → (has_command command brought && more) ≡ true → HasMessage brought command
+pub message_of_command : (command : ℕ) (brought : Option Message) (more : Bool) → (has_command command brought && more) ≡ true
+    → HasMessage brought command
 message_of_command command None more is = not_both false is refl
 message_of_command command (Some m) more is = record { message = m; found = refl; by_command = grind (arith, nat_tests) }
 
@@ -78,7 +82,8 @@ message_of_command command (Some m) more is = record { message = m; found = refl
 same_number : (n : ℕ) → (n == n) ≡ true
 same_number n = grind (arith, nat_tests)
 
-pub open_or_closed : (closed : Bool) (x : Effects) → is_data_body x.back ≡ false → is_data_body (if closed then no_effects else x).back ≡ false
+pub open_or_closed : (closed : Bool) (x : Effects) → is_data_body x.back ≡ false
+    → is_data_body (if closed then no_effects else x).back ≡ false
 open_or_closed true x none = refl
 open_or_closed false x none = none
 
@@ -86,7 +91,8 @@ passed_no_data : (hop : NextHop) (cell : CircuitCell) → is_data_body (passed_o
 passed_no_data There cell = refl
 passed_no_data hop cell = refl
 
-received_no_data : (rules : Rules) (log : Log) (command : ℕ) (r : Received) → is_data_body (forward_effects rules log command r).back ≡ false
+received_no_data : (rules : Rules) (log : Log) (command : ℕ) (r : Received)
+    → is_data_body (forward_effects rules log command r).back ≡ false
 received_no_data rules log command TooManyEarly = refl
 received_no_data rules log command (Unrecognised plain) = passed_no_data (next_hop log) _
 received_no_data rules log command TooLong = refl
@@ -96,16 +102,22 @@ linked_no_data : (request : Option Extend) → is_data_body (creating request).b
 linked_no_data None = refl
 linked_no_data (Some request) = refl
 
-pub only_data_packs_data : (rules : Rules) (log : Log) (e : Event) → ((serial : ℕ) → is_data_of serial e ≡ false) → packs_data (entry_after rules log e) ≡ false
+pub only_data_packs_data : (rules : Rules) (log : Log) (e : Event) → ((serial : ℕ) → is_data_of serial e ≡ false)
+    → packs_data (entry_after rules log e) ≡ false
 unfolding open_effects
 only_data_packs_data rules log (Born reply keys pad) other = open_or_closed (is_closed log) no_effects refl
-only_data_packs_data rules log (Forward command body) other = open_or_closed (is_closed log) _ (received_no_data rules log command (received log command body))
+only_data_packs_data rules log (Forward command body) other =
+    open_or_closed (is_closed log) _ (received_no_data rules log command (received log command body))
 only_data_packs_data rules log (Backward body) other = refl
-only_data_packs_data rules log (Connected serial) other = open_or_closed (is_closed log) _ (connected-tame log (place_at log serial)).no_data
+only_data_packs_data rules log (Connected serial) other =
+    open_or_closed (is_closed log) _ (connected-tame log (place_at log serial)).no_data
 only_data_packs_data rules log (Data serial bytes) other = not_both (serial == serial) (same_number serial) (other serial)
-only_data_packs_data rules log (Ended serial reason) other = open_or_closed (is_closed log) _ (ended-tame log reason (place_at log serial)).no_data
-only_data_packs_data rules log (Drained serial) other = open_or_closed (is_closed log) _ (drained-tame log (place_at log serial)).no_data
+only_data_packs_data rules log (Ended serial reason) other =
+    open_or_closed (is_closed log) _ (ended-tame log reason (place_at log serial)).no_data
+only_data_packs_data rules log (Drained serial) other =
+    open_or_closed (is_closed log) _ (drained-tame log (place_at log serial)).no_data
 only_data_packs_data rules log (Freed serial) other = open_or_closed (is_closed log) no_effects refl
 only_data_packs_data rules log Linked other = open_or_closed (is_closed log) _ (linked_no_data (newest accepted_request log))
-only_data_packs_data rules log (Answered payload) other = open_or_closed (is_closed log) _ (extending-tame log (handshake_reply payload)).no_data
+only_data_packs_data rules log (Answered payload) other =
+    open_or_closed (is_closed log) _ (extending-tame log (handshake_reply payload)).no_data
 only_data_packs_data rules log Failed other = open_or_closed (is_closed log) (closing 6) refl

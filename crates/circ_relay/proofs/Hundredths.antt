@@ -56,9 +56,11 @@ hundredth_at digests k = hundredth 0 digests k
 abbrev begun_with : List ℕ → List (List ℕ) → List (List ℕ)
 begun_with first bodies = first ∷ bodies
 
-behind_first : (first : List ℕ) (bodies : List (List ℕ)) (i : ℕ) → slice_get (up_to_each_data bodies) i ≡ Some (up_to_data (i + 1) bodies)
+behind_first : (first : List ℕ) (bodies : List (List ℕ)) (i : ℕ)
+    → slice_get (up_to_each_data bodies) i ≡ Some (up_to_data (i + 1) bodies)
     → slice_get (map (begun_with first) (up_to_each_data bodies)) i ≡ Some (first ∷ up_to_data (i + 1) bodies)
-behind_first first bodies i found = slice_get-map (begun_with first) (up_to_each_data bodies) i ∙ ap (option_map (begun_with first)) found
+behind_first first bodies i found =
+    slice_get-map (begun_with first) (up_to_each_data bodies) i ∙ ap (option_map (begun_with first)) found
 
 number_by : (first : List ℕ) (bodies : List (List ℕ)) (i : ℕ) (counts : Bool)
     → ((j : ℕ) → j < length (up_to_each_data bodies) → slice_get (up_to_each_data bodies) j ≡ Some (up_to_data (j + 1) bodies))
@@ -70,7 +72,8 @@ number_by first bodies (suc i) true later within =
     let many : nat_le (suc i + 1) 1 ≡ false = grind (arith, nat_tests) in
     let less : suc i + 1 - 1 ≡ i + 1 = omega arith in
     rw (many, less) (behind_first first bodies i (later i (omega (arith, length-map (up_to_each_data bodies) (begun_with first)))))
-number_by first bodies i false later within = behind_first first bodies i (later i (omega (arith, length-map (up_to_each_data bodies) (begun_with first))))
+number_by first bodies i false later within =
+    behind_first first bodies i (later i (omega (arith, length-map (up_to_each_data bodies) (begun_with first))))
 
 pub data_by_number : (bodies : List (List ℕ)) (i : ℕ) → i < length (up_to_each_data bodies)
     → slice_get (up_to_each_data bodies) i ≡ Some (up_to_data (i + 1) bodies)

@@ -26,7 +26,8 @@ one-further : {A : Type 0} (xs : List A) (z y x : A) (i : ℕ) → (slice_get xs
 one-further xs z y x i (inl before) = inl before
 one-further xs z y x i (inr last) = inr (omega (arith, last.0), last.1)
 
-pub got_split : {A : Type 0} (xs : List A) (y x : A) (i : ℕ) → slice_get (xs ++ y ∷ []) i ≡ Some x → (slice_get xs i ≡ Some x) ⊎ ((i ≡ length xs) × (x ≡ y))
+pub got_split : {A : Type 0} (xs : List A) (y x : A) (i : ℕ) → slice_get (xs ++ y ∷ []) i ≡ Some x
+    → (slice_get xs i ≡ Some x) ⊎ ((i ≡ length xs) × (x ≡ y))
 got_split [] y x zero got = inr (refl, sym (same_some y x got))
 got_split [] y x (suc i) got = cc
 got_split (z ∷ xs) y x zero got = inl got
@@ -42,7 +43,8 @@ cond-some : {A : Type 0} (b : Bool) (x y : A) (r : Option A) → cond b (Some x)
 cond-some true x y r is = inl (refl, same_some x y is)
 cond-some false x y r is = inr is
 
-pub nothing_found : {A : Type 0} (t : A → Bool) (xs : List A) (i : ℕ) (x : A) → find t xs ≡ None → slice_get xs i ≡ Some x → t x ≡ false
+pub nothing_found : {A : Type 0} (t : A → Bool) (xs : List A) (i : ℕ) (x : A) → find t xs ≡ None → slice_get xs i ≡ Some x
+    → t x ≡ false
 nothing_found t [] i x none got = cc
 nothing_found t (y ∷ xs) zero x none got = ap t (sym (same_some y x got)) ∙ (cond-none (t y) y (find t xs) none).0
 nothing_found t (y ∷ xs) (suc i) x none got = nothing_found t xs i x (cond-none (t y) y (find t xs) none).1 got

@@ -25,19 +25,23 @@ held_live-by : (id : ℕ) (held : Option Held) → is_live_as id held ≡ true �
 held_live-by id None is = cc
 held_live-by id (Some h) is = (h, refl, not_ending h.phase (and-right (h.stream == id) (is_live_phase h.phase) is))
 
-pub live_held : (s : PlacesState) (id : ℕ) (found : Option PlaceNo) → option_map (λ place. place.0) found ≡ position (is_live_as id) s.streams
+pub live_held : (s : PlacesState) (id : ℕ) (found : Option PlaceNo)
+    → option_map (λ place. place.0) found ≡ position (is_live_as id) s.streams
     → IfSome found (λ place. IsLive s place.0)
 live_held s id None is = tt
-live_held s id (Some place) is = held_live-by id (held_at s place.0) (position-Some (is_live_as id) s.streams place.0 None (sym is)).1
+live_held s id (Some place) is =
+    held_live-by id (held_at s place.0) (position-Some (is_live_as id) s.streams place.0 None (sym is)).1
 
-pub live_serial_of : (s : PlacesState) (id : ℕ) (found : Option PlaceNo) → option_map (λ place. place.0) found ≡ position (is_live_as id) s.streams
+pub live_serial_of : (s : PlacesState) (id : ℕ) (found : Option PlaceNo)
+    → option_map (λ place. place.0) found ≡ position (is_live_as id) s.streams
     → IfSome found (λ place. (log : Log) (h : Held) → ArePlaces s log → AreNamed log → held_at s place.0 ≡ Some h → live_place log id ≡ Some h.serial)
 live_serial_of s id None is = tt
 live_serial_of s id (Some place) is = λ log h are named holds.
     let first = live_found s log id place.0 are named (sym is) in
     first.4 ∙ ap (λ (k : Held). Some k.serial) (same_some first.0 h (sym first.1 ∙ holds))
 
-pub none_live_of : (s : PlacesState) (id : ℕ) (found : Option PlaceNo) → option_map (λ place. place.0) found ≡ position (is_live_as id) s.streams
+pub none_live_of : (s : PlacesState) (id : ℕ) (found : Option PlaceNo)
+    → option_map (λ place. place.0) found ≡ position (is_live_as id) s.streams
     → IfNone found ((log : Log) → ArePlaces s log → AreNamed log → live_place log id ≡ None)
 none_live_of s id None is = λ log are named. none_live s log id are named (sym is)
 none_live_of s id (Some place) is = tt

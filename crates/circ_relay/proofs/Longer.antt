@@ -32,7 +32,8 @@ use Rattle.circ_relay.proofs.WindowMoves.{keys_stay}
 
 -- The log's words.
 
-pub unclosed_after : (entry : Entry) (log : Log) → entry.effects.close ≡ None → is_closed log ≡ false → is_closed (entry ∷ log) ≡ false
+pub unclosed_after : (entry : Entry) (log : Log) → entry.effects.close ≡ None → is_closed log ≡ false
+    → is_closed (entry ∷ log) ≡ false
 unclosed_after entry log none unclosed = ap (λ (close : Option ℕ). is_some close || is_closed log) none ∙ unclosed
 
 early_after : (entry : Entry) (log : Log) → is_early entry.event ≡ false → early_count (entry ∷ log) ≡ early_count log
@@ -84,31 +85,37 @@ none_packaged state log is = λ longer more same. record {
 }
 
 -- The window, where it stays.
-pub stands_still : (windows : WindowsState) (log longer : Log) → HasCountsOf windows (window_of log) → window_of longer ≡ window_of log → HasCountsOf windows (window_of longer)
+pub stands_still : (windows : WindowsState) (log longer : Log) → HasCountsOf windows (window_of log)
+    → window_of longer ≡ window_of log → HasCountsOf windows (window_of longer)
 stands_still windows log longer stands same = subst (λ w. HasCountsOf windows w) (sym same) stands
 
 -- Addresses stay where their streams stay.
 
 pub record KeepsStreams (old new : PlacesState) : Type 0 where
-  pub kept : (place : ℕ) (h : Held) → held_at new place ≡ Some h → (g : Held) × (held_at old place ≡ Some g) × (g.serial ≡ h.serial)
+  pub kept : (place : ℕ) (h : Held) → held_at new place ≡ Some h
+      → (g : Held) × (held_at old place ≡ Some g) × (g.serial ≡ h.serial)
 
 pub same_streams : (s : PlacesState) → KeepsStreams s s
 same_streams s = record { kept = λ place h is. (h, is, refl) }
 
-changed_by : (s : PlacesState) (place : ℕ) (g : Held) (holds : Option Held) → held_at s place ≡ Some g → ((h : Held) → holds ≡ Some h → h.serial ≡ g.serial)
+changed_by : (s : PlacesState) (place : ℕ) (g : Held) (holds : Option Held) → held_at s place ≡ Some g
+    → ((h : Held) → holds ≡ Some h → h.serial ≡ g.serial)
     → (other : ℕ) (k : Held) → (b : Bool) → (other == place) ≡ b
     → held_at (with_held s place holds) other ≡ Some k → (j : Held) × (held_at s other ≡ Some j) × (j.serial ≡ k.serial)
 changed_by s place g holds is same other k true at found =
     let spot : other ≡ place = same_by other place at in
-    let there : held_at (with_held s place holds) other ≡ holds = ap (λ n. held_at (with_held s place holds) n) spot ∙ held_there s place g holds is in
+    let there : held_at (with_held s place holds) other ≡ holds =
+    ap (λ n. held_at (with_held s place holds) n) spot ∙ held_there s place g holds is in
     (g, ap (λ n. held_at s n) spot ∙ is, sym (same k (sym there ∙ found)))
 changed_by s place g holds is same other k false at found =
     (k, sym (held_elsewhere s place other holds (apart_by other place at)) ∙ found, refl)
 
 -- One place changes and keeps its serial, or holds nothing any more.
-pub changed_streams : (s : PlacesState) (place : ℕ) (g : Held) (holds : Option Held) → held_at s place ≡ Some g → ((h : Held) → holds ≡ Some h → h.serial ≡ g.serial)
+pub changed_streams : (s : PlacesState) (place : ℕ) (g : Held) (holds : Option Held) → held_at s place ≡ Some g
+    → ((h : Held) → holds ≡ Some h → h.serial ≡ g.serial)
     → KeepsStreams s (with_held s place holds)
-changed_streams s place g holds is same = record { kept = λ other k found. changed_by s place g holds is same other k (other == place) refl found }
+changed_streams s place g holds is same =
+    record { kept = λ other k found. changed_by s place g holds is same other k (other == place) refl found }
 
 -- The serial stays where a stream changes.
 pub same_held : (g : Held) (f : Held) → f.serial ≡ g.serial → (y : Held) → Some f ≡ Some y → y.serial ≡ g.serial
@@ -117,13 +124,16 @@ same_held g f same y is = sym (ap (λ (z : Held). z.serial) (same_some f y is)) 
 pub none_held : (g y : Held) → ◌≡◌ {A = Option Held} None (Some y) → y.serial ≡ g.serial
 none_held g y is = cc
 
-address-before : (old : PlacesState) (addresses : List Dest) (entry : Entry) (log : Log) (place : ℕ) (stream : Held) (to : Place) (none : Dest) → place_of entry.effects.edge ≡ None
-    → AreAddresses addresses old log → (g : Held) × (held_at old place ≡ Some g) × (g.serial ≡ stream.serial) → place_at (entry ∷ log) stream.serial ≡ Some to
+address-before : (old : PlacesState) (addresses : List Dest) (entry : Entry) (log : Log) (place : ℕ) (stream : Held) (to : Place) (none : Dest)
+    → place_of entry.effects.edge ≡ None
+    → AreAddresses addresses old log → (g : Held) × (held_at old place ≡ Some g) × (g.serial ≡ stream.serial)
+    → place_at (entry ∷ log) stream.serial ≡ Some to
     → to.to ≡ address_of (slice_index_or addresses place none)
 address-before old addresses entry log place stream to none makes_none are before at =
     are place before.0 to none before.1 (ap (λ n. place_at log n) before.2 ∙ sym (place_stays entry log stream.serial makes_none) ∙ at)
 
-pub addresses_after : (addresses : List Dest) (old new : PlacesState) (entry : Entry) (log : Log) → KeepsStreams old new → place_of entry.effects.edge ≡ None
+pub addresses_after : (addresses : List Dest) (old new : PlacesState) (entry : Entry) (log : Log) → KeepsStreams old new
+    → place_of entry.effects.edge ≡ None
     → AreAddresses addresses old log → AreAddresses addresses new (entry ∷ log)
 addresses_after addresses old new entry log keeps makes_none are =
     λ place stream to none holds at. address-before old addresses entry log place stream to none makes_none are (keeps.kept place stream holds) at
@@ -144,7 +154,8 @@ pub record IsPlain (x : Effects) : Type 0 where
 hop_of_plain : (x : Effects) → IsPlain x → hop_by_effects x ≡ None
 hop_of_plain x plain = rw (plain.dial, plain.cut) refl
 
-pub aside_by : (entry : Entry) (x : Effects) → keys_in entry.event ≡ None → hop_by entry.event entry.effects ≡ hop_by_effects entry.effects
+pub aside_by : (entry : Entry) (x : Effects) → keys_in entry.event ≡ None
+    → hop_by entry.event entry.effects ≡ hop_by_effects entry.effects
     → entry.effects ≡ x → IsPlain x → IsAside entry
 aside_by entry x opens_none hop gives plain = record {
   keys = opens_none;
@@ -156,10 +167,12 @@ aside_by entry x opens_none hop gives plain = record {
 -- All parts, where the next hop stays.
 pub parts_after : (c d : Circuit) (entry : Entry) (log : Log) → HasParts c log → IsAside entry
     → d.next_hop ≡ c.next_hop → d.create2 ≡ c.create2 → d.addresses ≡ c.addresses → IsPackager d.packager (entry ∷ log)
-    → HasCountsOf d.windows (window_of (entry ∷ log)) → ArePlaces d.places (entry ∷ log) → KeepsStreams c.places d.places → HasParts d (entry ∷ log)
+    → HasCountsOf d.windows (window_of (entry ∷ log)) → ArePlaces d.places (entry ∷ log) → KeepsStreams c.places d.places
+    → HasParts d (entry ∷ log)
 parts_after c d entry log has aside hop create2 addresses packager windows places keeps = record {
   hop = hop ∙ has.hop ∙ sym (hop_after entry log aside.hop);
-  asked = λ dialling. request_after entry log aside.dial ∙ has.asked (sym hop ∙ dialling) ∙ ap (λ p. sends_create2 p) (sym create2);
+  asked =
+      λ dialling. request_after entry log aside.dial ∙ has.asked (sym hop ∙ dialling) ∙ ap (λ p. sends_create2 p) (sym create2);
   packager = packager;
   windows = windows;
   places = places;
@@ -172,7 +185,8 @@ pub made_after : (c new : Circuit) (rules : Rules) → IsMadeBy c rules → Keep
 made_after c new rules made keeps = record { start = keeps.start ∙ made.start; least = keeps.least ∙ made.least }
 
 pub same_limits : (old new : WindowsState) → new ≡ old → KeepsLimits old new
-same_limits old new same = record { start = ap (λ (w : WindowsState). w.start) same; least = ap (λ (w : WindowsState). w.least) same }
+same_limits old new same =
+    record { start = ap (λ (w : WindowsState). w.start) same; least = ap (λ (w : WindowsState). w.least) same }
 
 -- The circuit, where an event changes one place, what is packaged and the window.
 

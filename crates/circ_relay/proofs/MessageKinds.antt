@@ -23,32 +23,38 @@ use Rattle.circ_relay.proofs.Others.{ordinary_leaves_places, placeless_leaves_pl
 use Rattle.tor_spec.specs.Resolve.{resolve_host}
 use Rattle.circuit_model.specs.Streams.{resolved_value, ending, begin_effects, data_effects, end_effects, sendme_effects, resolve_effects}
 use Rattle.circ_relay.specs.declared.message.Message.{Message as CodeMessage}
-use Rattle.circ_relay.proofs.Named.{message_place}
+use Rattle.circ_relay.proofs.Naming.{message_place}
 use Rattle.circ_relay.proofs.AfterCells.{message_of_cell, effects_of_cell, cell_parts}
 use Rattle.circ_relay.proofs.Longer.{none_packaged, same_streams, stands_still}
 
 -- What a message that is brought does.
 
-pub found : (message : CodeMessage) (log : Log) (command : ℕ) (body : List ℕ) (m : Message) → IsBrought message log command body m → message_at log (Forward command body) ≡ Some m
+pub found : (message : CodeMessage) (log : Log) (command : ℕ) (body : List ℕ) (m : Message)
+    → IsBrought message log command body m → message_at log (Forward command body) ≡ Some m
 found message log command body m b = message_of_cell log command body m b.unclosed b.received
 
-pub does : (message : CodeMessage) (rules : Rules) (log : Log) (command : ℕ) (body : List ℕ) (m : Message) → IsBrought message log command body m
+pub does : (message : CodeMessage) (rules : Rules) (log : Log) (command : ℕ) (body : List ℕ) (m : Message)
+    → IsBrought message log command body m
     → effects_after rules log (Forward command body) ≡ message_effects rules log m
 does message rules log command body m b = effects_of_cell rules log command body m b.unclosed b.received
 
 -- Its place, by what the circuit keeps.
-pub brought_place : (message : CodeMessage) (log : Log) (command : ℕ) (body : List ℕ) (m : Message) (place : Option ℕ) → IsBrought message log command body m
+pub brought_place : (message : CodeMessage) (log : Log) (command : ℕ) (body : List ℕ) (m : Message) (place : Option ℕ)
+    → IsBrought message log command body m
     → live_place log message.stream ≡ place → m.place ≡ place
 brought_place message log command body m place b is =
-    message_place log (Forward command body) m (found message log command body m b) ∙ ap (λ n. live_place log n) (sym b.stream) ∙ is
+    message_place log (Forward command body) m (found message log command body m b) ∙ ap (λ n. live_place log n) (sym b.stream)
+    ∙ is
 
 -- The effects by the relay command.
 
-pub of_begin : (rules : Rules) (log : Log) (m : Message) → m.command ≡ begin_command → message_effects rules log m ≡ begin_effects rules log m
+pub of_begin : (rules : Rules) (log : Log) (m : Message) → m.command ≡ begin_command
+    → message_effects rules log m ≡ begin_effects rules log m
 unfolding message_effects
 of_begin rules log m is = rw is refl
 
-pub of_data : (rules : Rules) (log : Log) (m : Message) → m.command ≡ data_command → message_effects rules log m ≡ data_effects log m
+pub of_data : (rules : Rules) (log : Log) (m : Message) → m.command ≡ data_command
+    → message_effects rules log m ≡ data_effects log m
 unfolding message_effects
 of_data rules log m is = rw is refl
 
@@ -56,23 +62,28 @@ pub of_end : (rules : Rules) (log : Log) (m : Message) → m.command ≡ end_com
 unfolding message_effects
 of_end rules log m is = rw is refl
 
-pub of_sendme : (rules : Rules) (log : Log) (m : Message) → m.command ≡ sendme_command → message_effects rules log m ≡ sendme_effects rules log m
+pub of_sendme : (rules : Rules) (log : Log) (m : Message) → m.command ≡ sendme_command
+    → message_effects rules log m ≡ sendme_effects rules log m
 unfolding message_effects
 of_sendme rules log m is = rw is refl
 
-pub of_truncate : (rules : Rules) (log : Log) (m : Message) → m.command ≡ truncate_command → message_effects rules log m ≡ truncate_effects log
+pub of_truncate : (rules : Rules) (log : Log) (m : Message) → m.command ≡ truncate_command
+    → message_effects rules log m ≡ truncate_effects log
 unfolding message_effects
 of_truncate rules log m is = rw is refl
 
-pub of_resolve : (rules : Rules) (log : Log) (m : Message) → m.command ≡ resolve_command → message_effects rules log m ≡ resolve_effects rules log m
+pub of_resolve : (rules : Rules) (log : Log) (m : Message) → m.command ≡ resolve_command
+    → message_effects rules log m ≡ resolve_effects rules log m
 unfolding message_effects
 of_resolve rules log m is = rw is refl
 
-pub of_begin_dir : (rules : Rules) (log : Log) (m : Message) → m.command ≡ begin_dir_command → message_effects rules log m ≡ ending log m.stream 14
+pub of_begin_dir : (rules : Rules) (log : Log) (m : Message) → m.command ≡ begin_dir_command
+    → message_effects rules log m ≡ ending log m.stream 14
 unfolding message_effects
 of_begin_dir rules log m is = rw is refl
 
-pub of_extend2 : (rules : Rules) (log : Log) (m : Message) → m.command ≡ extend2_command → message_effects rules log m ≡ extend_effects log m
+pub of_extend2 : (rules : Rules) (log : Log) (m : Message) → m.command ≡ extend2_command
+    → message_effects rules log m ≡ extend_effects log m
 unfolding message_effects
 of_extend2 rules log m is = rw is refl
 
@@ -83,7 +94,8 @@ pub record IsOther (n : ℕ) : Type 0 where
   pub end : (n == end_command) ≡ false
   pub sendme : (n == sendme_command) ≡ false
 
-pub other_command : (n m : ℕ) → n ≡ m → (m == begin_command) ≡ false → (m == data_command) ≡ false → (m == end_command) ≡ false → (m == sendme_command) ≡ false → IsOther n
+pub other_command : (n m : ℕ) → n ≡ m → (m == begin_command) ≡ false → (m == data_command) ≡ false → (m == end_command) ≡ false
+    → (m == sendme_command) ≡ false → IsOther n
 other_command n m is begin data_ end sendme = record {
   begin = ap (λ k. k == begin_command) is ∙ begin;
   data_ = ap (λ k. k == data_command) is ∙ data_;
@@ -95,12 +107,15 @@ and_false : (a b : Bool) → a ≡ false → (a && b) ≡ false
 and_false true b is = cc
 and_false false b is = refl
 
-pub other_window : (message : CodeMessage) (rules : Rules) (log : Log) (command : ℕ) (body : List ℕ) (m : Message) → IsBrought message log command body m
-    → (m.command == data_command) ≡ false → (m.command == sendme_command) ≡ false → window_of (after_cell rules log command body) ≡ window_of log
+pub other_window : (message : CodeMessage) (rules : Rules) (log : Log) (command : ℕ) (body : List ℕ) (m : Message)
+    → IsBrought message log command body m
+    → (m.command == data_command) ≡ false → (m.command == sendme_command) ≡ false
+    → window_of (after_cell rules log command body) ≡ window_of log
 other_window message rules log command body m b data_ sendme =
     other_message_leaves rules log (Forward command body) m (found message log command body m b) data_ (and_false (m.command == sendme_command) (m.stream == 0) sendme)
 
-pub other_places : (s : PlacesState) (message : CodeMessage) (rules : Rules) (log : Log) (command : ℕ) (body : List ℕ) (m : Message) → IsBrought message log command body m
+pub other_places : (s : PlacesState) (message : CodeMessage) (rules : Rules) (log : Log) (command : ℕ) (body : List ℕ) (m : Message)
+    → IsBrought message log command body m
     → IsOther m.command → ArePlaces s log → ArePlaces s (after_cell rules log command body)
 other_places s message rules log command body m b other are =
     ordinary_leaves_places s rules log (Forward command body) m are (found message log command body m b)
@@ -109,8 +124,10 @@ other_places s message rules log command body m b other are =
 
 -- A body is packaged, and nothing else is done.
 pub packaged_parts : (c : Circuit) (new : PackagerState) (message : CodeMessage) (rules : Rules) (log : Log) (command : ℕ) (body : List ℕ) (m : Message) (packed : List ℕ)
-    → IsBrought message log command body m → HasParts c log → message_effects rules log m ≡ record no_effects { back = Some (finished log packed) }
-    → Packages c.packager new packed → window_of (after_cell rules log command body) ≡ window_of log → ArePlaces c.places (after_cell rules log command body)
+    → IsBrought message log command body m → HasParts c log
+    → message_effects rules log m ≡ record no_effects { back = Some (finished log packed) }
+    → Packages c.packager new packed → window_of (after_cell rules log command body) ≡ window_of log
+    → ArePlaces c.places (after_cell rules log command body)
     → HasParts (record c { packager = new }) (after_cell rules log command body)
 packaged_parts c new message rules log command body m packed b has given packages window are =
     cell_parts c (record c { packager = new }) rules log command body (record no_effects { back = Some (finished log packed) }) has
@@ -120,8 +137,10 @@ packaged_parts c new message rules log command body m packed b has given package
 
 -- The same for a message of another command.
 pub other_packaged_parts : (c : Circuit) (new : PackagerState) (message : CodeMessage) (rules : Rules) (log : Log) (command : ℕ) (body : List ℕ) (m : Message) (packed : List ℕ)
-    → IsBrought message log command body m → HasParts c log → message_effects rules log m ≡ record no_effects { back = Some (finished log packed) }
-    → Packages c.packager new packed → IsOther m.command → HasParts (record c { packager = new }) (after_cell rules log command body)
+    → IsBrought message log command body m → HasParts c log
+    → message_effects rules log m ≡ record no_effects { back = Some (finished log packed) }
+    → Packages c.packager new packed → IsOther m.command
+    → HasParts (record c { packager = new }) (after_cell rules log command body)
 other_packaged_parts c new message rules log command body m packed b has given packages other =
     packaged_parts c new message rules log command body m packed b has given packages
     (other_window message rules log command body m b other.data_ other.sendme)
@@ -140,14 +159,16 @@ unmoved_parts c message rules log command body m b has given window are =
 
 -- A message for no live stream.
 
-pub placeless_places : (s : PlacesState) (message : CodeMessage) (rules : Rules) (log : Log) (command : ℕ) (body : List ℕ) (m : Message) → IsBrought message log command body m
+pub placeless_places : (s : PlacesState) (message : CodeMessage) (rules : Rules) (log : Log) (command : ℕ) (body : List ℕ) (m : Message)
+    → IsBrought message log command body m
     → (m.command == begin_command) ≡ false → m.place ≡ None → ArePlaces s log → ArePlaces s (after_cell rules log command body)
 placeless_places s message rules log command body m b other none are =
     placeless_leaves_places s rules log (Forward command body) m are (found message log command body m b) (apart_by m.command begin_command other) none
 
 -- RESOLVE.
 
-pub resolve_does : (rules : Rules) (log : Log) (m : Message) (stream : ℕ) (payload packed : List ℕ) (to : Option Address) → packed ≡ relay_body resolved_command stream (resolved_value to)
+pub resolve_does : (rules : Rules) (log : Log) (m : Message) (stream : ℕ) (payload packed : List ℕ) (to : Option Address)
+    → packed ≡ relay_body resolved_command stream (resolved_value to)
     → to ≡ option_and_then (resolved_address rules) (resolve_host payload) → stream ≡ m.stream → payload ≡ m.payload
     → resolve_effects rules log m ≡ record no_effects { back = Some (finished log packed) }
 resolve_does rules log m stream payload packed to made found streamed paid = rw (made, found, streamed, paid) refl

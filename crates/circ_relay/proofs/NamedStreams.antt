@@ -29,7 +29,8 @@ name_has : (h : Held) (id serial : ℕ) → h.stream ≡ id → h.serial ≡ ser
 name_has h id serial one other = grind arith
 
 -- Where it is found.
-phase_held : (c : Circuit) (key : StreamKey) (place : ℕ) (held : Option Held) → position (is_stream key.id key.serial) c.places.streams ≡ Some place → held_at c.places place ≡ held →
+phase_held : (c : Circuit) (key : StreamKey) (place : ℕ) (held : Option Held)
+    → position (is_stream key.id key.serial) c.places.streams ≡ Some place → held_at c.places place ≡ held →
     is_stream key.id key.serial held ≡ true → IfSome (option_map (λ (h : Held). h.phase) held) (λ phase. HasStream c key phase)
 phase_held c key place None first holds is = cc
 phase_held c key place (Some h) first holds is = record {
@@ -39,18 +40,22 @@ phase_held c key place (Some h) first holds is = record {
   now = refl;
 }
 
-phase_there : (P : Type 0) (id serial : ℕ) (held : Option Held) → is_stream id serial held ≡ true → IfNone (option_map (λ (h : Held). h.phase) held) P
+phase_there : (P : Type 0) (id serial : ℕ) (held : Option Held) → is_stream id serial held ≡ true
+    → IfNone (option_map (λ (h : Held). h.phase) held) P
 phase_there P id serial None is = cc
 phase_there P id serial (Some h) is = tt
 
-pub passes : (c : Circuit) (key : StreamKey) (place : ℕ) → position (is_stream key.id key.serial) c.places.streams ≡ Some place → is_stream key.id key.serial (held_at c.places place) ≡ true
+pub passes : (c : Circuit) (key : StreamKey) (place : ℕ) → position (is_stream key.id key.serial) c.places.streams ≡ Some place
+    → is_stream key.id key.serial (held_at c.places place) ≡ true
 passes c key place at = (position-Some (is_stream key.id key.serial) c.places.streams place None at).1
 
-pub found_has_phase : (c : Circuit) (key : StreamKey) (place : ℕ) → position (is_stream key.id key.serial) c.places.streams ≡ Some place →
+pub found_has_phase : (c : Circuit) (key : StreamKey) (place : ℕ)
+    → position (is_stream key.id key.serial) c.places.streams ≡ Some place →
     IfSome (option_map (λ (h : Held). h.phase) (held_at c.places place)) (λ phase. HasStream c key phase)
 found_has_phase c key place at = phase_held c key place (held_at c.places place) at refl (passes c key place at)
 
-pub found_has_some : (P : Type 0) (c : Circuit) (key : StreamKey) (place : ℕ) → position (is_stream key.id key.serial) c.places.streams ≡ Some place →
+pub found_has_some : (P : Type 0) (c : Circuit) (key : StreamKey) (place : ℕ)
+    → position (is_stream key.id key.serial) c.places.streams ≡ Some place →
     IfNone (option_map (λ (h : Held). h.phase) (held_at c.places place)) P
 found_has_some P c key place at = phase_there P key.id key.serial (held_at c.places place) (passes c key place at)
 
@@ -63,12 +68,14 @@ fails_first : (b : Bool) (n m : ℕ) → suc m ≤ cond (not b) (1 + n) 0 → (b
 fails_first true n m long = absurd (omega (arith, long))
 fails_first false n m long = (refl, omega (arith, long))
 
-all_fail : (t : Option Held → Bool) (xs : List (Option Held)) (place : ℕ) → t None ≡ false → length xs ≤ position_or_len t xs → t (get_or xs place None) ≡ false
+all_fail : (t : Option Held → Bool) (xs : List (Option Held)) (place : ℕ) → t None ≡ false → length xs ≤ position_or_len t xs
+    → t (get_or xs place None) ≡ false
 all_fail t [] place off long = off
 all_fail t (x ∷ xs) zero off long = (fails_first (t x) (position_or_len t xs) (length xs) long).0
 all_fail t (x ∷ xs) (suc place) off long = all_fail t xs place off (fails_first (t x) (position_or_len t xs) (length xs) long).1
 
-pub none_has_name : (c : Circuit) (key : StreamKey) → None ≡ position (is_stream key.id key.serial) c.places.streams → (place : ℕ) (stream : Held) →
+pub none_has_name : (c : Circuit) (key : StreamKey) → None ≡ position (is_stream key.id key.serial) c.places.streams
+    → (place : ℕ) (stream : Held) →
     held_at c.places place ≡ Some stream → stream.stream ≡ key.id → stream.serial ≢ key.serial
 none_has_name c key none place stream holds id serial =
     let t : (Option Held → Bool) = is_stream key.id key.serial in

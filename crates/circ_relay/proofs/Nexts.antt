@@ -1,37 +1,27 @@
--- A circuit after its opening, and after what its next hop sends and comes to.
-use Rattle.std.proofs.Common.{◌≡◌, ◌<◌, ◌≤◌, ℕ, [], ◌∷◌, List, Bool, true, false, if◌then◌else◌, Option, Some, None, refl, sym, ap, subst, ◌∙◌, length, nat_le, replicate, arith}
+-- A circuit after what its next hop sends and comes to.
+use Rattle.std.proofs.Common.{◌≡◌, ◌<◌, ◌≤◌, ℕ, ◌∷◌, List, Bool, true, false, if◌then◌else◌, Option, Some, None, refl, sym, ap, ◌∙◌, length, nat_le, arith}
 use Rattle.std.proofs.lemmas.Bool.{le-leb}
-use Rattle.std.specs.Option.{option_or}
-use Rattle.tor_spec.specs.CircuitWindow.{CircuitWindow, fresh_window}
 use Rattle.tor_spec.specs.Extend.{handshake_reply, handshake_reply_payload}
 use Rattle.tor_spec.specs.RelayCell.{extended2_command, relay_body}
-use Rattle.tr_io.specs.declared.names.Dest.{Dest}
-use Rattle.sendme_windows.specs.WindowsState.{HasCountsOf}
-use Rattle.stream_edge.specs.PlacesState.{PlacesState}
-use Rattle.kdf_tor.specs.declared.LayerKeys.{LayerKeys}
 use Rattle.circuit_model.specs.Events.{Event, CircuitCell}
-use Rattle.circuit_model.specs.declared.event.Event.TheVariants.{Born, Backward, Linked, Answered, Failed}
+use Rattle.circuit_model.specs.declared.event.Event.TheVariants.{Backward, Linked, Answered, Failed}
 use Rattle.circuit_model.specs.Rules.{Rules}
 use Rattle.circuit_model.specs.Log.{Entry, Log, Effects, Message, no_effects, closing, is_closed}
-use Rattle.circuit_model.specs.Opened.{born_keys, born_pad}
 use Rattle.circuit_model.specs.Extending.{linked_effects, answered_effects, extending}
 use Rattle.circuit_model.specs.NextHop.{next_hop}
-use Rattle.circuit_model.specs.Packaged.{finished, own, packaging}
+use Rattle.circuit_model.specs.Packaged.{finished, packaging}
 use Rattle.circuit_model.specs.Places.{place_of}
 use Rattle.circuit_model.specs.Effects.{open_effects, effects_after}
 use Rattle.circuit_model.specs.Words.{entry_after, log, effects}
 use Rattle.circ_relay.specs.declared.circuit.Circuit.{Circuit}
 use Rattle.circuit_model.specs.declared.next_hop.NextHop.{NextHop}
-use Rattle.circuit_model.specs.declared.next_hop.NextHop.TheVariants.{Absent, Dialling, Waiting, There}
-use Rattle.circ_relay.specs.CircuitOfLog.{HasParts, IsCircuit, IsMadeBy, AreAddresses, sends_create2}
-use Rattle.circ_relay.specs.Packaging.{PackagerState, IsPackager, IsPackagedNext}
-use Rattle.circ_relay.specs.PlacesOfLog.{ArePlaces}
+use Rattle.circuit_model.specs.declared.next_hop.NextHop.TheVariants.{Dialling, Waiting, There}
+use Rattle.circ_relay.specs.CircuitOfLog.{HasParts, IsCircuit, sends_create2}
+use Rattle.circ_relay.specs.Packaging.{PackagerState, IsPackagedNext}
 use Rattle.circ_relay.proofs.Doing.{when_open}
-use Rattle.circ_relay.proofs.Beginning.{nothing_is_held}
 use Rattle.circ_relay.proofs.Longer.{IsAside, aside_by, unclosed_after, packager_after, none_packaged, stands_still, same_streams, addresses_after, parts_after}
 use Rattle.circ_relay.proofs.Others.{no_message_leaves_places}
 use Rattle.circ_relay.proofs.QuietEvents.{backward_leaves, linked_leaves, answered_leaves}
-use Rattle.circ_relay.proofs.WindowMoves.{opening_is_fresh}
 
 -- What an event does in a circuit that has not closed.
 
@@ -63,13 +53,15 @@ backward_parts : (c : Circuit) (rules : Rules) (log : Log) (body : List ℕ) →
     HasParts c (entry_after rules log (Backward body) ∷ log)
 backward_parts c rules log body unclosed parts =
     let entry : Entry = entry_after rules log (Backward body) in
-    let aside : IsAside entry = aside_by entry (record no_effects { back = Some body }) refl refl (backward_does rules log body unclosed)
+    let aside : IsAside entry =
+    aside_by entry (record no_effects { back = Some body }) refl refl (backward_does rules log body unclosed)
     (record { dial = refl; cut = refl; makes_none = refl }) in
     parts_after c c entry log parts aside refl refl refl (packager_after c.packager entry log None refl refl (none_packaged c.packager log parts.packager))
     (stands_still c.windows log (entry ∷ log) parts.windows (backward_leaves rules log body))
     (no_message_leaves_places c.places rules log (Backward body) parts.places (none_either_way (is_closed log)) refl) (same_streams c.places)
 
-pub backward_keeps : (c : Circuit) (rules : Rules) (h : List Event) (body : List ℕ) → IsCircuit c rules h → IsCircuit c rules (Backward body ∷ h)
+pub backward_keeps : (c : Circuit) (rules : Rules) (h : List Event) (body : List ℕ) → IsCircuit c rules h
+    → IsCircuit c rules (Backward body ∷ h)
 backward_keeps c rules h body is = record {
   unclosed = unclosed_after (entry_after rules (log rules h) (Backward body)) (log rules h)
       (ap (λ (x : Effects). x.close) (backward_does rules (log rules h) body is.unclosed)) is.unclosed;
@@ -100,10 +92,12 @@ linked_parts c rules log unclosed parts dialling =
     record {
       hop = refl;
       asked = λ other. cc;
-      packager = packager_after c.packager entry log None refl (ap (λ (x : Effects). x.back) sends) (none_packaged c.packager log parts.packager);
+      packager =
+          packager_after c.packager entry log None refl (ap (λ (x : Effects). x.back) sends) (none_packaged c.packager log parts.packager);
       windows = stands_still c.windows log (entry ∷ log) parts.windows (linked_leaves rules log);
       places = no_message_leaves_places c.places rules log Linked parts.places (none_either_way (is_closed log)) refl;
-      addresses = addresses_after c.addresses c.places c.places entry log (same_streams c.places) (ap (λ (x : Effects). place_of x.edge) sends) parts.addresses;
+      addresses =
+          addresses_after c.addresses c.places c.places entry log (same_streams c.places) (ap (λ (x : Effects). place_of x.edge) sends) parts.addresses;
     }
 
 pub linked_keeps : (c : Circuit) (rules : Rules) (h : List Event) → c.next_hop ≡ Dialling → IsCircuit c rules h →
@@ -122,8 +116,10 @@ linked_gives c rules h dialling is = linked_sends c rules (log rules h) is.unclo
 
 -- What the next hop answered.
 
-pub answered_packages : (log : Log) (payload handshake body : List ℕ) → handshake_reply payload ≡ Some handshake → length handshake ≤ 496 →
-    body ≡ relay_body extended2_command 0 (handshake_reply_payload handshake) → answered_effects log payload ≡ record no_effects { back = Some (finished log body) }
+pub answered_packages : (log : Log) (payload handshake body : List ℕ) → handshake_reply payload ≡ Some handshake
+    → length handshake ≤ 496 →
+    body ≡ relay_body extended2_command 0 (handshake_reply_payload handshake)
+    → answered_effects log payload ≡ record no_effects { back = Some (finished log body) }
 answered_packages log payload handshake body read short is =
     ap (extending log) read
     ∙ ap (λ (b : Bool). if b then packaging log extended2_command 0 (handshake_reply_payload handshake) else closing 1) (le-leb (length handshake) 496 short)
@@ -135,7 +131,8 @@ answered_unread log payload none = ap (extending log) none
 long : (n : ℕ) → 496 < n → nat_le n 496 ≡ false
 long n more = grind arith
 
-pub answered_too_long : (log : Log) (payload handshake : List ℕ) → handshake_reply payload ≡ Some handshake → 496 < length handshake →
+pub answered_too_long : (log : Log) (payload handshake : List ℕ) → handshake_reply payload ≡ Some handshake
+    → 496 < length handshake →
     answered_effects log payload ≡ closing 1
 answered_too_long log payload handshake read more =
     ap (extending log) read
@@ -150,7 +147,8 @@ abbrev pub with_answer : Circuit → PackagerState → Circuit
 with_answer c packager = record c { next_hop = There; packager = packager }
 
 answered_parts : (c : Circuit) (packager : PackagerState) (rules : Rules) (log : Log) (payload body : List ℕ) → HasParts c log →
-    effects_after rules log (Answered payload) ≡ record no_effects { back = Some body } → IsPackagedNext packager log (Some body) →
+    effects_after rules log (Answered payload) ≡ record no_effects { back = Some body }
+    → IsPackagedNext packager log (Some body) →
     HasParts (with_answer c packager) (entry_after rules log (Answered payload) ∷ log)
 answered_parts c packager rules log payload body parts does packages =
     let entry : Entry = entry_after rules log (Answered payload) in
@@ -160,12 +158,15 @@ answered_parts c packager rules log payload body parts does packages =
       packager = packager_after packager entry log (Some body) refl (ap (λ (x : Effects). x.back) does) packages;
       windows = stands_still c.windows log (entry ∷ log) parts.windows (answered_leaves rules log payload);
       places = no_message_leaves_places c.places rules log (Answered payload) parts.places (none_either_way (is_closed log)) refl;
-      addresses = addresses_after c.addresses c.places c.places entry log (same_streams c.places) (ap (λ (x : Effects). place_of x.edge) does) parts.addresses;
+      addresses =
+          addresses_after c.addresses c.places c.places entry log (same_streams c.places) (ap (λ (x : Effects). place_of x.edge) does) parts.addresses;
     }
 
-pub answered_keeps : (c : Circuit) (packager : PackagerState) (rules : Rules) (h : List Event) (payload body : List ℕ) → IsCircuit c rules h →
+pub answered_keeps : (c : Circuit) (packager : PackagerState) (rules : Rules) (h : List Event) (payload body : List ℕ)
+    → IsCircuit c rules h →
     answered_effects (log rules h) payload ≡ record no_effects { back = Some (finished (log rules h) body) } →
-    IsPackagedNext packager (log rules h) (Some (finished (log rules h) body)) → IsCircuit (with_answer c packager) rules (Answered payload ∷ h)
+    IsPackagedNext packager (log rules h) (Some (finished (log rules h) body))
+    → IsCircuit (with_answer c packager) rules (Answered payload ∷ h)
 answered_keeps c packager rules h payload body is gives packages =
     let entry : Entry = entry_after rules (log rules h) (Answered payload) in
     let does : entry.effects ≡ record no_effects { back = Some (finished (log rules h) body) } =
@@ -177,61 +178,10 @@ answered_keeps c packager rules h payload body is gives packages =
       parts = answered_parts c packager rules (log rules h) payload (finished (log rules h) body) is.parts does packages;
     }
 
--- A circuit that was just opened.
-
-no_addresses : (addresses : List Dest) (state : PlacesState) → AreAddresses addresses state []
-no_addresses addresses state place stream of_log none held found = cc
-
-first_hop : (rules : Rules) (reply : CircuitCell) (keys : LayerKeys) (pad : Option (List ℕ)) → next_hop (entry_after rules [] (Born reply keys pad) ∷ []) ≡ Absent
-unfolding open_effects
-first_hop rules reply keys pad = refl
-
-nothing_packaged : (rules : Rules) (reply : CircuitCell) (keys : LayerKeys) (pad : Option (List ℕ)) → own (entry_after rules [] (Born reply keys pad) ∷ []) ≡ []
-unfolding open_effects
-nothing_packaged rules reply keys pad = refl
-
-nothing_closed : (rules : Rules) (reply : CircuitCell) (keys : LayerKeys) (pad : Option (List ℕ)) → is_closed (entry_after rules [] (Born reply keys pad) ∷ []) ≡ false
-unfolding open_effects
-nothing_closed rules reply keys pad = refl
-
-or_none : (pad : Option (List ℕ)) → option_or pad None ≡ pad
-or_none None = refl
-or_none (Some key) = refl
-
-no_place : (rules : Rules) (reply : CircuitCell) (keys : LayerKeys) (pad : Option (List ℕ)) → place_of (effects_after rules [] (Born reply keys pad)).edge ≡ None
-unfolding open_effects
-no_place rules reply keys pad = refl
-
-no_places : (state : PlacesState) → state ≡ record { streams = replicate 32 None; next_serial = 0; calls = 0 } → ArePlaces state []
-no_places state is = subst (λ (s : PlacesState). ArePlaces s []) (sym is) nothing_is_held
-
-opened_parts : (c : Circuit) (rules : Rules) (reply : CircuitCell) (keys : LayerKeys) (pad : Option (List ℕ)) → c.next_hop ≡ Absent →
-    ((log : Log) → own log ≡ [] → (born_keys log).db ≡ keys.db → born_pad log ≡ pad → IsPackager c.packager log) → HasCountsOf c.windows fresh_window →
-    c.places ≡ record { streams = replicate 32 None; next_serial = 0; calls = 0 } → HasParts c (entry_after rules [] (Born reply keys pad) ∷ [])
-opened_parts c rules reply keys pad hop packs stands free =
-    let entry : Entry = entry_after rules [] (Born reply keys pad) in
-    record {
-      hop = hop ∙ sym (first_hop rules reply keys pad);
-      asked = λ dialling. cc;
-      packager = packs (entry ∷ []) (nothing_packaged rules reply keys pad) refl (or_none pad);
-      windows = subst (λ (w : CircuitWindow). HasCountsOf c.windows w) (sym (opening_is_fresh rules reply keys pad)) stands;
-      places = no_message_leaves_places c.places rules [] (Born reply keys pad) (no_places c.places free) refl refl;
-      addresses = addresses_after c.addresses c.places c.places entry [] (same_streams c.places) (no_place rules reply keys pad) (no_addresses c.addresses c.places);
-    }
-
-pub opened : (c : Circuit) (rules : Rules) (reply : CircuitCell) (keys : LayerKeys) (pad : Option (List ℕ)) → c.next_hop ≡ Absent → c.early ≡ 0 → IsMadeBy c rules →
-    ((log : Log) → own log ≡ [] → (born_keys log).db ≡ keys.db → born_pad log ≡ pad → IsPackager c.packager log) → HasCountsOf c.windows fresh_window →
-    c.places ≡ record { streams = replicate 32 None; next_serial = 0; calls = 0 } → IsCircuit c rules (Born reply keys pad ∷ [])
-opened c rules reply keys pad hop early made packs stands free = record {
-  unclosed = nothing_closed rules reply keys pad;
-  early = early;
-  made = made;
-  parts = opened_parts c rules reply keys pad hop packs stands free;
-}
-
 -- What the code gives.
 
-pub put_forth : (e : Effects) (cell : CircuitCell) → e ≡ no_effects → record e { forth = Some cell } ≡ record no_effects { forth = Some cell }
+pub put_forth : (e : Effects) (cell : CircuitCell) → e ≡ no_effects
+    → record e { forth = Some cell } ≡ record no_effects { forth = Some cell }
 put_forth e cell none = ap (λ (x : Effects). record x { forth = Some cell }) none
 
 pub failed_gives : (c : Circuit) (rules : Rules) (h : List Event) → IsCircuit c rules h → effects rules h Failed ≡ closing 6

@@ -25,7 +25,8 @@ use Rattle.circ_relay.specs.PlacesOfLog.{is_edge_report, ArePlaces}
 use Rattle.circ_relay.proofs.Telling.{no_message_credits}
 use Rattle.circ_relay.proofs.Changing.{silent_entry_leaves_places}
 use Rattle.circ_relay.proofs.Reports.{orderless_is_silent, closed-edge, if-edge}
-use Rattle.circ_relay.proofs.Messages.{IsNoReport, message_is_no_report, other_command_credits, closing_credits}
+use Rattle.circ_relay.proofs.Messages.{IsNoReport, message_is_no_report, other_command_credits}
+use Rattle.circ_relay.proofs.StreamSendmes.{closing_credits}
 
 pub differs : (n m : ℕ) → n ≢ m → (n == m) ≡ false
 differs n m apart = grind arith
@@ -51,7 +52,8 @@ dialling-edge None = refl
 dialling-edge (Some to) = refl
 
 pub extend-edge : (log : Log) (m : Message) → (extend_effects log m).edge ≡ None
-extend-edge log m = if-edge (not m.early) _ _ refl (if-edge (not (is_absent (next_hop log))) _ _ refl (dialling-edge (address_asked m)))
+extend-edge log m =
+    if-edge (not m.early) _ _ refl (if-edge (not (is_absent (next_hop log))) _ _ refl (dialling-edge (address_asked m)))
 
 pub acknowledging-edge : (log : Log) (m : Message) → (acknowledging log m).edge ≡ None
 acknowledging-edge log m = if-edge (is_sendme_due (accepted_data log + 1)) _ _ refl refl
@@ -69,7 +71,8 @@ stream_sendme-edge log None = refl
 stream_sendme-edge log (Some serial) = if-edge _ _ _ refl refl
 
 pub sendme-edge : (rules : Rules) (log : Log) (m : Message) → (sendme_effects rules log m).edge ≡ None
-sendme-edge rules log m = if-edge (m.stream == 0) _ _ (if-edge (is_right_sendme rules log m.payload) _ _ refl refl) (stream_sendme-edge log m.place)
+sendme-edge rules log m =
+    if-edge (m.stream == 0) _ _ (if-edge (is_right_sendme rules log m.payload) _ _ refl refl) (stream_sendme-edge log m.place)
 
 -- Effects without an order.
 pub record IsOrderless (effects : Effects) : Type 0 where
@@ -103,7 +106,8 @@ behind-end rules log m =
     (if-orderless (m.command == begin_dir_command) _ _ (record { none = refl })
     (if-orderless (m.command == extend2_command) _ _ (record { none = extend-edge log m }) (record { none = refl }))))))
 
-placeless-orderless : (rules : Rules) (log : Log) (m : Message) → (m.command == begin_command) ≡ false → m.place ≡ None → IsOrderless (message_effects rules log m)
+placeless-orderless : (rules : Rules) (log : Log) (m : Message) → (m.command == begin_command) ≡ false → m.place ≡ None
+    → IsOrderless (message_effects rules log m)
 unfolding message_effects
 placeless-orderless rules log m begin none =
     else-orderless (m.command == begin_command) _ _ begin
@@ -111,10 +115,12 @@ placeless-orderless rules log m begin none =
     (if-orderless (m.command == end_command) _ _ (record { none = end-edge m m.place none })
     (behind-end rules log m)))
 
-pub placeless-edge : (rules : Rules) (log : Log) (m : Message) → (m.command == begin_command) ≡ false → m.place ≡ None → (message_effects rules log m).edge ≡ None
+pub placeless-edge : (rules : Rules) (log : Log) (m : Message) → (m.command == begin_command) ≡ false → m.place ≡ None
+    → (message_effects rules log m).edge ≡ None
 placeless-edge rules log m begin none = (placeless-orderless rules log m begin none).none
 
-ordinary-orderless : (rules : Rules) (log : Log) (m : Message) → (m.command == begin_command) ≡ false → (m.command == data_command) ≡ false → (m.command == end_command) ≡ false →
+ordinary-orderless : (rules : Rules) (log : Log) (m : Message) → (m.command == begin_command) ≡ false
+    → (m.command == data_command) ≡ false → (m.command == end_command) ≡ false →
     IsOrderless (message_effects rules log m)
 unfolding message_effects
 ordinary-orderless rules log m begin data_ end =
@@ -123,11 +129,13 @@ ordinary-orderless rules log m begin data_ end =
     (else-orderless (m.command == end_command) _ _ end
     (behind-end rules log m)))
 
-pub ordinary-edge : (rules : Rules) (log : Log) (m : Message) → (m.command == begin_command) ≡ false → (m.command == data_command) ≡ false → (m.command == end_command) ≡ false →
+pub ordinary-edge : (rules : Rules) (log : Log) (m : Message) → (m.command == begin_command) ≡ false
+    → (m.command == data_command) ≡ false → (m.command == end_command) ≡ false →
     (message_effects rules log m).edge ≡ None
 ordinary-edge rules log m begin data_ end = (ordinary-orderless rules log m begin data_ end).none
 
-forward-quiet : (rules : Rules) (log : Log) (command : ℕ) (closed : Bool) (r : Received) → ◌≡◌ {A = Option Message} (if closed then None else message_of r) None →
+forward-quiet : (rules : Rules) (log : Log) (command : ℕ) (closed : Bool) (r : Received)
+    → ◌≡◌ {A = Option Message} (if closed then None else message_of r) None →
     (if closed then no_effects else forward_effects rules log command r).edge ≡ None
 forward-quiet rules log command true r none = refl
 forward-quiet rules log command false TooManyEarly none = refl
@@ -135,10 +143,12 @@ forward-quiet rules log command false (Unrecognised plain) none = passed_on-edge
 forward-quiet rules log command false TooLong none = refl
 forward-quiet rules log command false (ForUs m) none = cc
 
-pub quiet-edge : (rules : Rules) (log : Log) (e : Event) → message_at log e ≡ None → is_edge_report e ≡ false → (effects_after rules log e).edge ≡ None
+pub quiet-edge : (rules : Rules) (log : Log) (e : Event) → message_at log e ≡ None → is_edge_report e ≡ false
+    → (effects_after rules log e).edge ≡ None
 unfolding open_effects
 quiet-edge rules log (Born reply keys pad) none other = closed-edge (is_closed log) no_effects refl
-quiet-edge rules log (Forward command body) none other = forward-quiet rules log command (is_closed log) (received log command body) none
+quiet-edge rules log (Forward command body) none other =
+    forward-quiet rules log command (is_closed log) (received log command body) none
 quiet-edge rules log (Backward body) none other = closed-edge (is_closed log) _ refl
 quiet-edge rules log (Connected serial) none other = cc
 quiet-edge rules log (Data serial bytes) none other = cc
@@ -150,8 +160,10 @@ quiet-edge rules log (Answered payload) none other = closed-edge (is_closed log)
 quiet-edge rules log Failed none other = closed-edge (is_closed log) (closing 6) refl
 
 no_report-by : (e : Event) → is_edge_report e ≡ false → IsNoReport e
-no_report-by (Born reply keys pad) other = record { connects = λ n. refl; frees = λ n. refl; packs = λ n. refl; drains = λ n. refl }
-no_report-by (Forward command body) other = record { connects = λ n. refl; frees = λ n. refl; packs = λ n. refl; drains = λ n. refl }
+no_report-by (Born reply keys pad) other =
+    record { connects = λ n. refl; frees = λ n. refl; packs = λ n. refl; drains = λ n. refl }
+no_report-by (Forward command body) other =
+    record { connects = λ n. refl; frees = λ n. refl; packs = λ n. refl; drains = λ n. refl }
 no_report-by (Backward body) other = record { connects = λ n. refl; frees = λ n. refl; packs = λ n. refl; drains = λ n. refl }
 no_report-by (Connected serial) other = cc
 no_report-by (Data serial bytes) other = cc
@@ -164,7 +176,8 @@ no_report-by Failed other = record { connects = λ n. refl; frees = λ n. refl; 
 
 -- The laws.
 
-pub orderless_leaves_places : (state : PlacesState) (log : Log) (entry : Entry) → ArePlaces state log → IsNoReport entry.event → entry.effects.edge ≡ None →
+pub orderless_leaves_places : (state : PlacesState) (log : Log) (entry : Entry) → ArePlaces state log → IsNoReport entry.event
+    → entry.effects.edge ≡ None →
     ((serial : ℕ) → (is_accepted sendme_command entry && has_place serial entry.message) ≡ false) → ArePlaces state (entry ∷ log)
 orderless_leaves_places state log entry are no_report none quiet =
     silent_entry_leaves_places state state log entry refl refl (ap place_of none)
@@ -177,7 +190,8 @@ no_message_leaves_places state rules log e are none other =
     orderless_leaves_places state log (entry_after rules log e) are (no_report-by e other) (quiet-edge rules log e none other)
     (λ serial. no_message_credits (entry_after rules log e) serial none)
 
-edge-of : (rules : Rules) (log : Log) (e : Event) (m : Message) → message_at log e ≡ Some m → (message_effects rules log m).edge ≡ None → (effects_after rules log e).edge ≡ None
+edge-of : (rules : Rules) (log : Log) (e : Event) (m : Message) → message_at log e ≡ Some m
+    → (message_effects rules log m).edge ≡ None → (effects_after rules log e).edge ≡ None
 edge-of rules log e m found none = ap (λ (x : Effects). x.edge) (read-effects rules log e m found) ∙ none
 
 none-last : (a : Bool) → (a && false) ≡ false
@@ -199,7 +213,8 @@ placeless_leaves_places state rules log e m are found other none =
     (λ serial. placeless_credits (entry_after rules log e) m serial found none)
 
 pub ordinary_leaves_places : (state : PlacesState) (rules : Rules) (log : Log) (e : Event) (m : Message) → ArePlaces state log →
-    message_at log e ≡ Some m → m.command ≢ begin_command → m.command ≢ data_command → m.command ≢ end_command → m.command ≢ sendme_command →
+    message_at log e ≡ Some m → m.command ≢ begin_command → m.command ≢ data_command → m.command ≢ end_command
+    → m.command ≢ sendme_command →
     ArePlaces state (entry_after rules log e ∷ log)
 ordinary_leaves_places state rules log e m are found begin data_ end sendme =
     orderless_leaves_places state log (entry_after rules log e) are (message_is_no_report log e m found)
@@ -207,12 +222,14 @@ ordinary_leaves_places state rules log e m are found begin data_ end sendme =
     (λ serial. other_command_credits (entry_after rules log e) m serial found (differs m.command sendme_command sendme))
 
 pub refused_leaves_places : (state : PlacesState) (rules : Rules) (log : Log) (e : Event) (m : Message) → ArePlaces state log →
-    message_at log e ≡ Some m → m.command ≡ begin_command → (effects_after rules log e).edge ≡ None → ArePlaces state (entry_after rules log e ∷ log)
+    message_at log e ≡ Some m → m.command ≡ begin_command → (effects_after rules log e).edge ≡ None
+    → ArePlaces state (entry_after rules log e ∷ log)
 refused_leaves_places state rules log e m are found command none =
     orderless_leaves_places state log (entry_after rules log e) are (message_is_no_report log e m found) none
     (λ serial. other_command_credits (entry_after rules log e) m serial found (ap (λ n. n == sendme_command) command))
 
-pub closing_leaves_places : (state : PlacesState) (rules : Rules) (log : Log) (e : Event) (m : Message) (reason : ℕ) → ArePlaces state log →
+pub closing_leaves_places : (state : PlacesState) (rules : Rules) (log : Log) (e : Event) (m : Message) (reason : ℕ)
+    → ArePlaces state log →
     message_at log e ≡ Some m → effects_after rules log e ≡ closing reason → ArePlaces state (entry_after rules log e ∷ log)
 closing_leaves_places state rules log e m reason are found does =
     orderless_leaves_places state log (entry_after rules log e) are (message_is_no_report log e m found) (ap (λ (x : Effects). x.edge) does)

@@ -69,7 +69,8 @@ good_by false false owed None = refl
 good_by false true owed (Some given) = good_by_same (bytes_eq given owed) given owed
 good_by false false owed (Some given) = refl
 
-pub right_by_answer : (rules : Rules) (log : Log) (payload : List ℕ) → is_right_sendme rules log payload ≡ is_good (answer_to rules.least (window_of log) payload)
+pub right_by_answer : (rules : Rules) (log : Log) (payload : List ℕ)
+    → is_right_sendme rules log payload ≡ is_good (answer_to rules.least (window_of log) payload)
 unfolding is_right_sendme
 right_by_answer rules log payload =
     let whole : Bool = nat_le (100 * (good_sendmes log + 1)) (circuit_packaged log) in
@@ -83,7 +84,8 @@ good_is (Wrong expected given) is = cc
 good_is NoneOwed is = cc
 good_is BadForm is = cc
 
-pub right_where_good : (rules : Rules) (log : Log) (payload : List ℕ) → is_right_sendme rules log payload ≡ true ↔ answer_to rules.least (window_of log) payload ≡ Good
+pub right_where_good : (rules : Rules) (log : Log) (payload : List ℕ)
+    → is_right_sendme rules log payload ≡ true ↔ answer_to rules.least (window_of log) payload ≡ Good
 right_where_good rules log payload = (
   λ right. good_is (answer_to rules.least (window_of log) payload) (sym (right_by_answer rules log payload) ∙ right),
   λ good. right_by_answer rules log payload ∙ ap is_good good,

@@ -24,16 +24,20 @@ use Rattle.circ_relay.proofs.Bools.{and-right}
 
 -- Windows.
 
-pub packs_by_the_log : (state : PlacesState) (log : Log) (place : ℕ) (h : Held) → ArePlaces state log → held_at state place ≡ Some h → pack_grant h ≡ stream_grant log h.serial
+pub packs_by_the_log : (state : PlacesState) (log : Log) (place : ℕ) (h : Held) → ArePlaces state log
+    → held_at state place ≡ Some h → pack_grant h ≡ stream_grant log h.serial
 packs_by_the_log state log place h are at = ap (λ n. 500 + 50 * n) (are.streams place h at).credits
 
-pub accepts_by_the_log : (state : PlacesState) (log : Log) (place : ℕ) (h : Held) → ArePlaces state log → held_at state place ≡ Some h → accept_grant h ≡ log_accept_grant log h.serial
+pub accepts_by_the_log : (state : PlacesState) (log : Log) (place : ℕ) (h : Held) → ArePlaces state log
+    → held_at state place ≡ Some h → accept_grant h ≡ log_accept_grant log h.serial
 accepts_by_the_log state log place h are at = ap (λ n. 500 + 50 * (n / 50)) (are.streams place h at).drained
 
-pub may_package_by_the_log : (state : PlacesState) (log : Log) (place : ℕ) (h : Held) → ArePlaces state log → held_at state place ≡ Some h →
+pub may_package_by_the_log : (state : PlacesState) (log : Log) (place : ℕ) (h : Held) → ArePlaces state log
+    → held_at state place ≡ Some h →
     may_package h ≡ nat_lt (stream_packaged log h.serial) (stream_grant log h.serial)
 may_package_by_the_log state log place h are at =
-    ap (λ n. nat_lt n (pack_grant h)) (are.streams place h at).packed ∙ ap (λ n. nat_lt (stream_packaged log h.serial) n) (packs_by_the_log state log place h are at)
+    ap (λ n. nat_lt n (pack_grant h)) (are.streams place h at).packed
+    ∙ ap (λ n. nat_lt (stream_packaged log h.serial) n) (packs_by_the_log state log place h are at)
 
 not-less : (a b : ℕ) (t : Bool) → nat_le b a ≡ t → nat_lt a b ≡ not t
 not-less a b true is = grind arith
@@ -43,14 +47,16 @@ not-at_most : (a b : ℕ) (t : Bool) → nat_lt b a ≡ t → nat_le a b ≡ not
 not-at_most a b true is = grind arith
 not-at_most a b false is = grind arith
 
-pub may_accept_by_the_log : (state : PlacesState) (log : Log) (place : ℕ) (h : Held) → ArePlaces state log → held_at state place ≡ Some h →
+pub may_accept_by_the_log : (state : PlacesState) (log : Log) (place : ℕ) (h : Held) → ArePlaces state log
+    → held_at state place ≡ Some h →
     may_accept h ≡ not (nat_le (log_accept_grant log h.serial) (carried log h.serial))
 may_accept_by_the_log state log place h are at =
     ap (λ n. nat_lt n (accept_grant h)) (are.streams place h at).accepted
     ∙ ap (λ n. nat_lt (carried log h.serial) n) (accepts_by_the_log state log place h are at)
     ∙ not-less (carried log h.serial) (log_accept_grant log h.serial) (nat_le (log_accept_grant log h.serial) (carried log h.serial)) refl
 
-pub may_credit_by_the_log : (state : PlacesState) (log : Log) (place : ℕ) (h : Held) → ArePlaces state log → held_at state place ≡ Some h →
+pub may_credit_by_the_log : (state : PlacesState) (log : Log) (place : ℕ) (h : Held) → ArePlaces state log
+    → held_at state place ≡ Some h →
     may_credit h ≡ not (nat_lt (stream_start + stream_packaged log h.serial) (stream_grant log h.serial + stream_step))
 may_credit_by_the_log state log place h are at =
     ap (λ n. nat_le (pack_grant h + 50) (500 + n)) (are.streams place h at).packed
@@ -58,7 +64,8 @@ may_credit_by_the_log state log place h are at =
     ∙ not-at_most (stream_grant log h.serial + stream_step) (stream_start + stream_packaged log h.serial)
     (nat_lt (stream_start + stream_packaged log h.serial) (stream_grant log h.serial + stream_step)) refl
 
-pub sendme_due_by_the_log : (state : PlacesState) (log : Log) (place : ℕ) (h : Held) → ArePlaces state log → held_at state place ≡ Some h →
+pub sendme_due_by_the_log : (state : PlacesState) (log : Log) (place : ℕ) (h : Held) → ArePlaces state log
+    → held_at state place ≡ Some h →
     sendme_due h ≡ (if nat_lt (drained log h.serial) (carried log h.serial) then Some (((drained log h.serial + 1) % stream_step) == 0) else None)
 sendme_due_by_the_log state log place h are at =
     ap (λ n. if nat_lt n h.accepted then Some (((n + 1) % 50) == 0) else None) (are.streams place h at).drained
@@ -85,10 +92,12 @@ abbrev is_live_at : Log → ℕ → Place → Bool
 is_live_at log id p = (p.key.stream == id) && is_live log p
 
 place-live : (log : Log) (h : Held) → IsOfLog log h → (p : Place) → p.key ≡ key_of h → is_live log p ≡ is_live_held h.phase
-place-live log h is p key = ap (λ (k : StreamKey). is_live_phase (phase log k.serial)) key ∙ ap is_live_phase is.phase ∙ same-liveness h.phase
+place-live log h is p key =
+    ap (λ (k : StreamKey). is_live_phase (phase log k.serial)) key ∙ ap is_live_phase is.phase ∙ same-liveness h.phase
 
 live_place-by : (state : PlacesState) (log : Log) → AreNamed log → (h : Held) → IsOfLog log h → is_live_held h.phase ≡ true →
-    (x : Option Place) → find (is_live_at log h.stream) (places log) ≡ x → option_map (λ (p : Place). p.key.serial) x ≡ Some h.serial
+    (x : Option Place) → find (is_live_at log h.stream) (places log) ≡ x
+    → option_map (λ (p : Place). p.key.serial) x ≡ Some h.serial
 live_place-by state log named h is live None found =
     absurd (true-false (is_live_at log h.stream is.place)
     (both (is.place.key.stream == h.stream) (is_live log is.place) (equal_true is.place.key.stream h.stream (ap (λ (k : StreamKey). k.stream) is.key)) (place-live log h is is.place is.key ∙ live))
@@ -96,7 +105,8 @@ live_place-by state log named h is live None found =
 live_place-by state log named h is live (Some q) found =
     let among : IsAmong (is_live_at log h.stream) (places log) q = found_among (is_live_at log h.stream) (places log) q found in
     let q_live : is_live log q ≡ true = and-right (q.key.stream == h.stream) (is_live log q) among.passes in
-    let q_stream : q.key.stream ≡ h.stream = same_by q.key.stream h.stream (and-left (q.key.stream == h.stream) (is_live log q) among.passes) in
+    let q_stream : q.key.stream ≡ h.stream =
+    same_by q.key.stream h.stream (and-left (q.key.stream == h.stream) (is_live log q) among.passes) in
     let same : among.place ≡ h.serial =
     named.live_once among.place h.serial q is.place among.got is.found q_live (place-live log h is is.place is.key ∙ live) (q_stream ∙ sym (ap (λ (k : StreamKey). k.stream) is.key)) in
     ap Some (named.numbered among.place q among.got ∙ same)
@@ -123,7 +133,8 @@ passes id (Some h) is = record {
   live = and-right (h.stream == id) (is_live_held h.phase) is;
 }
 
-pub live_found : (state : PlacesState) (log : Log) (id place : ℕ) → ArePlaces state log → AreNamed log → position (is_live_as id) state.streams ≡ Some place →
+pub live_found : (state : PlacesState) (log : Log) (id place : ℕ) → ArePlaces state log → AreNamed log
+    → position (is_live_as id) state.streams ≡ Some place →
     (h : Held) × (held_at state place ≡ Some h) × (h.stream ≡ id) × (h.phase ≢ held_ending) × (live_place log id ≡ Some h.serial)
 live_found state log id place are named first =
     let at = position-Some (is_live_as id) state.streams place None first in
@@ -133,7 +144,8 @@ live_found state log id place are named first =
       there.holds,
       there.named,
       live-not_ending h.phase there.live,
-      ap (λ n. live_place log n) (sym there.named) ∙ live_stream_is_live_place state log place h are named there.holds (live-not_ending h.phase there.live),
+      ap (λ n. live_place log n) (sym there.named)
+          ∙ live_stream_is_live_place state log place h are named there.holds (live-not_ending h.phase there.live),
     )
 
 -- Where no place passes.
@@ -149,10 +161,12 @@ head-fails : (b : Bool) (n m : ℕ) → suc m ≤ cond (not b) (1 + n) 0 → (b 
 head-fails true n m long = absurd (omega (arith, long))
 head-fails false n m long = (refl, omega (arith, long))
 
-all-fail : {A : Type 0} (p : A → Bool) (xs : List A) (i : ℕ) (d : A) → length xs ≤ position_or_len p xs → i < length xs → p (get_or xs i d) ≡ false
+all-fail : {A : Type 0} (p : A → Bool) (xs : List A) (i : ℕ) (d : A) → length xs ≤ position_or_len p xs → i < length xs
+    → p (get_or xs i d) ≡ false
 all-fail p [] i d long within = absurd (omega (arith, within))
 all-fail p (x ∷ xs) zero d long within = (head-fails (p x) (position_or_len p xs) (length xs) long).0
-all-fail p (x ∷ xs) (suc i) d long within = all-fail p xs i d (head-fails (p x) (position_or_len p xs) (length xs) long).1 (omega (arith, within))
+all-fail p (x ∷ xs) (suc i) d long within =
+    all-fail p xs i d (head-fails (p x) (position_or_len p xs) (length xs) long).1 (omega (arith, within))
 
 live-lasts : (p : Phase) → is_live_phase p ≡ true → p ≢ Free
 live-lasts Reaching is free = cc
@@ -160,17 +174,20 @@ live-lasts Joined is free = cc
 live-lasts Ending is free = cc
 live-lasts Free is free = cc
 
-passes-as : (id : ℕ) (held : Option Held) (h : Held) → held ≡ Some h → h.stream ≡ id → is_live_held h.phase ≡ true → is_live_as id held ≡ true
+passes-as : (id : ℕ) (held : Option Held) (h : Held) → held ≡ Some h → h.stream ≡ id → is_live_held h.phase ≡ true
+    → is_live_as id held ≡ true
 passes-as id held h holds named live =
     ap (is_live_as id) holds ∙ both (h.stream == id) (is_live_held h.phase) (equal_true h.stream id named) live
 
-none-passes : (state : PlacesState) (id place : ℕ) (h : Held) → position (is_live_as id) state.streams ≡ None → held_at state place ≡ Some h →
+none-passes : (state : PlacesState) (id place : ℕ) (h : Held) → position (is_live_as id) state.streams ≡ None
+    → held_at state place ≡ Some h →
     h.stream ≡ id → is_live_held h.phase ≡ true → ⊥
 none-passes state id place h none holds named live =
     true-false (is_live_as id (held_at state place)) (passes-as id (held_at state place) h holds named live)
     (all-fail (is_live_as id) state.streams place None (position-none (is_live_as id) state.streams none) (taken_within state place h holds))
 
-none-by : (state : PlacesState) (log : Log) (id : ℕ) → ArePlaces state log → AreNamed log → position (is_live_as id) state.streams ≡ None →
+none-by : (state : PlacesState) (log : Log) (id : ℕ) → ArePlaces state log → AreNamed log
+    → position (is_live_as id) state.streams ≡ None →
     (x : Option Place) → find (is_live_at log id) (places log) ≡ x → option_map (λ (p : Place). p.key.serial) x ≡ None
 none-by state log id are named none None found = refl
 none-by state log id are named none (Some q) found =
@@ -188,11 +205,13 @@ none-by state log id are named none (Some q) found =
     let live : is_live_held kept.stream.phase ≡ true = sym (place-live log kept.stream is q key) ∙ q_live in
     absurd (none-passes state id kept.place kept.stream none kept.holds stream live)
 
-pub none_live : (state : PlacesState) (log : Log) (id : ℕ) → ArePlaces state log → AreNamed log → position (is_live_as id) state.streams ≡ None → live_place log id ≡ None
+pub none_live : (state : PlacesState) (log : Log) (id : ℕ) → ArePlaces state log → AreNamed log
+    → position (is_live_as id) state.streams ≡ None → live_place log id ≡ None
 unfolding live_place
 none_live state log id are named none = none-by state log id are named none (find (is_live_at log id) (places log)) refl
 
-serial-by : (state : PlacesState) (log : Log) (id : ℕ) → ArePlaces state log → AreNamed log → (x : Option ℕ) → position (is_live_as id) state.streams ≡ x →
+serial-by : (state : PlacesState) (log : Log) (id : ℕ) → ArePlaces state log → AreNamed log → (x : Option ℕ)
+    → position (is_live_as id) state.streams ≡ x →
     option_and_then (λ place. option_map (λ (h : Held). h.serial) (held_at state place)) x ≡ live_place log id
 serial-by state log id are named None is = sym (none_live state log id are named is)
 serial-by state log id are named (Some place) is =

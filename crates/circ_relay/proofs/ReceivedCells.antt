@@ -36,19 +36,22 @@ use Rattle.circ_relay.proofs.AfterCells.{cell_parts}
 use Rattle.circ_relay.proofs.Longer.{made_after, unclosed_after, none_packaged, same_streams, stands_still}
 
 -- One RELAY_EARLY too many.
-pub too_many_does : (rules : Rules) (log : Log) (command : ℕ) (body : List ℕ) → is_closed log ≡ false → ((command == relay_early_command) && nat_le relay_early_limit (early_count log)) ≡ true
+pub too_many_does : (rules : Rules) (log : Log) (command : ℕ) (body : List ℕ) → is_closed log ≡ false
+    → ((command == relay_early_command) && nat_le relay_early_limit (early_count log)) ≡ true
     → effects_after rules log (Forward command body) ≡ closing 1
 unfolding open_effects received
 too_many_does rules log command body unclosed many = rw (unclosed, many) refl
 
 -- What the cell is, by its body without the layer.
 
-plain_received : (log : Log) (command : ℕ) (plain : List ℕ) (recognised fits : Bool) → ((command == relay_early_command) && nat_le relay_early_limit (early_count log)) ≡ false
+plain_received : (log : Log) (command : ℕ) (plain : List ℕ) (recognised fits : Bool)
+    → ((command == relay_early_command) && nat_le relay_early_limit (early_count log)) ≡ false
     → recognises log plain ≡ recognised → fits_length plain ≡ fits
     → received_plain log command plain ≡ (if recognised then (if fits then ForUs (message_in_body log command plain) else TooLong) else Unrecognised plain)
 plain_received log command plain recognised fits few is long = rw (few, is, long) refl
 
-cell_received : (opened : Opened) (log : Log) (command : ℕ) (body : List ℕ) (recognised fits : Bool) → IsCell opened log command body
+cell_received : (opened : Opened) (log : Log) (command : ℕ) (body : List ℕ) (recognised fits : Bool)
+    → IsCell opened log command body
     → recognises log opened.body ≡ recognised → fits_length opened.body ≡ fits
     → received log command body ≡ (if recognised then (if fits then ForUs (message_in_body log command opened.body) else TooLong) else Unrecognised opened.body)
 unfolding received
@@ -58,7 +61,8 @@ cell_received opened log command body recognised fits cell is long =
 
 -- Whether it is recognised.
 
-recognised_by : (b : Bool) (digest given : List ℕ) → Some given ≡ (if b then Some digest else None) → (b ≡ true) × (given ≡ digest)
+recognised_by : (b : Bool) (digest given : List ℕ) → Some given ≡ (if b then Some digest else None)
+    → (b ≡ true) × (given ≡ digest)
 recognised_by true digest given is = (refl, same_some given digest is)
 recognised_by false digest given is = cc
 
@@ -69,37 +73,45 @@ unrecognised_by false digest is = refl
 opens_as : (opened : Opened) (log : Log) (command : ℕ) (body : List ℕ) → IsCell opened log command body
     → opened.recognised ≡ (if recognises log opened.body then Some (digest_with log opened.body) else None)
 opens_as opened log command body cell =
-    cell.opens.recognised ∙ ap (λ (p : List ℕ). if recognises log p then Some (digest_with log p) else None) (sym cell.opens.plain)
+    cell.opens.recognised
+    ∙ ap (λ (p : List ℕ). if recognises log p then Some (digest_with log p) else None) (sym cell.opens.plain)
 
-is_recognised : (opened : Opened) (log : Log) (command : ℕ) (body digest : List ℕ) → IsCell opened log command body → opened.recognised ≡ Some digest
+is_recognised : (opened : Opened) (log : Log) (command : ℕ) (body digest : List ℕ) → IsCell opened log command body
+    → opened.recognised ≡ Some digest
     → (recognises log opened.body ≡ true) × (digest ≡ digest_with log opened.body)
 is_recognised opened log command body digest cell is =
     recognised_by (recognises log opened.body) (digest_with log opened.body) digest (sym is ∙ opens_as opened log command body cell)
 
-is_unrecognised : (opened : Opened) (log : Log) (command : ℕ) (body : List ℕ) → IsCell opened log command body → opened.recognised ≡ None → recognises log opened.body ≡ false
+is_unrecognised : (opened : Opened) (log : Log) (command : ℕ) (body : List ℕ) → IsCell opened log command body
+    → opened.recognised ≡ None → recognises log opened.body ≡ false
 is_unrecognised opened log command body cell is =
     unrecognised_by (recognises log opened.body) (digest_with log opened.body) (sym is ∙ opens_as opened log command body cell)
 
 -- A body for another hop.
 
-goes_on : (rules : Rules) (log : Log) (command : ℕ) (body plain : List ℕ) → is_closed log ≡ false → received log command body ≡ Unrecognised plain
+goes_on : (rules : Rules) (log : Log) (command : ℕ) (body plain : List ℕ) → is_closed log ≡ false
+    → received log command body ≡ Unrecognised plain
     → effects_after rules log (Forward command body) ≡ passed_on (next_hop log) (record { command = command; body = plain })
 unfolding open_effects
 goes_on rules log command body plain unclosed is = rw (unclosed, is) refl
 
-none_by : (closed : Bool) (r : Received) (plain : List ℕ) → r ≡ Unrecognised plain → (if closed then None else message_of r) ≡ None
+none_by : (closed : Bool) (r : Received) (plain : List ℕ) → r ≡ Unrecognised plain
+    → (if closed then None else message_of r) ≡ None
 none_by true r plain is = refl
 none_by false r plain is = rw is refl
 
-no_message : (log : Log) (command : ℕ) (body plain : List ℕ) → received log command body ≡ Unrecognised plain → message_at log (Forward command body) ≡ None
+no_message : (log : Log) (command : ℕ) (body plain : List ℕ) → received log command body ≡ Unrecognised plain
+    → message_at log (Forward command body) ≡ None
 no_message log command body plain is = none_by (is_closed log) (received log command body) plain is
 
-unrecognised_received : (opened : Opened) (log : Log) (command : ℕ) (body : List ℕ) → IsCell opened log command body → opened.recognised ≡ None
+unrecognised_received : (opened : Opened) (log : Log) (command : ℕ) (body : List ℕ) → IsCell opened log command body
+    → opened.recognised ≡ None
     → received log command body ≡ Unrecognised opened.body
 unrecognised_received opened log command body cell is =
     cell_received opened log command body false (fits_length opened.body) cell (is_unrecognised opened log command body cell is) refl
 
-pub passed_on_does : (opened : Opened) (rules : Rules) (log : Log) (command : ℕ) (body : List ℕ) → IsCell opened log command body → opened.recognised ≡ None
+pub passed_on_does : (opened : Opened) (rules : Rules) (log : Log) (command : ℕ) (body : List ℕ) → IsCell opened log command body
+    → opened.recognised ≡ None
     → effects_after rules log (Forward command body) ≡ passed_on (next_hop log) (record { command = command; body = opened.body })
 passed_on_does opened rules log command body cell is =
     goes_on rules log command body opened.body cell.unclosed (unrecognised_received opened log command body cell is)
@@ -117,10 +129,12 @@ passed_on_quiet Absent cell = record { back = refl; edge = refl; dial = refl; cu
 passed_on_quiet Dialling cell = record { back = refl; edge = refl; dial = refl; cut = refl }
 passed_on_quiet Waiting cell = record { back = refl; edge = refl; dial = refl; cut = refl }
 
-pub passed_on_parts : (c : Circuit) (opened : Opened) (rules : Rules) (log : Log) (command : ℕ) (body : List ℕ) → IsCell opened log command body → HasParts c log → opened.recognised ≡ None
+pub passed_on_parts : (c : Circuit) (opened : Opened) (rules : Rules) (log : Log) (command : ℕ) (body : List ℕ)
+    → IsCell opened log command body → HasParts c log → opened.recognised ≡ None
     → HasParts c (after_cell rules log command body)
 passed_on_parts c opened rules log command body cell has is =
-    let none : message_at log (Forward command body) ≡ None = no_message log command body opened.body (unrecognised_received opened log command body cell is) in
+    let none : message_at log (Forward command body) ≡ None =
+    no_message log command body opened.body (unrecognised_received opened log command body cell is) in
     let quiet = passed_on_quiet (next_hop log) (record { command = command; body = opened.body }) in
     cell_parts c c rules log command body (passed_on (next_hop log) (record { command = command; body = opened.body })) has
     (passed_on_does opened rules log command body cell is) quiet.dial quiet.cut quiet.edge refl refl refl
@@ -130,19 +144,23 @@ passed_on_parts c opened rules log command body cell has is =
 
 -- A Length that no relay cell has.
 
-long_does : (rules : Rules) (log : Log) (command : ℕ) (body : List ℕ) → is_closed log ≡ false → received log command body ≡ TooLong
+long_does : (rules : Rules) (log : Log) (command : ℕ) (body : List ℕ) → is_closed log ≡ false
+    → received log command body ≡ TooLong
     → effects_after rules log (Forward command body) ≡ closing 1
 unfolding open_effects
 long_does rules log command body unclosed is = rw (unclosed, is) refl
 
-pub too_long_does : (opened : Opened) (rules : Rules) (log : Log) (command : ℕ) (body digest : List ℕ) → IsCell opened log command body → opened.recognised ≡ Some digest
+pub too_long_does : (opened : Opened) (rules : Rules) (log : Log) (command : ℕ) (body digest : List ℕ)
+    → IsCell opened log command body → opened.recognised ≡ Some digest
     → fits_length opened.body ≡ false → effects_after rules log (Forward command body) ≡ closing 1
 too_long_does opened rules log command body digest cell is long =
     long_does rules log command body cell.unclosed (cell_received opened log command body true false cell (is_recognised opened log command body digest cell is).0 long)
 
 -- A message.
-pub brought : (opened : Opened) (message : CodeMessage) (log : Log) (command : ℕ) (body digest : List ℕ) → IsCell opened log command body → opened.recognised ≡ Some digest
-    → fits_length opened.body ≡ true → message.command ≡ (relay_head opened.body).command → message.stream ≡ (relay_head opened.body).stream
+pub brought : (opened : Opened) (message : CodeMessage) (log : Log) (command : ℕ) (body digest : List ℕ)
+    → IsCell opened log command body → opened.recognised ≡ Some digest
+    → fits_length opened.body ≡ true → message.command ≡ (relay_head opened.body).command
+    → message.stream ≡ (relay_head opened.body).stream
     → message.payload.now ≡ payload_of opened.body → message.digest ≡ digest → message.early ≡ (command == relay_early_command)
     → IsBrought message log command body (message_in_body log command opened.body)
 brought opened message log command body digest cell is fits commanded streamed paid digested early =
@@ -168,8 +186,10 @@ payload_fits body payload fits is =
 all-true : (a b c d : Bool) → a ≡ true → b ≡ true → c ≡ true → d ≡ true → (a && (b && (c && d))) ≡ true
 all-true a b c d p q r s = rw (p, q, r, s) refl
 
-pub data_for_live : (opened : Opened) (state : PlacesState) (command stream : ℕ) (digest : List ℕ) → opened.recognised ≡ Some digest → fits_length opened.body ≡ true
-    → command ≡ (relay_head opened.body).command → stream ≡ (relay_head opened.body).stream → command ≡ data_command → is_some (position (is_live_as stream) state.streams) ≡ true
+pub data_for_live : (opened : Opened) (state : PlacesState) (command stream : ℕ) (digest : List ℕ)
+    → opened.recognised ≡ Some digest → fits_length opened.body ≡ true
+    → command ≡ (relay_head opened.body).command → stream ≡ (relay_head opened.body).stream → command ≡ data_command
+    → is_some (position (is_live_as stream) state.streams) ≡ true
     → is_data_for_live opened state ≡ true
 data_for_live opened state command stream digest is fits commanded streamed data_ live =
     all-true (is_some opened.recognised) (fits_length opened.body) ((relay_head opened.body).command == data_command) (is_some (position (is_live_as (relay_head opened.body).stream) state.streams))
@@ -182,31 +202,39 @@ early_apart c d early log is has =
     subst (λ e. HasParts e log) (sym is)
     (record { hop = has.hop; asked = has.asked; packager = has.packager; windows = has.windows; places = has.places; addresses = has.addresses })
 
-pub made_early : (c d : Circuit) (early : ℕ) (rules : Rules) → d ≡ record c { early = early } → IsMadeBy c rules → IsMadeBy d rules
+pub made_early : (c d : Circuit) (early : ℕ) (rules : Rules) → d ≡ record c { early = early } → IsMadeBy c rules
+    → IsMadeBy d rules
 made_early c d early rules is made = subst (λ e. IsMadeBy e rules) (sym is) (record { start = made.start; least = made.least })
 
-pub limits_early : (c d e : Circuit) (early : ℕ) → d ≡ record c { early = early } → KeepsLimits d.windows e.windows → KeepsLimits c.windows e.windows
+pub limits_early : (c d e : Circuit) (early : ℕ) → d ≡ record c { early = early } → KeepsLimits d.windows e.windows
+    → KeepsLimits c.windows e.windows
 limits_early c d e early is keeps = record {
   start = keeps.start ∙ ap (λ (x : Circuit). x.windows.start) is;
   least = keeps.least ∙ ap (λ (x : Circuit). x.windows.least) is;
 }
 
 pub too_many : (c : Circuit) (rules : Rules) (h : List Event) (command : ℕ) (counts : Bool) → IsCircuit c rules h
-    → counts ≡ not ((command == relay_early_command) && nat_le relay_early_limit c.early) → ((command == relay_early_command) && nat_le relay_early_limit (early_count (log rules h))) ≡ not counts
+    → counts ≡ not ((command == relay_early_command) && nat_le relay_early_limit c.early)
+    → ((command == relay_early_command) && nat_le relay_early_limit (early_count (log rules h))) ≡ not counts
 too_many c rules h command counts is by =
     ap (λ n. (command == relay_early_command) && nat_le relay_early_limit n) (sym is.early)
     ∙ not-not ((command == relay_early_command) && nat_le relay_early_limit c.early) ∙ ap not (sym by)
 
-pub cell_of_history : (c : Circuit) (opened : Opened) (rules : Rules) (h : List Event) (command : ℕ) (body : List ℕ) (counts : Bool) → IsCircuit c rules h → IsOpened opened (log rules h) body
-    → counts ≡ not ((command == relay_early_command) && nat_le relay_early_limit c.early) → counts ≡ true → IsCell opened (log rules h) command body
+pub cell_of_history : (c : Circuit) (opened : Opened) (rules : Rules) (h : List Event) (command : ℕ) (body : List ℕ) (counts : Bool)
+    → IsCircuit c rules h → IsOpened opened (log rules h) body
+    → counts ≡ not ((command == relay_early_command) && nat_le relay_early_limit c.early) → counts ≡ true
+    → IsCell opened (log rules h) command body
 cell_of_history c opened rules h command body counts is opens by so =
     record { unclosed = is.unclosed; named = history_is_named rules h; opens = opens; few = too_many c rules h command counts is by ∙ ap not so }
 
-pub circuit_after : (c d : Circuit) (rules : Rules) (h : List Event) (command : ℕ) (body : List ℕ) (given : Effects) → IsCircuit c rules h → effects_after rules (log rules h) (Forward command body) ≡ given
-    → given.close ≡ None → d.early ≡ (if command == relay_early_command then c.early + 1 else c.early) → KeepsLimits c.windows d.windows → HasParts d (after_cell rules (log rules h) command body)
+pub circuit_after : (c d : Circuit) (rules : Rules) (h : List Event) (command : ℕ) (body : List ℕ) (given : Effects)
+    → IsCircuit c rules h → effects_after rules (log rules h) (Forward command body) ≡ given
+    → given.close ≡ None → d.early ≡ (if command == relay_early_command then c.early + 1 else c.early)
+    → KeepsLimits c.windows d.windows → HasParts d (after_cell rules (log rules h) command body)
     → IsCircuit d rules (Forward command body ∷ h)
 circuit_after c d rules h command body given is does none early limits has = record {
-  unclosed = unclosed_after (entry_after rules (log rules h) (Forward command body)) (log rules h) (ap (λ (e : Effects). e.close) does ∙ none) is.unclosed;
+  unclosed =
+      unclosed_after (entry_after rules (log rules h) (Forward command body)) (log rules h) (ap (λ (e : Effects). e.close) does ∙ none) is.unclosed;
   early = early ∙ ap (λ n. if command == relay_early_command then n + 1 else n) is.early;
   made = made_after c d rules is.made limits;
   parts = has;

@@ -1,11 +1,10 @@
--- What the edge reports of a held stream: the place is connected, gave bytes, drained a DATA, ended, or
--- is given back.
+-- What the edge reports of a held stream: the place is connected, gave bytes, drained a DATA, or is
+-- given back.
 use Rattle.std.proofs.Common.{◌≡◌, ◌≢◌, ℕ, ◌+◌, ◌==◌, ◌&&◌, List, ◌∷◌, Bool, true, false, if◌then◌else◌, Option, Some, None, refl, sym, ap, subst, ◌∙◌, arith}
 use Rattle.tor_spec.specs.RelayCell.{sendme_command}
-use Rattle.circuit_model.specs.declared.event.Event.TheVariants.{Connected, Data, Ended, Drained, Freed}
+use Rattle.circuit_model.specs.declared.event.Event.TheVariants.{Connected, Data, Drained, Freed}
 use Rattle.circuit_model.specs.Rules.{Rules}
-use Rattle.circuit_model.specs.Log.{Entry, Log, Message, Effects, StreamKey, no_effects, is_closed}
-use Rattle.circuit_model.specs.declared.effects.Order.TheVariants.{Close}
+use Rattle.circuit_model.specs.Log.{Entry, Log, Message, Effects, no_effects, is_closed}
 use Rattle.circuit_model.specs.declared.places.Phase.TheVariants.{Free}
 use Rattle.circuit_model.specs.Places.{Place, place_of, place_at, connects, frees, closes_place}
 use Rattle.circuit_model.specs.Windows.{is_data_of, is_accepted, has_place, carries, drains}
@@ -18,7 +17,7 @@ use Rattle.stream_edge.specs.declared.held.Phase.TheVariants.{Reaching as held_r
 use Rattle.stream_edge.specs.PlacesState.{PlacesState, held_at, with_held}
 use Rattle.stream_edge.specs.Streams.{after_packaging, after_draining, may_drain}
 use Rattle.circ_relay.specs.PlacesOfLog.{phase_of, IsOfLog, IsSilent, ArePlaces}
-use Rattle.circ_relay.proofs.Telling.{place_stays, phase_stays, phase_freed, phase_joined, phase_ending, packaged_stays, packaged_more, sendmes_stay, carried_stays, drained_stays, drained_more, no_message_credits}
+use Rattle.circ_relay.proofs.Telling.{place_stays, phase_stays, phase_freed, phase_joined, packaged_stays, packaged_more, sendmes_stay, carried_stays, drained_stays, drained_more, no_message_credits}
 use Rattle.circ_relay.proofs.Changing.{stream_changes, stream_goes}
 
 pub equal_to : (n : ℕ) → (n == n) ≡ true
@@ -32,14 +31,15 @@ held_lasts held_reaching is = cc
 held_lasts held_joined is = cc
 held_lasts held_ending is = cc
 
-nothing_by : (closed : Bool) → ◌≡◌ {A = Option Message} (if closed then None else None) None
+pub nothing_by : (closed : Bool) → ◌≡◌ {A = Option Message} (if closed then None else None) None
 nothing_by true = refl
 nothing_by false = refl
 
 -- An entry without an order for the edge.
 pub orderless_is_silent : (entry : Entry) (serial : ℕ) → entry.effects.edge ≡ None →
     (is_accepted sendme_command entry && has_place serial entry.message) ≡ false →
-    connects serial entry.event ≡ false → frees serial entry.event ≡ false → is_data_of serial entry.event ≡ false → drains serial entry.event ≡ false →
+    connects serial entry.event ≡ false → frees serial entry.event ≡ false → is_data_of serial entry.event ≡ false
+    → drains serial entry.event ≡ false →
     IsSilent entry serial
 orderless_is_silent entry serial none credits connects frees packs drains = record {
   connects = connects;
@@ -80,7 +80,8 @@ connected_joins state rules log place h are at reaching =
       place = is.place;
       found = place_stays entry log h.serial makes_none ∙ is.found;
       key = is.key;
-      phase = phase_joined entry log h.serial (is.phase ∙ ap phase_of reaching) (equal_to h.serial) refl (ap (closes_place h.serial) none);
+      phase =
+          phase_joined entry log h.serial (is.phase ∙ ap phase_of reaching) (equal_to h.serial) refl (ap (closes_place h.serial) none);
       packed = is.packed ∙ sym (packaged_stays entry log h.serial refl);
       credits = is.credits ∙ sym (sendmes_stay entry log h.serial (quiet h.serial));
       accepted = is.accepted ∙ sym (carried_stays entry log h.serial (ap (carries h.serial) none));
@@ -96,7 +97,8 @@ data-edge : (log : Log) (bytes : List ℕ) (place : Option Place) → (edge_data
 data-edge log bytes None = refl
 data-edge log bytes (Some place) = refl
 
-pub data-orders : (rules : Rules) (log : Log) (serial : ℕ) (bytes : List ℕ) → (effects_after rules log (Data serial bytes)).edge ≡ None
+pub data-orders : (rules : Rules) (log : Log) (serial : ℕ) (bytes : List ℕ)
+    → (effects_after rules log (Data serial bytes)).edge ≡ None
 unfolding open_effects
 data-orders rules log serial bytes = closed-edge (is_closed log) _ (data-edge log bytes (place_at log serial))
 
@@ -184,68 +186,3 @@ freed_frees state rules log place h are at =
     stream_goes state log entry place h at (ap place_of none)
     (λ serial apart. orderless_is_silent entry serial none (quiet serial) refl (unequal h.serial serial apart) refl refl)
     (phase_freed entry log h.serial (equal_to h.serial)) are
-
--- An order Close.
-
--- The entry ends one place and says nothing else.
-pub record IsClosing (entry : Entry) (key : StreamKey) (reason : ℕ) : Type 0 where
-  pub order : entry.effects.edge ≡ Some (Close key reason)
-  pub quiet : (serial : ℕ) → (is_accepted sendme_command entry && has_place serial entry.message) ≡ false
-  pub connects : (serial : ℕ) → connects serial entry.event ≡ false
-  pub frees : (serial : ℕ) → frees serial entry.event ≡ false
-  pub packs : (serial : ℕ) → is_data_of serial entry.event ≡ false
-  pub drains : (serial : ℕ) → drains serial entry.event ≡ false
-
-pub order_closes : (state : PlacesState) (log : Log) (entry : Entry) (place : ℕ) (h : Held) (key : StreamKey) (reason : ℕ) →
-    ArePlaces state log → held_at state place ≡ Some h → key.serial ≡ h.serial → IsClosing entry key reason →
-    ArePlaces (with_held state place (Some (record h { phase = held_ending }))) (entry ∷ log)
-order_closes state log entry place h key reason are at named closing =
-    let makes_none : place_of entry.effects.edge ≡ None = ap place_of closing.order in
-    let closes : (serial : ℕ) → closes_place serial entry.effects.edge ≡ (key.serial == serial) = λ serial. ap (closes_place serial) closing.order in
-    let carries_none : (serial : ℕ) → carries serial entry.effects.edge ≡ false = λ serial. ap (carries serial) closing.order in
-    let is : IsOfLog log h = are.streams place h at in
-    let ended : Held = record h { phase = held_ending } in
-    let becomes : IsOfLog (entry ∷ log) ended = record {
-      place = is.place;
-      found = place_stays entry log h.serial makes_none ∙ is.found;
-      key = is.key;
-      phase = phase_ending entry log h.serial (λ free. held_lasts h.phase (sym is.phase ∙ free)) (closing.frees h.serial)
-          (closes h.serial ∙ ap (λ n. n == h.serial) named ∙ equal_to h.serial);
-      packed = is.packed ∙ sym (packaged_stays entry log h.serial (closing.packs h.serial));
-      credits = is.credits ∙ sym (sendmes_stay entry log h.serial (closing.quiet h.serial));
-      accepted = is.accepted ∙ sym (carried_stays entry log h.serial (carries_none h.serial));
-      drained = is.drained ∙ sym (drained_stays entry log h.serial (closing.drains h.serial));
-    } in
-    stream_changes state log entry place h ended at makes_none
-    (λ serial apart. record {
-      connects = closing.connects serial;
-      frees = closing.frees serial;
-      closes = closes serial ∙ unequal key.serial serial (λ same. apart (same ∙ named));
-      packs = closing.packs serial;
-      credits = closing.quiet serial;
-      carries = carries_none serial;
-      drains = closing.drains serial;
-    })
-    refl becomes are
-
--- Ended.
-
-ended-orders : (rules : Rules) (log : Log) (serial reason : ℕ) (place : Place) → is_closed log ≡ false → place_at log serial ≡ Some place →
-    (effects_after rules log (Ended serial reason)).edge ≡ Some (Close place.key reason)
-unfolding open_effects
-ended-orders rules log serial reason place live found = rw (live, found) refl
-
-pub ended_ends : (state : PlacesState) (rules : Rules) (log : Log) (place : ℕ) (h : Held) (reason : ℕ) →
-    ArePlaces state log → is_closed log ≡ false → held_at state place ≡ Some h →
-    ArePlaces (with_held state place (Some (record h { phase = held_ending }))) (entry_after rules log (Ended h.serial reason) ∷ log)
-ended_ends state rules log place h reason are live at =
-    let entry : Entry = entry_after rules log (Ended h.serial reason) in
-    let is : IsOfLog log h = are.streams place h at in
-    order_closes state log entry place h is.place.key reason are at (ap (λ (k : StreamKey). k.serial) is.key) (record {
-      order = ended-orders rules log h.serial reason is.place live is.found;
-      quiet = λ serial. no_message_credits entry serial (nothing_by (is_closed log));
-      connects = λ serial. refl;
-      frees = λ serial. refl;
-      packs = λ serial. refl;
-      drains = λ serial. refl;
-    })

@@ -34,14 +34,16 @@ tested_by packed granted false true is tells =
 
 -- The counts of the stream and of the circuit.
 
-stream_count : (c : Circuit) (log : Log) (key : StreamKey) (place : ℕ) (stream : Held) → IsAt c key place stream → HasParts c log → stream.packed ≡ stream_packaged log key.serial
+stream_count : (c : Circuit) (log : Log) (key : StreamKey) (place : ℕ) (stream : Held) → IsAt c key place stream → HasParts c log
+    → stream.packed ≡ stream_packaged log key.serial
 stream_count c log key place stream at parts =
     (parts.places.streams place stream at.held).packed ∙ ap (λ n. stream_packaged log n) (named c key place stream at).1
 
 circuit_count : (c : Circuit) (log : Log) → HasParts c log → c.windows.packed ≡ circuit_packaged log
 circuit_count c log parts = parts.windows.packed ∙ packaged_count log
 
-circuit_grant_is : (c : Circuit) (rules : Rules) (log : Log) → IsMadeBy c rules → HasParts c log → granted_after c.windows.start c.windows.good ≡ circuit_grant rules log
+circuit_grant_is : (c : Circuit) (rules : Rules) (log : Log) → IsMadeBy c rules → HasParts c log
+    → granted_after c.windows.start c.windows.good ≡ circuit_grant rules log
 unfolding window_of
 circuit_grant_is c rules log made parts = (λ i. granted_after (made.start i) (parts.windows.good i))
 
@@ -51,12 +53,14 @@ stream_test c log key place stream at parts =
     ap (λ n. nat_lt (stream_packaged log n) (stream_grant log n)) (sym (named c key place stream at).1)
     ∙ sym (may_package_by_the_log c.places log place stream parts.places at.held)
 
-circuit_test : (c : Circuit) (rules : Rules) (log : Log) (result : Bool) → IsMadeBy c rules → HasParts c log → (result ≡ true ↔ HasRoom c.windows)
+circuit_test : (c : Circuit) (rules : Rules) (log : Log) (result : Bool) → IsMadeBy c rules → HasParts c log
+    → (result ≡ true ↔ HasRoom c.windows)
     → nat_lt (circuit_packaged log) (circuit_grant rules log) ≡ result
 circuit_test c rules log result made parts tells =
     let packed = circuit_count c log parts in
     let granted = circuit_grant_is c rules log made parts in
-    sym (λ i. nat_lt (packed i) (granted i)) ∙ tested_by c.windows.packed (granted_after c.windows.start c.windows.good) _ result refl tells
+    sym (λ i. nat_lt (packed i) (granted i))
+    ∙ tested_by c.windows.packed (granted_after c.windows.start c.windows.good) _ result refl tells
 
 -- Each answer.
 
@@ -69,7 +73,8 @@ stream_shuts c rules h key place stream count at shut count_is is =
     rw test (ap (λ n. Some (Stream, n)) (count_is ∙ stream_count c (log rules h) key place stream at is.parts))
 
 pub circuit_shuts : (c : Circuit) (rules : Rules) (h : List Event) (key : StreamKey) (place : ℕ) (stream : Held) (result : Bool) (count : ℕ)
-    → IsAt c key place stream → may_package stream ≡ true → (result ≡ true ↔ HasRoom c.windows) → result ≡ false → count ≡ c.windows.packed → IsCircuit c rules h
+    → IsAt c key place stream → may_package stream ≡ true → (result ≡ true ↔ HasRoom c.windows) → result ≡ false
+    → count ≡ c.windows.packed → IsCircuit c rules h
     → Some (CircuitShut, count) ≡ shut_window rules (log rules h) key.serial
 circuit_shuts c rules h key place stream result count at may tells shut count_is is =
     let test : nat_lt (stream_packaged (log rules h) key.serial) (stream_grant (log rules h) key.serial) ≡ true =
@@ -79,7 +84,8 @@ circuit_shuts c rules h key place stream result count at may tells shut count_is
     rw (test, closed) (ap (λ n. Some (CircuitShut, n)) (count_is ∙ circuit_count c (log rules h) is.parts))
 
 pub none_shuts : (c : Circuit) (rules : Rules) (h : List Event) (key : StreamKey) (place : ℕ) (stream : Held) (result : Bool)
-    → IsAt c key place stream → may_package stream ≡ true → (result ≡ true ↔ HasRoom c.windows) → result ≡ true → IsCircuit c rules h
+    → IsAt c key place stream → may_package stream ≡ true → (result ≡ true ↔ HasRoom c.windows) → result ≡ true
+    → IsCircuit c rules h
     → None ≡ shut_window rules (log rules h) key.serial
 none_shuts c rules h key place stream result at may tells allows is =
     let test : nat_lt (stream_packaged (log rules h) key.serial) (stream_grant (log rules h) key.serial) ≡ true =

@@ -14,7 +14,8 @@ use Rattle.circ_relay.specs.PlacesOfLog.{IsOfLog, IsUntold, IsSilent}
 pub places_stay : (entry : Entry) (log : Log) → place_of entry.effects.edge ≡ None → places (entry ∷ log) ≡ places log
 places_stay entry log none = rw none refl
 
-pub place_stays : (entry : Entry) (log : Log) (serial : ℕ) → place_of entry.effects.edge ≡ None → place_at (entry ∷ log) serial ≡ place_at log serial
+pub place_stays : (entry : Entry) (log : Log) (serial : ℕ) → place_of entry.effects.edge ≡ None
+    → place_at (entry ∷ log) serial ≡ place_at log serial
 place_stays entry log serial none = ap (λ (xs : List Place). slice_get xs serial) (places_stay entry log none)
 
 -- The phase.
@@ -45,7 +46,8 @@ not_ended_by false false connected is = refl
 
 not_freed : (log : Log) (serial : ℕ) → phase log serial ≢ Free → is_freed log serial ≡ false
 unfolding phase by_bits
-not_freed log serial other = not_freed_by (is_freed log serial) (is_ended log serial) (is_connected log serial) (phase log serial) refl other
+not_freed log serial other =
+    not_freed_by (is_freed log serial) (is_ended log serial) (is_connected log serial) (phase log serial) refl other
 
 not_ended : (log : Log) (serial : ℕ) → phase log serial ≡ Reaching → is_ended log serial ≡ false
 unfolding phase by_bits
@@ -69,33 +71,44 @@ phase_ending entry log serial other frees closes = rw (frees, closes, not_freed 
 
 -- The counts.
 
-pub packaged_stays : (entry : Entry) (log : Log) (serial : ℕ) → is_data_of serial entry.event ≡ false → stream_packaged (entry ∷ log) serial ≡ stream_packaged log serial
+pub packaged_stays : (entry : Entry) (log : Log) (serial : ℕ) → is_data_of serial entry.event ≡ false
+    → stream_packaged (entry ∷ log) serial ≡ stream_packaged log serial
 packaged_stays entry log serial other = rw other refl
 
-pub packaged_more : (entry : Entry) (log : Log) (serial : ℕ) → is_data_of serial entry.event ≡ true → stream_packaged (entry ∷ log) serial ≡ stream_packaged log serial + 1
+pub packaged_more : (entry : Entry) (log : Log) (serial : ℕ) → is_data_of serial entry.event ≡ true
+    → stream_packaged (entry ∷ log) serial ≡ stream_packaged log serial + 1
 packaged_more entry log serial is = rw is refl
 
-pub sendmes_stay : (entry : Entry) (log : Log) (serial : ℕ) → (is_accepted sendme_command entry && has_place serial entry.message) ≡ false → stream_sendmes (entry ∷ log) serial ≡ stream_sendmes log serial
+pub sendmes_stay : (entry : Entry) (log : Log) (serial : ℕ)
+    → (is_accepted sendme_command entry && has_place serial entry.message) ≡ false
+    → stream_sendmes (entry ∷ log) serial ≡ stream_sendmes log serial
 sendmes_stay entry log serial other = rw other refl
 
-pub sendmes_more : (entry : Entry) (log : Log) (serial : ℕ) → (is_accepted sendme_command entry && has_place serial entry.message) ≡ true → stream_sendmes (entry ∷ log) serial ≡ stream_sendmes log serial + 1
+pub sendmes_more : (entry : Entry) (log : Log) (serial : ℕ)
+    → (is_accepted sendme_command entry && has_place serial entry.message) ≡ true
+    → stream_sendmes (entry ∷ log) serial ≡ stream_sendmes log serial + 1
 sendmes_more entry log serial is = rw is refl
 
-pub carried_stays : (entry : Entry) (log : Log) (serial : ℕ) → carries serial entry.effects.edge ≡ false → carried (entry ∷ log) serial ≡ carried log serial
+pub carried_stays : (entry : Entry) (log : Log) (serial : ℕ) → carries serial entry.effects.edge ≡ false
+    → carried (entry ∷ log) serial ≡ carried log serial
 carried_stays entry log serial other = rw other refl
 
-pub carried_more : (entry : Entry) (log : Log) (serial : ℕ) → carries serial entry.effects.edge ≡ true → carried (entry ∷ log) serial ≡ carried log serial + 1
+pub carried_more : (entry : Entry) (log : Log) (serial : ℕ) → carries serial entry.effects.edge ≡ true
+    → carried (entry ∷ log) serial ≡ carried log serial + 1
 carried_more entry log serial is = rw is refl
 
-pub drained_stays : (entry : Entry) (log : Log) (serial : ℕ) → drains serial entry.event ≡ false → drained (entry ∷ log) serial ≡ drained log serial
+pub drained_stays : (entry : Entry) (log : Log) (serial : ℕ) → drains serial entry.event ≡ false
+    → drained (entry ∷ log) serial ≡ drained log serial
 drained_stays entry log serial other = rw other refl
 
-pub drained_more : (entry : Entry) (log : Log) (serial : ℕ) → drains serial entry.event ≡ true → drained (entry ∷ log) serial ≡ drained log serial + 1
+pub drained_more : (entry : Entry) (log : Log) (serial : ℕ) → drains serial entry.event ≡ true
+    → drained (entry ∷ log) serial ≡ drained log serial + 1
 drained_more entry log serial is = rw is refl
 
 -- An entry that is silent on a place.
 
-pub untold_stays : (entry : Entry) (log : Log) (serial : ℕ) → IsSilent entry serial → IsUntold log serial → IsUntold (entry ∷ log) serial
+pub untold_stays : (entry : Entry) (log : Log) (serial : ℕ) → IsSilent entry serial → IsUntold log serial
+    → IsUntold (entry ∷ log) serial
 untold_stays entry log serial silent untold = record {
   phase = phase_stays entry log serial silent.connects silent.frees silent.closes ∙ untold.phase;
   packed = packaged_stays entry log serial silent.packs ∙ untold.packed;
@@ -104,10 +117,12 @@ untold_stays entry log serial silent untold = record {
   drained = drained_stays entry log serial silent.drains ∙ untold.drained;
 }
 
-pub silent_phase : (entry : Entry) (log : Log) (serial : ℕ) → IsSilent entry serial → phase (entry ∷ log) serial ≡ phase log serial
+pub silent_phase : (entry : Entry) (log : Log) (serial : ℕ) → IsSilent entry serial
+    → phase (entry ∷ log) serial ≡ phase log serial
 silent_phase entry log serial silent = phase_stays entry log serial silent.connects silent.frees silent.closes
 
-pub stream_at_its_place : (entry : Entry) (log : Log) (h : Held) (is : IsOfLog log h) → place_at (entry ∷ log) h.serial ≡ Some is.place → IsSilent entry h.serial → IsOfLog (entry ∷ log) h
+pub stream_at_its_place : (entry : Entry) (log : Log) (h : Held) (is : IsOfLog log h)
+    → place_at (entry ∷ log) h.serial ≡ Some is.place → IsSilent entry h.serial → IsOfLog (entry ∷ log) h
 stream_at_its_place entry log h is found silent = record {
   place = is.place;
   found = found;
@@ -119,10 +134,13 @@ stream_at_its_place entry log h is found silent = record {
   drained = is.drained ∙ sym (drained_stays entry log h.serial silent.drains);
 }
 
-pub stream_stays : (entry : Entry) (log : Log) (h : Held) → place_of entry.effects.edge ≡ None → IsSilent entry h.serial → IsOfLog log h → IsOfLog (entry ∷ log) h
-stream_stays entry log h none silent is = stream_at_its_place entry log h is (place_stays entry log h.serial none ∙ is.found) silent
+pub stream_stays : (entry : Entry) (log : Log) (h : Held) → place_of entry.effects.edge ≡ None → IsSilent entry h.serial
+    → IsOfLog log h → IsOfLog (entry ∷ log) h
+stream_stays entry log h none silent is =
+    stream_at_its_place entry log h is (place_stays entry log h.serial none ∙ is.found) silent
 
 -- An entry that brings no message has no place accept a SENDME.
-pub no_message_credits : (entry : Entry) (serial : ℕ) → entry.message ≡ None → (is_accepted sendme_command entry && has_place serial entry.message) ≡ false
+pub no_message_credits : (entry : Entry) (serial : ℕ) → entry.message ≡ None
+    → (is_accepted sendme_command entry && has_place serial entry.message) ≡ false
 no_message_credits entry serial none =
     ap (λ (m : Option Message). (has_command sendme_command m && is_none entry.effects.close) && has_place serial m) none

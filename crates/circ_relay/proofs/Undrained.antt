@@ -12,9 +12,11 @@ use Rattle.circ_relay.specs.CircuitOfLog.{HasStream, HasUndrained}
 use Rattle.circ_relay.proofs.Edges.{at_found}
 
 -- A stream of this name is in a phase, and stands at this place: what the place holds tells of it.
-pub undrained_by_test : (c : Circuit) (key : StreamKey) (phase : Phase) (place : ℕ) (result : Bool) → HasStream c key phase → phase ≢ Ending
+pub undrained_by_test : (c : Circuit) (key : StreamKey) (phase : Phase) (place : ℕ) (result : Bool) → HasStream c key phase
+    → phase ≢ Ending
     → position (is_stream key.id key.serial) c.places.streams ≡ Some place
-    → ((h : Held) → held_at c.places place ≡ Some h → result ≡ may_drain h) → (result ≡ true → HasUndrained c key) × (HasUndrained c key → result ≡ true)
+    → ((h : Held) → held_at c.places place ≡ Some h → result ≡ may_drain h)
+    → (result ≡ true → HasUndrained c key) × (HasUndrained c key → result ≡ true)
 undrained_by_test c key phase place result has live first test =
     let at = at_found c key has.place place has.stream has.at first in
     let tells : result ≡ may_drain has.stream = test has.stream at.held in (

@@ -23,7 +23,8 @@ pub packaged_count : (log : Log) → length (window_of log).packaged ≡ circuit
 unfolding window_of
 packaged_count log = length-map (up_to_each_data (own log)) (back_digest log) ∙ count_packaged log
 
-pub room_of_log : (rules : Rules) (log : Log) → may_package rules.window (window_of log) ≡ nat_lt (circuit_packaged log) (circuit_grant rules log)
+pub room_of_log : (rules : Rules) (log : Log)
+    → may_package rules.window (window_of log) ≡ nat_lt (circuit_packaged log) (circuit_grant rules log)
 unfolding window_of
 room_of_log rules log = ap (λ n. nat_lt n (circuit_grant rules log)) (packaged_count log)
 
@@ -31,14 +32,16 @@ room_of_log rules log = ap (λ n. nat_lt n (circuit_grant rules log)) (packaged_
 pub keys_stay : (entry : Entry) (log : Log) → keys_in entry.event ≡ None → born_keys (entry ∷ log) ≡ born_keys log
 keys_stay entry log none = rw none
 
-pub event_leaves_keys : (rules : Rules) (log : Log) (event : Event) → keys_in event ≡ None → born_keys (entry_after rules log event ∷ log) ≡ born_keys log
+pub event_leaves_keys : (rules : Rules) (log : Log) (event : Event) → keys_in event ≡ None
+    → born_keys (entry_after rules log event ∷ log) ≡ born_keys log
 event_leaves_keys rules log event none = keys_stay (entry_after rules log event) log none
 
 -- The digests that are kept.
 
 under_same_keys : (entry : Entry) (log : Log) (bodies : List (List (List ℕ))) → keys_in entry.event ≡ None
     → map (back_digest (entry ∷ log)) bodies ≡ map (back_digest log) bodies
-under_same_keys entry log bodies opened = ap (λ (keys : LayerKeys). map (λ (b : List (List ℕ)). running_digest keys.db b) bodies) (keys_stay entry log opened)
+under_same_keys entry log bodies opened =
+    ap (λ (keys : LayerKeys). map (λ (b : List (List ℕ)). running_digest keys.db b) bodies) (keys_stay entry log opened)
 
 pub more_digests : (entry : Entry) (log : Log) (body : List ℕ) → keys_in entry.event ≡ None
     → packaged_by entry.event entry.effects.back ≡ Some body → is_data_body (Some body) ≡ true
@@ -56,7 +59,8 @@ same_digests entry log opened other =
 
 -- The window, by its three parts.
 
-windows_agree : (w v : CircuitWindow) → w.packaged ≡ v.packaged → w.acknowledged ≡ v.acknowledged → w.accepted ≡ v.accepted → w ≡ v
+windows_agree : (w v : CircuitWindow) → w.packaged ≡ v.packaged → w.acknowledged ≡ v.acknowledged → w.accepted ≡ v.accepted
+    → w ≡ v
 windows_agree w v p q r = λ i. record { packaged = p i; acknowledged = q i; accepted = r i }
 
 abbrev pub is_good_sendme : Entry → Bool
@@ -68,10 +72,12 @@ more_sendmes entry log is = rw is refl
 same_sendmes : (entry : Entry) (log : Log) → is_good_sendme entry ≡ false → good_sendmes (entry ∷ log) ≡ good_sendmes log
 same_sendmes entry log is = rw is refl
 
-more_accepted : (entry : Entry) (log : Log) → is_accepted data_command entry ≡ true → accepted_data (entry ∷ log) ≡ accepted_data log + 1
+more_accepted : (entry : Entry) (log : Log) → is_accepted data_command entry ≡ true
+    → accepted_data (entry ∷ log) ≡ accepted_data log + 1
 more_accepted entry log is = rw is refl
 
-same_accepted : (entry : Entry) (log : Log) → is_accepted data_command entry ≡ false → accepted_data (entry ∷ log) ≡ accepted_data log
+same_accepted : (entry : Entry) (log : Log) → is_accepted data_command entry ≡ false
+    → accepted_data (entry ∷ log) ≡ accepted_data log
 same_accepted entry log is = rw is refl
 
 -- What no entry does at once.
@@ -149,17 +155,21 @@ pub data_moves : (rules : Rules) (log : Log) (event : Event) → is_accepted dat
     → window_of (entry_after rules log event ∷ log) ≡ after_accepting (window_of log)
 data_moves rules log event accepted =
     let entry : Entry = entry_after rules log event in
-    let has : HasMessage (message_at log event) data_command = message_of_command data_command (message_at log event) (is_none entry.effects.close) accepted in
+    let has : HasMessage (message_at log event) data_command =
+    message_of_command data_command (message_at log event) (is_none entry.effects.close) accepted in
     entry_accepts entry log (message_no_keys log event has.message has.found) (message_no_data rules log event has.message has.found) (data_no_sendme entry has) accepted
 
-pub others_leave : (rules : Rules) (log : Log) (event : Event) → keys_in event ≡ None → packs_data (entry_after rules log event) ≡ false
+pub others_leave : (rules : Rules) (log : Log) (event : Event) → keys_in event ≡ None
+    → packs_data (entry_after rules log event) ≡ false
     → is_good_sendme (entry_after rules log event) ≡ false → is_accepted data_command (entry_after rules log event) ≡ false
     → window_of (entry_after rules log event ∷ log) ≡ window_of log
-others_leave rules log event opened packs other_sendme other_data = entry_leaves (entry_after rules log event) log opened packs other_sendme other_data
+others_leave rules log event opened packs other_sendme other_data =
+    entry_leaves (entry_after rules log event) log opened packs other_sendme other_data
 
 -- The opening.
 
-pub opening_is_fresh : (rules : Rules) (reply : CircuitCell) (keys : LayerKeys) (pad : Option (List ℕ)) → window_of (entry_after rules [] (Born reply keys pad) ∷ []) ≡ fresh_window
+pub opening_is_fresh : (rules : Rules) (reply : CircuitCell) (keys : LayerKeys) (pad : Option (List ℕ))
+    → window_of (entry_after rules [] (Born reply keys pad) ∷ []) ≡ fresh_window
 unfolding window_of open_effects
 opening_is_fresh rules reply keys pad = refl
 

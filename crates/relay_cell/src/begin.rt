@@ -23,7 +23,7 @@ pub struct Begin<'a> {
 /// What a BEGIN asks for, or `None` exactly where it is not `host:port` ended by a zero byte, with
 /// a host of 1 to 255 bytes and a port from 1 to 65,535 in one to five digits. That zeros may lead in the
 /// port, and anything may follow the zero byte, are rules of this relay.
-#[tactic(auto, using(tor_spec::proofs::Begins::cut_host), unfolding(tor_spec::specs::Begin::begin_target, tor_spec::specs::Begin::target_of_text, tor_spec::specs::Begin::target_of_parts))]
+#[tactic(auto, using(tor_spec::proofs::ReadTargets::cut_host), unfolding(tor_spec::specs::Begin::begin_target, tor_spec::specs::Begin::target_of_text, tor_spec::specs::Begin::target_of_parts))]
 pub fn read_begin(payload: &[u8]) -> Option<Begin<'_>>
     ensures some { IfSome result (λ begin. begin_target payload.now ≡ Some (target_of begin)) }
     ensures none { IfNone result (begin_target payload.now ≡ None) }

@@ -26,7 +26,7 @@ pub fn read_resolve(payload: &[u8]) -> Option<&[u8]>
 }
 
 /// The body of a RESOLVE for this name.
-#[tactic(auto, using(tor_spec::proofs::Begins::resolve_payload_is_read), unfolding(tor_spec::specs::Resolve::resolve_payload))]
+#[tactic(auto, using(tor_spec::proofs::Hosts::resolve_payload_is_read), unfolding(tor_spec::specs::Resolve::resolve_payload))]
 pub fn resolve_body(stream: u16, host: &[u8]) -> [u8; 509]
     requires { IsHost host.now }
     ensures body { result ≡ relay_body resolve_command stream (resolve_payload host.now) }

@@ -1,21 +1,19 @@
 //! The places of a circuit.
 
-ghost use Rattle.std.specs.Prelude.{◌≡◌, ℕ, ◌+◌, ◌^◌, ◌<◌, ◌≤◌, IsTrue, IfSome, IfNone, if◌then◌else◌, Option, Some, None, option_map, is_some, length, position, replicate};
-ghost use Rattle.stream_edge.specs.Streams.{after_accepting, after_credit, after_draining, after_packaging, begun, is_free, is_live_as, is_stream, may_accept, may_credit, may_drain, may_package, sendme_due};
+ghost use Rattle.std.specs.Prelude.{◌≡◌, ℕ, ◌+◌, ◌^◌, ◌<◌, ◌≤◌, IsTrue, IfSome, IfNone, Option, Some, None, option_map, is_some, length, position, replicate};
+ghost use Rattle.stream_edge.specs.Streams.{begun, is_free, is_live_as, is_stream};
 ghost use Rattle.stream_edge.specs.PlacesState.{IsCounted, IsEnding, IsLive, IsTaken, LivesOnce, held_at, with_held};
 ghost use Rattle.stream_edge.specs.declared.held.Held.{Held};
 
+mod finding;
+mod windows;
+
 use crate::held::{Held, Phase};
+use finding::{begun, free_place, live_place, stream_place};
 use std::marker::Model;
 
 /// The places of a circuit.
 const PLACES: usize = 32;
-
-/// The cells that a stream's window begins with (tor-spec, "Stream-level flow control").
-const START: u64 = 500;
-
-/// The cells by which each SENDME of the stream raises it.
-const STEP: u64 = 50;
 
 /// The number of a place, below 32.
 #[derive(Clone, Copy, PartialEq, Eq, Debug)]
@@ -133,7 +131,8 @@ impl Places {
     pub fn joined(&mut self, place: PlaceNo)
         requires calls { self.old.calls < 2 ^ 63 }
         requires live { IsLive self.old place.0 }
-        ensures stream { (h : Held) → held_at self.old place.0 ≡ Some h → self.new ≡ with_held self.old place.0 (Some (record h { phase = Phase.Joined })) }
+        ensures stream { (h : Held) → held_at self.old place.0 ≡ Some h →
+            self.new ≡ with_held self.old place.0 (Some (record h { phase = Phase.Joined })) }
         ensures calls { self.new.calls ≡ self.old.calls + 1 }
     {
         let stream = self.stream_at(place);
@@ -146,106 +145,12 @@ impl Places {
         );
     }
 
-    /// Counts a DATA cell that came for the stream, where its window allows one more.
-    pub fn accepted(&mut self, place: PlaceNo) -> AcceptAnswer
-        requires calls { self.old.calls < 2 ^ 63 }
-        requires live { IsLive self.old place.0 }
-        ensures answer { (h : Held) → held_at self.old place.0 ≡ Some h → result ≡ (if may_accept h then AcceptAnswer.Accepted else AcceptAnswer.Overrun) }
-        ensures counted { (h : Held) → held_at self.old place.0 ≡ Some h → self.new ≡ with_held self.old place.0 (Some (after_accepting h)) }
-        ensures calls { self.new.calls ≡ self.old.calls + 1 }
-    {
-        let stream = self.stream_at(place);
-        if stream.accepted < START + STEP * (stream.drained / STEP) {
-            self.put(
-                place,
-                Some(Held {
-                    accepted: stream.accepted + 1,
-                    ..stream
-                }),
-            );
-            AcceptAnswer::Accepted
-        } else {
-            self.put(place, Some(stream));
-            AcceptAnswer::Overrun
-        }
-    }
-
-    /// Counts an accepted DATA cell whose bytes the connection has taken. `None` exactly where there
-    /// is none; else whether a SENDME is due, which raises the window: for each 50th.
-    pub fn drained(&mut self, place: PlaceNo) -> Option<bool>
-        requires calls { self.old.calls < 2 ^ 63 }
-        requires live { IsLive self.old place.0 }
-        ensures answer { (h : Held) → held_at self.old place.0 ≡ Some h → result ≡ sendme_due h }
-        ensures counted { (h : Held) → held_at self.old place.0 ≡ Some h → self.new ≡ with_held self.old place.0 (Some (after_draining h)) }
-        ensures calls { self.new.calls ≡ self.old.calls + 1 }
-    {
-        let stream = self.stream_at(place);
-        if stream.drained < stream.accepted {
-            let drained = stream.drained + 1;
-            self.put(place, Some(Held { drained, ..stream }));
-            Some(drained % STEP == 0)
-        } else {
-            self.put(place, Some(stream));
-            None
-        }
-    }
-
-    /// Whether one more DATA cell may be packaged for the stream.
-    pub fn may_pack(&self, place: PlaceNo) -> bool
-        requires { IsLive self.now place.0 }
-        ensures { (h : Held) → held_at self.now place.0 ≡ Some h → result ≡ may_package h }
-    {
-        let stream = self.stream_at(place);
-        stream.packed < START + STEP * stream.credits
-    }
-
-    /// Counts a DATA cell that is packaged for the stream.
-    pub fn packed(&mut self, place: PlaceNo)
-        requires calls { self.old.calls < 2 ^ 63 }
-        requires live { IsLive self.old place.0 }
-        requires room { (h : Held) → held_at self.old place.0 ≡ Some h → IsTrue (may_package h) }
-        ensures stream { (h : Held) → held_at self.old place.0 ≡ Some h → self.new ≡ with_held self.old place.0 (Some (after_packaging h)) }
-        ensures calls { self.new.calls ≡ self.old.calls + 1 }
-    {
-        let stream = self.stream_at(place);
-        self.put(
-            place,
-            Some(Held {
-                packed: stream.packed + 1,
-                ..stream
-            }),
-        );
-    }
-
-    /// A SENDME of the stream, which raises its window by 50 cells, where it stays at or below its start.
-    pub fn credit(&mut self, place: PlaceNo) -> CreditAnswer
-        requires calls { self.old.calls < 2 ^ 63 }
-        requires live { IsLive self.old place.0 }
-        ensures answer { (h : Held) → held_at self.old place.0 ≡ Some h → result ≡ (if may_credit h then CreditAnswer.Raised else CreditAnswer.TooMuch) }
-        ensures counted { (h : Held) → held_at self.old place.0 ≡ Some h → self.new ≡ with_held self.old place.0 (Some (after_credit h)) }
-        ensures calls { self.new.calls ≡ self.old.calls + 1 }
-    {
-        let stream = self.stream_at(place);
-        if START + STEP * stream.credits + STEP <= START + stream.packed {
-            self.put(
-                place,
-                Some(Held {
-                    credits: stream.credits + 1,
-                    ..stream
-                }),
-            );
-            CreditAnswer::Raised
-        } else {
-            self.put(place, Some(stream));
-            CreditAnswer::TooMuch
-        }
-    }
-
     /// The stream has ended; its place stays taken until `freed`.
     pub fn ending(&mut self, place: PlaceNo)
         requires calls { self.old.calls < 2 ^ 63 }
         requires taken { IsTaken self.old place.0 }
-        ensures stream { (h : Held) → held_at self.old place.0 ≡ Some h → self.new ≡ with_held self.old place.0 (Some (record h { phase = Phase.Ending })) }
+        ensures stream { (h : Held) → held_at self.old place.0 ≡ Some h →
+            self.new ≡ with_held self.old place.0 (Some (record h { phase = Phase.Ending })) }
         ensures calls { self.new.calls ≡ self.old.calls + 1 }
     {
         let stream = self.stream_at(place);
@@ -268,23 +173,6 @@ impl Places {
         // A place that is taken is one of the 32.
         let _stream = self.stream_at(place);
         self.put(place, None);
-    }
-
-    /// How many DATA cells were packaged for the stream.
-    pub fn count(&self, place: PlaceNo) -> u64
-        requires { IsTaken self.now place.0 }
-        ensures { (h : Held) → held_at self.now place.0 ≡ Some h → result ≡ h.packed }
-    {
-        self.stream_at(place).packed
-    }
-
-    /// Whether a DATA cell that was accepted for the stream is undrained.
-    pub fn has_undrained(&self, place: PlaceNo) -> bool
-        requires { IsTaken self.now place.0 }
-        ensures { (h : Held) → held_at self.now place.0 ≡ Some h → result ≡ may_drain h }
-    {
-        let stream = self.stream_at(place);
-        stream.drained < stream.accepted
     }
 
     fn get(&self, place: PlaceNo) -> Option<Held>
@@ -318,60 +206,5 @@ impl Places {
     {
         self.streams[place.0 as usize] = stream;
         self.calls += 1;
-    }
-}
-
-fn live_place(streams: &[Option<Held>; 32], id: u16) -> Option<usize>
-    ensures first { result ≡ position (is_live_as id) streams.now }
-    ensures within { IfSome result (λ place. place < 32) }
-{
-    streams.iter().position(|stream| is_live_as(stream, id))
-}
-
-fn stream_place(streams: &[Option<Held>; 32], id: u16, serial: u64) -> Option<usize>
-    ensures first { result ≡ position (is_stream id serial) streams.now }
-    ensures within { IfSome result (λ place. place < 32) }
-{
-    streams
-        .iter()
-        .position(|stream| is_stream(stream, id, serial))
-}
-
-fn free_place(streams: &[Option<Held>; 32]) -> Option<usize>
-    ensures first { result ≡ position is_free streams.now }
-    ensures within { IfSome result (λ place. place < 32) }
-{
-    streams.iter().position(|stream| stream.is_none())
-}
-
-fn is_live_as(stream: &Option<Held>, id: u16) -> bool
-    ensures { result ≡ is_live_as id stream.now }
-{
-    match stream {
-        Some(stream) => stream.stream == id && stream.phase != Phase::Ending,
-        None => false,
-    }
-}
-
-fn is_stream(stream: &Option<Held>, id: u16, serial: u64) -> bool
-    ensures { result ≡ is_stream id serial stream.now }
-{
-    match stream {
-        Some(stream) => stream.stream == id && stream.serial == serial,
-        None => false,
-    }
-}
-
-fn begun(id: u16, serial: u64) -> Held
-    ensures { result ≡ begun id serial }
-{
-    Held {
-        stream: id,
-        serial,
-        phase: Phase::Reaching,
-        packed: 0,
-        credits: 0,
-        accepted: 0,
-        drained: 0,
     }
 }

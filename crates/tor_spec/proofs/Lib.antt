@@ -17,3 +17,6 @@ pub mod Texts
 pub mod VersionsLength
 pub mod WrongStarts
 pub mod Fitting
+pub mod Hosts
+pub mod ReadTargets
+pub mod TerminatedTexts

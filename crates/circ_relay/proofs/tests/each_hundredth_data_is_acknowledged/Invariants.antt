@@ -3,4 +3,5 @@ use Rattle.circ_relay.proofs.tests.each_hundredth_data_is_acknowledged.Given as 
 
 -- each cell is at most one more call
 abbrev pub invariant-loop-number : goal.invariant-loop-number
-invariant-loop-number g l = (l.circuit.windows.calls ≤ l.number) × (l.circuit.places.calls ≤ l.number) × (l.circuit.packager.padding.count ≤ l.number)
+invariant-loop-number g l =
+    (l.circuit.windows.calls ≤ l.number) × (l.circuit.places.calls ≤ l.number) × (l.circuit.packager.padding.count ≤ l.number)

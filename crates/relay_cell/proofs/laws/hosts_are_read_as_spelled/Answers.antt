@@ -1,4 +1,4 @@
-use Rattle.tor_spec.proofs.Begins.{spelled_host_is_read, read_host_is_spelled}
+use Rattle.tor_spec.proofs.Hosts.{spelled_host_is_read, read_host_is_spelled}
 use Rattle.relay_cell.proofs.laws.hosts_are_read_as_spelled.Goals as goal
 
 pub returns : goal.returns

@@ -1,4 +1,5 @@
-use Rattle.tor_spec.proofs.Begins.{spelled_target_is_read, read_target_is_spelled}
+use Rattle.tor_spec.proofs.Begins.{spelled_target_is_read}
+use Rattle.tor_spec.proofs.ReadTargets.{read_target_is_spelled}
 use Rattle.relay_cell.proofs.laws.targets_are_read_as_spelled.Goals as goal
 
 pub returns : goal.returns

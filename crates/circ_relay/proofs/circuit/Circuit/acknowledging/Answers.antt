@@ -22,7 +22,8 @@ returns-clause-packager c = λ log m packager windows same.
 
 pub returns-then-not-is_due-clause-effects : goal.returns-then-not-is_due-clause-effects
 returns-then-not-is_due-clause-effects c = λ log m packager windows same.
-    c.requires.blank ∙ sym (unacknowledged log m c.accepted-is_due.result (c.accepted-is_due.ensures.due (window_of log) windows) c.if-not-is_due.true)
+    c.requires.blank
+    ∙ sym (unacknowledged log m c.accepted-is_due.result (c.accepted-is_due.ensures.due (window_of log) windows) c.if-not-is_due.true)
 
 pub returns-then-not-is_due-clause-packager : goal.returns-then-not-is_due-clause-packager
 returns-then-not-is_due-clause-packager c = λ log m packager windows same.

@@ -7,7 +7,8 @@ use Rattle.circ_relay.proofs.circuit.Circuit.begin.Goals as goal
 
 pub returns-then-not-may_begin-clause-effects : goal.returns-then-not-may_begin-clause-effects
 returns-then-not-may_begin-clause-effects c = λ log command body m b has.
-    c.closing.ensures ∙ sym (refused_does c.args.message.now (rules_of c.args.rules.now) log command body m c.may_begin.result b (c.may_begin.ensures.test log has.places b.named) c.if-not-may_begin.true)
+    c.closing.ensures
+    ∙ sym (refused_does c.args.message.now (rules_of c.args.rules.now) log command body m c.may_begin.result b (c.may_begin.ensures.test log has.places b.named) c.if-not-may_begin.true)
 
 pub returns-in_default-clause-effects : goal.returns-in_default-clause-effects
 returns-in_default-clause-effects c = λ log command body m b has.

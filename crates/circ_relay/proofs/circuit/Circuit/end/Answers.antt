@@ -5,7 +5,8 @@ use Rattle.circ_relay.proofs.circuit.Circuit.end.Goals as goal
 
 pub returns-in_default-clause-effects : goal.returns-in_default-clause-effects
 returns-in_default-clause-effects c = λ log command body m b has.
-    c.none.ensures ∙ sym (placeless_end m (brought_place c.args.message.now log command body m None b (c.in_default.ensures.none log has.places b.named)))
+    c.none.ensures
+    ∙ sym (placeless_end m (brought_place c.args.message.now log command body m None b (c.in_default.ensures.none log has.places b.named)))
 
 pub returns-in_default-clause-parts : goal.returns-in_default-clause-parts
 returns-in_default-clause-parts c = λ rules log command body m b has is unclosed.

@@ -11,14 +11,19 @@ returns-then-not-counts-clause-effects c = λ rules h body is opens.
 
 pub returns-clause-effects : goal.returns-clause-effects
 returns-clause-effects c = λ rules h body is opens.
-    let cell = cell_of_history c.args.self.now c.args.opened.now rules h c.args.command body c.counts.result is opens c.counts.ensures.test c.if-not-counts.false in
-    let has = early_apart c.args.self.now c.counts.new.self c.counts.new.self.early (log rules h) c.counts.ensures.rest is.parts in
-    c.passed_on.ensures.effects (log rules h) has ∙ sym (passed_on_does c.args.opened.now rules (log rules h) c.args.command body cell c.requires)
+    let cell =
+    cell_of_history c.args.self.now c.args.opened.now rules h c.args.command body c.counts.result is opens c.counts.ensures.test c.if-not-counts.false in
+    let has =
+    early_apart c.args.self.now c.counts.new.self c.counts.new.self.early (log rules h) c.counts.ensures.rest is.parts in
+    c.passed_on.ensures.effects (log rules h) has
+    ∙ sym (passed_on_does c.args.opened.now rules (log rules h) c.args.command body cell c.requires)
 
 pub returns-clause-circuit : goal.returns-clause-circuit
 returns-clause-circuit c = λ rules h body is opens unclosed.
-    let cell = cell_of_history c.args.self.now c.args.opened.now rules h c.args.command body c.counts.result is opens c.counts.ensures.test c.if-not-counts.false in
-    let has = early_apart c.args.self.now c.counts.new.self c.counts.new.self.early (log rules h) c.counts.ensures.rest is.parts in
+    let cell =
+    cell_of_history c.args.self.now c.args.opened.now rules h c.args.command body c.counts.result is opens c.counts.ensures.test c.if-not-counts.false in
+    let has =
+    early_apart c.args.self.now c.counts.new.self c.counts.new.self.early (log rules h) c.counts.ensures.rest is.parts in
     circuit_after c.args.self.now c.counts.new.self rules h c.args.command body (effects_of c.passed_on.result) is
     (passed_on_does c.args.opened.now rules (log rules h) c.args.command body cell c.requires ∙ sym (c.passed_on.ensures.effects (log rules h) has)) unclosed
     (c.counts.ensures.early c.if-not-counts.false)

@@ -13,16 +13,20 @@ returns-then-not-counts-clause-effects c = λ h body is opens.
 pub returns-clause-effects : goal.returns-clause-effects
 returns-clause-effects c = λ h body is opens.
     let rules = rules_of c.args.rules.now in
-    let cell = cell_of_history c.args.self.now c.args.opened.now rules h c.args.command body c.counts.result is opens c.counts.ensures.test c.if-not-counts.false in
-    let has = early_apart c.args.self.now c.counts.new.self c.counts.new.self.early (log rules h) c.counts.ensures.rest is.parts in
+    let cell =
+    cell_of_history c.args.self.now c.args.opened.now rules h c.args.command body c.counts.result is opens c.counts.ensures.test c.if-not-counts.false in
+    let has =
+    early_apart c.args.self.now c.counts.new.self c.counts.new.self.early (log rules h) c.counts.ensures.rest is.parts in
     let made = made_early c.args.self.now c.counts.new.self c.counts.new.self.early rules c.counts.ensures.rest is.made in
     c.received.ensures.effects (log rules h) body cell made has
 
 pub returns-clause-circuit : goal.returns-clause-circuit
 returns-clause-circuit c = λ h body is opens unclosed.
     let rules = rules_of c.args.rules.now in
-    let cell = cell_of_history c.args.self.now c.args.opened.now rules h c.args.command body c.counts.result is opens c.counts.ensures.test c.if-not-counts.false in
-    let has = early_apart c.args.self.now c.counts.new.self c.counts.new.self.early (log rules h) c.counts.ensures.rest is.parts in
+    let cell =
+    cell_of_history c.args.self.now c.args.opened.now rules h c.args.command body c.counts.result is opens c.counts.ensures.test c.if-not-counts.false in
+    let has =
+    early_apart c.args.self.now c.counts.new.self c.counts.new.self.early (log rules h) c.counts.ensures.rest is.parts in
     let made = made_early c.args.self.now c.counts.new.self c.counts.new.self.early rules c.counts.ensures.rest is.made in
     circuit_after c.args.self.now c.received.new.self rules h c.args.command body (effects_of c.received.new.outcome) is (sym (c.received.ensures.effects (log rules h) body cell made has)) unclosed
     (c.received.ensures.early ∙ c.counts.ensures.early c.if-not-counts.false)

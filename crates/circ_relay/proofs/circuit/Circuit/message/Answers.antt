@@ -5,7 +5,8 @@ use Rattle.circ_relay.proofs.circuit.Circuit.message.Goals as goal
 
 pub returns-then-message-eq-DATA-clause-effects : goal.returns-then-message-eq-DATA-clause-effects
 returns-then-message-eq-DATA-clause-effects c = λ log command body m b made has.
-    c.data.ensures.effects log command body m b has ∙ sym (of_data (rules_of c.args.rules.now) log m (sym b.relay_command ∙ c.if-message-eq-DATA.true))
+    c.data.ensures.effects log command body m b has
+    ∙ sym (of_data (rules_of c.args.rules.now) log m (sym b.relay_command ∙ c.if-message-eq-DATA.true))
 
 pub returns-then-message-eq-DATA-clause-parts : goal.returns-then-message-eq-DATA-clause-parts
 returns-then-message-eq-DATA-clause-parts c = λ log command body m b made has unclosed.

@@ -1,6 +1,6 @@
 use Rattle.std.proofs.Common.{refl}
 use Rattle.circ_relay.specs.Values.{rules_of}
-use Rattle.circ_relay.proofs.Nexts.{opened}
+use Rattle.circ_relay.proofs.Opened.{opened}
 use Rattle.circ_relay.proofs.circuit.Circuit.new.Goals as goal
 
 pub returns-clause-circuit : goal.returns-clause-circuit

@@ -10,7 +10,8 @@ use Rattle.circ_relay.proofs.Nexts.{answered_packages, answered_unread, answered
 use Rattle.circ_relay.proofs.circuit.Circuit.next_answered.Goals.{in_default-via-in-Some+else-handshake-le-MOST_HDATA, in_default-via-in_default}
 use Rattle.circ_relay.proofs.circuit.Circuit.next_answered.Goals as goal
 
-gives : (c : goal.After-packaging) (l : Log) → answered_effects l c.args.payload.now ≡ record no_effects { back = Some (finished l c.extended2_body.result) }
+gives : (c : goal.After-packaging) (l : Log)
+    → answered_effects l c.args.payload.now ≡ record no_effects { back = Some (finished l c.extended2_body.result) }
 gives c l = answered_packages l c.args.payload.now c.in-Some.handshake.now c.extended2_body.result
     c.in-Some.ensures.some c.if-handshake-le-MOST_HDATA.true c.extended2_body.ensures.body
 

@@ -10,7 +10,8 @@ use Rattle.circ_relay.proofs.circuit.Circuit.other_message.Goals as goal
 
 pub returns-in-1-clause-effects : goal.returns-in-1-clause-effects
 returns-in-1-clause-effects c = λ log command body m b made has.
-    c.begin.ensures.effects log command body m b has ∙ sym (of_begin (rules_of c.args.rules.now) log m (sym b.relay_command ∙ c.in-1.is))
+    c.begin.ensures.effects log command body m b has
+    ∙ sym (of_begin (rules_of c.args.rules.now) log m (sym b.relay_command ∙ c.in-1.is))
 
 pub returns-in-1-clause-parts : goal.returns-in-1-clause-parts
 returns-in-1-clause-parts c = λ log command body m b made has unclosed.
@@ -18,7 +19,8 @@ returns-in-1-clause-parts c = λ log command body m b made has unclosed.
 
 pub returns-in-3-clause-effects : goal.returns-in-3-clause-effects
 returns-in-3-clause-effects c = λ log command body m b made has.
-    c.end.ensures.effects log command body m b has ∙ sym (of_end (rules_of c.args.rules.now) log m (sym b.relay_command ∙ c.in-3.is))
+    c.end.ensures.effects log command body m b has
+    ∙ sym (of_end (rules_of c.args.rules.now) log m (sym b.relay_command ∙ c.in-3.is))
 
 pub returns-in-3-clause-parts : goal.returns-in-3-clause-parts
 returns-in-3-clause-parts c = λ log command body m b made has unclosed.
@@ -26,7 +28,8 @@ returns-in-3-clause-parts c = λ log command body m b made has unclosed.
 
 pub returns-in-5-clause-effects : goal.returns-in-5-clause-effects
 returns-in-5-clause-effects c = λ log command body m b made has.
-    c.sendme.ensures.effects (rules_of c.args.rules.now) log command body m b made has ∙ sym (of_sendme (rules_of c.args.rules.now) log m (sym b.relay_command ∙ c.in-5.is))
+    c.sendme.ensures.effects (rules_of c.args.rules.now) log command body m b made has
+    ∙ sym (of_sendme (rules_of c.args.rules.now) log m (sym b.relay_command ∙ c.in-5.is))
 
 pub returns-in-5-clause-parts : goal.returns-in-5-clause-parts
 returns-in-5-clause-parts c = λ log command body m b made has unclosed.
@@ -34,7 +37,8 @@ returns-in-5-clause-parts c = λ log command body m b made has unclosed.
 
 pub returns-in-11-clause-effects : goal.returns-in-11-clause-effects
 returns-in-11-clause-effects c = λ log command body m b made has.
-    c.resolve.ensures.effects log command body m b has ∙ sym (of_resolve (rules_of c.args.rules.now) log m (sym b.relay_command ∙ c.in-11.is))
+    c.resolve.ensures.effects log command body m b has
+    ∙ sym (of_resolve (rules_of c.args.rules.now) log m (sym b.relay_command ∙ c.in-11.is))
 
 pub returns-in-11-clause-parts : goal.returns-in-11-clause-parts
 returns-in-11-clause-parts c = λ log command body m b made has unclosed.
@@ -42,7 +46,8 @@ returns-in-11-clause-parts c = λ log command body m b made has unclosed.
 
 pub returns-in-14-clause-effects : goal.returns-in-14-clause-effects
 returns-in-14-clause-effects c = λ log command body m b made has.
-    c.extend.ensures.effects log command body m b has ∙ sym (of_extend2 (rules_of c.args.rules.now) log m (sym b.relay_command ∙ c.in-14.is))
+    c.extend.ensures.effects log command body m b has
+    ∙ sym (of_extend2 (rules_of c.args.rules.now) log m (sym b.relay_command ∙ c.in-14.is))
 
 pub returns-in-14-clause-parts : goal.returns-in-14-clause-parts
 returns-in-14-clause-parts c = λ log command body m b made has unclosed.
@@ -60,7 +65,8 @@ returns-in-8-clause-parts c = λ log command body m b made has unclosed.
 
 pub returns-in-13-clause-effects : goal.returns-in-13-clause-effects
 returns-in-13-clause-effects c = λ log command body m b made has.
-    c.ending.ensures.effects log has.packager ∙ ap (λ n. ending log n 14) b.stream ∙ sym (of_begin_dir (rules_of c.args.rules.now) log m (sym b.relay_command ∙ c.in-13.is))
+    c.ending.ensures.effects log has.packager ∙ ap (λ n. ending log n 14) b.stream
+    ∙ sym (of_begin_dir (rules_of c.args.rules.now) log m (sym b.relay_command ∙ c.in-13.is))
 
 pub returns-in-13-clause-parts : goal.returns-in-13-clause-parts
 returns-in-13-clause-parts c = λ log command body m b made has unclosed.

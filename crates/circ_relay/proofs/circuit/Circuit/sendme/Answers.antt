@@ -7,7 +7,8 @@ use Rattle.circ_relay.proofs.circuit.Circuit.sendme.Goals as goal
 
 pub returns-in-Good-clause-effects : goal.returns-in-Good-clause-effects
 returns-in-Good-clause-effects c = λ rules log command body m b made has.
-    c.none.ensures ∙ sym (good_sendme_does rules log m c.args.message.now.payload.now c.proof_of.result (sym b.stream ∙ c.if-message-eq0.true) b.payload (c.proof_of.ensures.answer (window_of log) has.windows ∙ ap (λ n. answer_to n (window_of log) c.args.message.now.payload.now) made.least) c.in-Good.is)
+    c.none.ensures
+    ∙ sym (good_sendme_does rules log m c.args.message.now.payload.now c.proof_of.result (sym b.stream ∙ c.if-message-eq0.true) b.payload (c.proof_of.ensures.answer (window_of log) has.windows ∙ ap (λ n. answer_to n (window_of log) c.args.message.now.payload.now) made.least) c.in-Good.is)
 
 pub returns-in-Good-clause-parts : goal.returns-in-Good-clause-parts
 returns-in-Good-clause-parts c = λ rules log command body m b made has is unclosed.
@@ -16,10 +17,12 @@ returns-in-Good-clause-parts c = λ rules log command body m b made has is unclo
 
 pub returns-in_default-clause-effects : goal.returns-in_default-clause-effects
 returns-in_default-clause-effects c = λ rules log command body m b made has.
-    c.closing.ensures ∙ sym (other_sendme_does rules log m c.args.message.now.payload.now c.proof_of.result (sym b.stream ∙ c.if-message-eq0.true) b.payload (c.proof_of.ensures.answer (window_of log) has.windows ∙ ap (λ n. answer_to n (window_of log) c.args.message.now.payload.now) made.least) c.in_default.not-Good)
+    c.closing.ensures
+    ∙ sym (other_sendme_does rules log m c.args.message.now.payload.now c.proof_of.result (sym b.stream ∙ c.if-message-eq0.true) b.payload (c.proof_of.ensures.answer (window_of log) has.windows ∙ ap (λ n. answer_to n (window_of log) c.args.message.now.payload.now) made.least) c.in_default.not-Good)
 
 pub returns-in_default-clause-parts : goal.returns-in_default-clause-parts
-returns-in_default-clause-parts c = λ rules log command body m b made has is unclosed. absurd (unclosing c.closing.result c.closing.ensures unclosed)
+returns-in_default-clause-parts c =
+    λ rules log command body m b made has is unclosed. absurd (unclosing c.closing.result c.closing.ensures unclosed)
 
 pub returns-in_default-live_place-clause-effects : goal.returns-in_default-live_place-clause-effects
 returns-in_default-live_place-clause-effects c = λ rules log command body m b made has.

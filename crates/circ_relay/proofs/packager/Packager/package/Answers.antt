@@ -23,5 +23,6 @@ returns-clause-next c = λ log is longer more same.
     record {
       digest = rw (more, same.keys) now;
       key = c.put.ensures.key ∙ ap (λ (s : PackagerState). s.padding.key) c.self.view_is ∙ is.key ∙ sym same.pad;
-      count = rw (more, length-append before (c.put_digest.new.body ∷ [])) (omega (arith, c.put.ensures.count, ap (λ (s : PackagerState). s.padding.count) c.self.view_is, is.count));
+      count =
+          rw (more, length-append before (c.put_digest.new.body ∷ [])) (omega (arith, c.put.ensures.count, ap (λ (s : PackagerState). s.padding.count) c.self.view_is, is.count));
     }
