@@ -43,14 +43,16 @@ pub start_left : (a : List ℕ) (circ command : ℕ) → wrong_start a ≡ Some 
 start_left a circ command wrong bytes =
     ap (λ b. record { opening = true; bytes = b }) bytes ∙ sym (ap (λ r. r.left) (first_reading-wrong a _ wrong))
 
-pub refused_again : (u : Unread) (s : Stage) (rest piece : List ℕ) (circ command : ℕ) → u ≡ unread_of s rest → s ≡ Refused circ command
+pub refused_again : (u : Unread) (s : Stage) (rest piece : List ℕ) (circ command : ℕ) → u ≡ unread_of s rest
+    → s ≡ Refused circ command
     → IsSettled s rest → refusal (with_piece u piece) ≡ Some (circ, command)
 unfolding refusal
 refused_again u s rest piece circ command e r settled =
     let still : IsSettled (Refused circ command) rest = subst (λ t. IsSettled t rest) r settled in
     rw (e, r) (wrong_start-append (start_bytes circ command) piece (lit≤ tt) ∙ still.1)
 
-pub refused_left : (u : Unread) (s : Stage) (rest piece : List ℕ) (circ command : ℕ) → u ≡ unread_of s rest → s ≡ Refused circ command
+pub refused_left : (u : Unread) (s : Stage) (rest piece : List ℕ) (circ command : ℕ) → u ≡ unread_of s rest
+    → s ≡ Refused circ command
     → IsSettled s rest → u ≡ (reading (with_piece u piece)).left
 unfolding reading
 refused_left u s rest piece circ command e r settled =
@@ -75,8 +77,10 @@ finished u (Refused circ command) rest e settled empty left =
 
 pub unfinished : (u : Unread) (s : Stage) (rest : List ℕ) → u ≡ unread_of s rest → IsSettled s rest → rest ≢ [] → IsUnfinished u
 unfolding refusal
-unfinished u Opening rest e settled some = record { bytes = λ none. some (sym (ap (λ v. v.bytes) e) ∙ none); accepted = ap refusal e ∙ settled.0 }
-unfinished u Open rest e settled some = record { bytes = λ none. some (sym (ap (λ v. v.bytes) e) ∙ none); accepted = ap refusal e }
+unfinished u Opening rest e settled some =
+    record { bytes = λ none. some (sym (ap (λ v. v.bytes) e) ∙ none); accepted = ap refusal e ∙ settled.0 }
+unfinished u Open rest e settled some =
+    record { bytes = λ none. some (sym (ap (λ v. v.bytes) e) ∙ none); accepted = ap refusal e }
 unfinished u (Refused circ command) rest e settled some = absurd (some settled.0)
 
 pub empty_list : {A : Type 0} (xs : List A) → length xs ≡ 0 → xs ≡ []

@@ -36,7 +36,8 @@ reads_behind first bytes left start pushed cells formed empty push read tail eac
     }
 
 -- Where no cell has ended, all is left.
-pub reads_none : (a left : List ℕ) (cells : List Cell) → cell_at a ≡ None → cells ≡ [] → left ≡ a → Reads (later_reading a) cells left
+pub reads_none : (a left : List ℕ) (cells : List Cell) → cell_at a ≡ None → cells ≡ [] → left ≡ a
+    → Reads (later_reading a) cells left
 reads_none a left cells none empty all = rw (later_reading-none a none, empty, all) (record {
   read = refl;
   tail = refl;
@@ -45,32 +46,39 @@ reads_none a left cells none empty all = rw (later_reading-none a none, empty, a
 })
 
 -- The bytes of a cell that began in rest and ends in piece.
-taken : (rest piece last : List ℕ) (n : ℕ) → length rest ≤ n → last ≡ take (n - length rest) piece → rest ++ last ≡ take n (rest ++ piece)
+taken : (rest piece last : List ℕ) (n : ℕ) → length rest ≤ n → last ≡ take (n - length rest) piece
+    → rest ++ last ≡ take n (rest ++ piece)
 taken rest piece last n within cut =
     let size : length rest + (n - length rest) ≡ n = omega arith in
     ap (λ l. rest ++ l) cut ∙ sym (take-append-add rest piece (n - length rest)) ∙ ap (λ k. take k (rest ++ piece)) size
 
-dropped : (rest piece tail : List ℕ) (n : ℕ) → length rest ≤ n → tail ≡ drop (n - length rest) piece → tail ≡ drop n (rest ++ piece)
+dropped : (rest piece tail : List ℕ) (n : ℕ) → length rest ≤ n → tail ≡ drop (n - length rest) piece
+    → tail ≡ drop n (rest ++ piece)
 dropped rest piece tail n within cut =
     let size : length rest + (n - length rest) ≡ n = omega arith in
     cut ∙ sym (drop-append-add rest piece (n - length rest)) ∙ ap (λ k. drop k (rest ++ piece)) size
 
 pub cut_size : (rest piece last tail : List ℕ) (n : ℕ) → Cut rest piece last tail n → cell_size (rest ++ piece) ≡ Some n
     → cell_size (rest ++ last) ≡ Some (length (rest ++ last))
-cut_size rest piece last tail n cut size = rw (taken rest piece last n cut.begun cut.front) (cell_size-take (rest ++ piece) n size cut.ended)
+cut_size rest piece last tail n cut size =
+    rw (taken rest piece last n cut.begun cut.front) (cell_size-take (rest ++ piece) n size cut.ended)
 
 pub first_cut_size : (rest piece last tail : List ℕ) (n : ℕ) → Cut rest piece last tail n → first_size (rest ++ piece) ≡ Some n
     → first_size (rest ++ last) ≡ Some (length (rest ++ last))
-first_cut_size rest piece last tail n cut size = rw (taken rest piece last n cut.begun cut.front) (first_size-take (rest ++ piece) n size cut.ended)
+first_cut_size rest piece last tail n cut size =
+    rw (taken rest piece last n cut.begun cut.front) (first_size-take (rest ++ piece) n size cut.ended)
 
-pub cut_reading : (rest piece last tail : List ℕ) (n : ℕ) (c : WireCell) → Cut rest piece last tail n → cell_size (rest ++ piece) ≡ Some n
+pub cut_reading : (rest piece last tail : List ℕ) (n : ℕ) (c : WireCell) → Cut rest piece last tail n
+    → cell_size (rest ++ piece) ≡ Some n
     → c ≡ cell_of (rest ++ last) → with_cell c (later_reading tail) ≡ later_reading (rest ++ piece)
 cut_reading rest piece last tail n c cut size read =
     rw (read, taken rest piece last n cut.begun cut.front, dropped rest piece tail n cut.begun cut.back)
     (sym (later_reading-some (rest ++ piece) _ (cell_ended (rest ++ piece) n size cut.ended)))
 
-pub first_cut_reading : (rest piece last tail : List ℕ) (n : ℕ) (c : WireCell) → Cut rest piece last tail n → first_size (rest ++ piece) ≡ Some n
-    → wrong_start (rest ++ piece) ≡ None → c ≡ first_of (rest ++ last) → with_cell c (later_reading tail) ≡ first_reading (rest ++ piece)
+pub first_cut_reading : (rest piece last tail : List ℕ) (n : ℕ) (c : WireCell) → Cut rest piece last tail n
+    → first_size (rest ++ piece) ≡ Some n
+    → wrong_start (rest ++ piece) ≡ None → c ≡ first_of (rest ++ last)
+    → with_cell c (later_reading tail) ≡ first_reading (rest ++ piece)
 first_cut_reading rest piece last tail n c cut size start read =
     rw (read, taken rest piece last n cut.begun cut.front, dropped rest piece tail n cut.begun cut.back)
     (sym (first_reading-some (rest ++ piece) _ start (first_ended (rest ++ piece) n size cut.ended)))

@@ -10,9 +10,11 @@ use Rattle.cell_laws.specs.Body.{SpellsBody}
 use Rattle.cell_laws.proofs.Bytes.{IsBytes-drop, two_bytes, two_fit}
 
 abbrev made : ℕ → List ℕ → ℕ → ℕ → ℕ → RelayHead
-made command digest recognized stream size = record { command = command; recognized = recognized; stream = stream; digest = digest; length = size }
+made command digest recognized stream size =
+    record { command = command; recognized = recognized; stream = stream; digest = digest; length = size }
 
-same_head : (command : ℕ) (digest : List ℕ) (a b c m n k : ℕ) → a ≡ m → b ≡ n → c ≡ k → made command digest a b c ≡ made command digest m n k
+same_head : (command : ℕ) (digest : List ℕ) (a b c m n k : ℕ) → a ≡ m → b ≡ n → c ≡ k
+    → made command digest a b c ≡ made command digest m n k
 same_head command digest a b c m n k e f g = rw (e, f, g) refl
 
 -- The bytes of a head, and what is behind them.
@@ -37,7 +39,8 @@ head_read-at command recognized stream size _ behind four r_fits s_fits n_fits =
 size_bound : (h : RelayHead) (behind : List ℕ) → length h.digest ≡ 4 → length (laid_out h behind) ≡ 11 + length behind
 size_bound h behind four =
     let all : length (front_of h ++ behind) ≡ length (front_of h) + length behind = length-append (front_of h) behind in
-    let digest : length (h.digest ++ to_be_bytes w16 h.length) ≡ length h.digest + 2 = length-append h.digest (to_be_bytes w16 h.length) in
+    let digest : length (h.digest ++ to_be_bytes w16 h.length) ≡ length h.digest + 2 =
+    length-append h.digest (to_be_bytes w16 h.length) in
     let front : length (front_of h) ≡ 11 = omega arith in
     omega arith
 

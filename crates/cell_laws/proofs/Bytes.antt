@@ -16,10 +16,12 @@ pub IsBytes-drop : (n : ℕ) (bytes : List ℕ) → IsBytes bytes → IsBytes (d
 IsBytes-drop n bytes fits i = rw (get_or-drop n bytes i 0) (fits (n + i))
 
 pub IsBytes-left : (front back : List ℕ) → IsBytes (front ++ back) → IsBytes front
-IsBytes-left front back fits = subst IsBytes (take_at front back (length front) refl) (IsBytes-take (length front) (front ++ back) fits)
+IsBytes-left front back fits =
+    subst IsBytes (take_at front back (length front) refl) (IsBytes-take (length front) (front ++ back) fits)
 
 pub IsBytes-right : (front back : List ℕ) → IsBytes (front ++ back) → IsBytes back
-IsBytes-right front back fits = subst IsBytes (drop_at front back (length front) refl) (IsBytes-drop (length front) (front ++ back) fits)
+IsBytes-right front back fits =
+    subst IsBytes (drop_at front back (length front) refl) (IsBytes-drop (length front) (front ++ back) fits)
 
 pub IsBytes-cons : (byte : ℕ) (bytes : List ℕ) → byte < 256 → IsBytes bytes → IsBytes (byte ∷ bytes)
 IsBytes-cons byte bytes here later zero = here
@@ -52,7 +54,8 @@ two_fit h l more fits =
 
 pub four_bytes : (b0 b1 b2 b3 : ℕ) (more : List ℕ) → IsBytes (b0 ∷ b1 ∷ b2 ∷ b3 ∷ more)
     → to_be_bytes w32 (from_be_bytes w32 (b0 ∷ b1 ∷ b2 ∷ b3 ∷ [])) ≡ b0 ∷ b1 ∷ b2 ∷ b3 ∷ []
-four_bytes b0 b1 b2 b3 more fits = be_bytes_4 (b0 ∷ b1 ∷ b2 ∷ b3 ∷ []) _ refl (IsBytes-take 4 (b0 ∷ b1 ∷ b2 ∷ b3 ∷ more) fits) refl
+four_bytes b0 b1 b2 b3 more fits =
+    be_bytes_4 (b0 ∷ b1 ∷ b2 ∷ b3 ∷ []) _ refl (IsBytes-take 4 (b0 ∷ b1 ∷ b2 ∷ b3 ∷ more) fits) refl
 
 pub four_fit : (b0 b1 b2 b3 : ℕ) (more : List ℕ) → IsBytes (b0 ∷ b1 ∷ b2 ∷ b3 ∷ more)
     → from_be_bytes w32 (b0 ∷ b1 ∷ b2 ∷ b3 ∷ []) < 2 ^ 32

@@ -64,5 +64,6 @@ cell_again c more is =
     ∙ ap (λ d. Some (d, more)) (read_at c is (is_variable c.command) refl)
 
 -- No encoding of a cell begins another.
-pub encodings_apart : (c d : WireCell) (x y : List ℕ) → IsCell c → IsCell d → encoding c ++ x ≡ encoding d ++ y → (c ≡ d) × (x ≡ y)
+pub encodings_apart : (c d : WireCell) (x y : List ℕ) → IsCell c → IsCell d → encoding c ++ x ≡ encoding d ++ y
+    → (c ≡ d) × (x ≡ y)
 encodings_apart c d x y i j h = some_pair_parts c d x y (sym (cell_again c x i) ∙ ap cell_at h ∙ cell_again d y j)

@@ -85,7 +85,8 @@ leads_read found (Some to) first =
     ∙ ap (λ v. Some (record { ip = take 4 v; port = from_be_bytes w16 (drop 4 v) })) first.value
     ∙ ap Some (address_at to.ip to.port first.four first.port_fits)
 
-extend_read-at : (found : List Specifier) (rest : List ℕ) (to : Option Address) (t : ℕ) (h : List ℕ) → AllByRecursion IsSpecifier found
+extend_read-at : (found : List Specifier) (rest : List ℕ) (to : Option Address) (t : ℕ) (h : List ℕ)
+    → AllByRecursion IsSpecifier found
     → LeadsTo found to → SpellsRequest rest t h
     → extend_request (length found ∷ flat_map specifier_bytes found ++ rest) ≡ Some (record { to = to; handshake_type = t; handshake = h })
 unfolding extend_request destination request_behind
@@ -96,7 +97,8 @@ extend_read-at found rest to t h each leads spells =
 
 -- Link specifiers: what is read is spelled.
 
-told_length : (kind size type want : ℕ) → (is_specifier_length kind size ≡ true) → kind ≡ type → is_specifier_length type size ≡ nat_eq size want → size ≡ want
+told_length : (kind size type want : ℕ) → (is_specifier_length kind size ≡ true) → kind ≡ type
+    → is_specifier_length type size ≡ nat_eq size want → size ≡ want
 told_length kind size type want right same tells =
     eqb-true size want (sym tells ∙ sym (ap (λ k. is_specifier_length k size) same) ∙ right)
 
@@ -177,12 +179,14 @@ address_first s found is fits kind =
       place = refl;
       first = tt;
       kind = kind;
-      value = sym (ap (λ t. take 4 s.value ++ t) (be_bytes_2 (drop 4 s.value) _ two port_bytes refl) ∙ take-append-drop 4 s.value);
+      value =
+          sym (ap (λ t. take 4 s.value ++ t) (be_bytes_2 (drop 4 s.value) _ two port_bytes refl) ∙ take-append-drop 4 s.value);
       four = length-take-le 4 s.value (omega arith);
       port_fits = two_fit-list (drop 4 s.value) two port_bytes;
     }
 
-leads_behind : (s : Specifier) (found : List Specifier) (to : Option Address) → s.kind ≢ 0 → LeadsTo found to → LeadsTo (s ∷ found) to
+leads_behind : (s : Specifier) (found : List Specifier) (to : Option Address) → s.kind ≢ 0 → LeadsTo found to
+    → LeadsTo (s ∷ found) to
 leads_behind s found None other none = (other, none)
 leads_behind s found (Some to) other first = record {
   before = s ∷ first.before;
@@ -210,7 +214,8 @@ leads_spelled [] each values = tt
 leads_spelled (s ∷ found) each values =
     leads_by s found (is_address s) refl each.0 values.0 (leads_spelled found each.1 values.1)
 
-extend_spelled : (payload : List ℕ) (request : Extend) → IsBytes payload → extend_request payload ≡ Some request → SpellsExtend payload request
+extend_spelled : (payload : List ℕ) (request : Extend) → IsBytes payload → extend_request payload ≡ Some request
+    → SpellsExtend payload request
 unfolding extend_request destination request_behind
 extend_spelled [] request fits e = absurd (none-some request e)
 extend_spelled (count ∷ bytes) request fits e =
@@ -233,7 +238,8 @@ extend_spelled (count ∷ bytes) request fits e =
       handshake = handshake;
     })
 
-pub extend_law : (payload : List ℕ) (request : Extend) → IsBytes payload → SpellsExtend payload request ↔ (extend_request payload ≡ Some request)
+pub extend_law : (payload : List ℕ) (request : Extend) → IsBytes payload
+    → SpellsExtend payload request ↔ (extend_request payload ≡ Some request)
 extend_law payload request fits = (
   λ spells. ap extend_request spells.spelling
       ∙ extend_read-at spells.found spells.rest request.to request.handshake_type request.handshake spells.specifiers spells.leads spells.handshake,

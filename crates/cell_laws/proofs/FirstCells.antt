@@ -45,7 +45,8 @@ opening_start payload more = rw (le-ltb (length (opening payload ++ more)) 3 (om
 -- The opening cell is read from its encoding, whatever follows it.
 pub first_again : (c : WireCell) (more : List ℕ) → IsFirstCell c → first_at (first_encoding c ++ more) ≡ Some (c, more)
 first_again c more is =
-    ap (λ e. first_at (e ++ more)) (opening_is c is) ∙ opening_at c.payload more is.variable ∙ ap (λ d. Some (d, more)) (first_is c is)
+    ap (λ e. first_at (e ++ more)) (opening_is c is) ∙ opening_at c.payload more is.variable
+    ∙ ap (λ d. Some (d, more)) (first_is c is)
 
 pub right_start_again : (c : WireCell) (more : List ℕ) → IsFirstCell c → wrong_start (first_encoding c ++ more) ≡ None
 right_start_again c more is = ap (λ e. wrong_start (e ++ more)) (opening_is c is) ∙ opening_start c.payload more
@@ -63,7 +64,8 @@ first_spelled (b0 ∷ b1 ∷ k ∷ h ∷ l ∷ payload) fits size start =
     let long : length payload ≡ from_be_bytes w16 (h ∷ l ∷ []) = omega arith in
     let front : IsBytes (b0 ∷ b1 ∷ []) = IsBytes-take 2 b fits in
     let two : IsBytes (h ∷ l ∷ []) = IsBytes-take 2 (h ∷ l ∷ payload) (IsBytes-drop 3 b fits) in
-    let circuit_bytes : to_be_bytes w16 (from_be_bytes w16 (b0 ∷ b1 ∷ [])) ≡ b0 ∷ b1 ∷ [] = be_bytes_2 (b0 ∷ b1 ∷ []) _ refl front refl in
+    let circuit_bytes : to_be_bytes w16 (from_be_bytes w16 (b0 ∷ b1 ∷ [])) ≡ b0 ∷ b1 ∷ [] =
+    be_bytes_2 (b0 ∷ b1 ∷ []) _ refl front refl in
     let length_bytes : to_be_bytes w16 (length payload) ≡ h ∷ l ∷ [] = be_bytes_2 (h ∷ l ∷ []) (length payload) refl two long in
     let high : h < 256 = two 0 in
     let low : l < 256 = two 1 in
@@ -84,7 +86,8 @@ pub record FoundFirst (a : List ℕ) (c : WireCell) (rest : List ℕ) : Type 0 w
   pub cell : IsFirstCell c
   pub bytes : IsBytes rest
 
-first_found : (a : List ℕ) (found : WireCell × List ℕ) → IsBytes a → wrong_start a ≡ None → first_at a ≡ Some found → FoundFirst a found.0 found.1
+first_found : (a : List ℕ) (found : WireCell × List ℕ) → IsBytes a → wrong_start a ≡ None → first_at a ≡ Some found
+    → FoundFirst a found.0 found.1
 unfolding first_at
 first_found a found fits start e = option_and_then_some _ _ found e (λ n size cut.
     let parts = cond_some _ _ _ cut in
@@ -110,7 +113,8 @@ pub record SpelledPrefix (bytes : List ℕ) (cells : List WireCell) : Type 0 whe
 none_spelled : (bytes : List ℕ) → SpelledPrefix bytes []
 none_spelled bytes = record { front = []; rest = bytes; cut = refl; spelled = refl }
 
-first_spelled-at : (bytes : List ℕ) → IsBytes bytes → wrong_start bytes ≡ None → (o : Option (WireCell × List ℕ)) → first_at bytes ≡ o
+first_spelled-at : (bytes : List ℕ) → IsBytes bytes → wrong_start bytes ≡ None → (o : Option (WireCell × List ℕ))
+    → first_at bytes ≡ o
     → SpelledPrefix bytes (first_reading bytes).cells
 first_spelled-at bytes fits start None e = rw (first_reading-none bytes start e) (none_spelled bytes)
 first_spelled-at bytes fits start (Some found) e =
@@ -123,7 +127,8 @@ first_spelled-at bytes fits start (Some found) e =
       spelled = (own.cell, flat_map encoding (later_reading found.1).cells, refl, record { text = refl; each = later.each });
     })
 
-first_spelled-by : (bytes : List ℕ) → IsBytes bytes → (o : Option (ℕ × ℕ)) → wrong_start bytes ≡ o → SpelledPrefix bytes (first_reading bytes).cells
+first_spelled-by : (bytes : List ℕ) → IsBytes bytes → (o : Option (ℕ × ℕ)) → wrong_start bytes ≡ o
+    → SpelledPrefix bytes (first_reading bytes).cells
 first_spelled-by bytes fits (Some x) wrong = rw (first_reading-wrong bytes x wrong) (none_spelled bytes)
 first_spelled-by bytes fits None start = first_spelled-at bytes fits start (first_at bytes) refl
 
@@ -140,7 +145,8 @@ longest-at rest first cells more is spells =
     ∙ ap (with_cell first) (ap later_reading (ap (λ m. m ++ rest) spells.text) ∙ spelled_first cells rest spells.each)
 
 -- And they are the longest such list: each other begins it.
-pub whole_first_longest : (bytes : List ℕ) (cells : List WireCell) → SpelledPrefix bytes cells → (others : List WireCell) × (whole_first bytes ≡ cells ++ others)
+pub whole_first_longest : (bytes : List ℕ) (cells : List WireCell) → SpelledPrefix bytes cells
+    → (others : List WireCell) × (whole_first bytes ≡ cells ++ others)
 unfolding whole_first reading
 whole_first_longest bytes [] p = ((first_reading bytes).cells, refl)
 whole_first_longest bytes (first ∷ cells) p = (

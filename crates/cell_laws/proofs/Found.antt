@@ -23,7 +23,8 @@ spelled_variable (b0 ∷ b1 ∷ b2 ∷ b3 ∷ k ∷ h ∷ l ∷ payload) fits t 
     let v : is_variable k ≡ true = t.variable in
     let told : 7 + from_be_bytes w16 (h ∷ l ∷ []) ≡ length (b0 ∷ b1 ∷ b2 ∷ b3 ∷ k ∷ h ∷ l ∷ payload) = t.size in
     let size : length payload ≡ from_be_bytes w16 (h ∷ l ∷ []) = omega arith in
-    let two : IsBytes (h ∷ l ∷ []) = IsBytes-take 2 (h ∷ l ∷ payload) (IsBytes-drop 5 (b0 ∷ b1 ∷ b2 ∷ b3 ∷ k ∷ h ∷ l ∷ payload) fits) in
+    let two : IsBytes (h ∷ l ∷ []) =
+    IsBytes-take 2 (h ∷ l ∷ payload) (IsBytes-drop 5 (b0 ∷ b1 ∷ b2 ∷ b3 ∷ k ∷ h ∷ l ∷ payload) fits) in
     let length_bytes : to_be_bytes w16 (length payload) ≡ h ∷ l ∷ [] = be_bytes_2 (h ∷ l ∷ []) (length payload) refl two size in
     let high : h < 256 = two 0 in
     let low : l < 256 = two 1 in

@@ -52,10 +52,12 @@ whole_first_opens bytes fits =
     let own = whole_first_spelled bytes fits in
     record { front = own.front; rest = own.rest; cut = own.cut; spelled = own.spelled }
 
-pub begun_is_read : (bytes : List ℕ) (cells : List WireCell) → BeginsWith bytes cells → (others : List WireCell) × (whole bytes ≡ cells ++ others)
+pub begun_is_read : (bytes : List ℕ) (cells : List WireCell) → BeginsWith bytes cells
+    → (others : List WireCell) × (whole bytes ≡ cells ++ others)
 begun_is_read bytes cells b = whole_longest bytes b.front b.rest cells b.cut b.spelled
 
-pub opened_is_read : (bytes : List ℕ) (cells : List WireCell) → OpensWith bytes cells → (others : List WireCell) × (whole_first bytes ≡ cells ++ others)
+pub opened_is_read : (bytes : List ℕ) (cells : List WireCell) → OpensWith bytes cells
+    → (others : List WireCell) × (whole_first bytes ≡ cells ++ others)
 opened_is_read bytes cells b =
     whole_first_longest bytes cells (record { front = b.front; rest = b.rest; cut = b.cut; spelled = b.spelled })
 

@@ -162,7 +162,8 @@ netinfo_spelled payload e =
 
 pub netinfo_law : (payload : List ℕ) → SpellsNetinfo payload ↔ (is_netinfo payload ≡ true)
 netinfo_law payload = (
-  λ spells. ap is_netinfo spells.spelling ∙ netinfo_read-at spells.time spells.other spells.own spells.padding spells.four spells.other_is spells.own_are,
+  λ spells. ap is_netinfo spells.spelling
+      ∙ netinfo_read-at spells.time spells.other spells.own spells.padding spells.four spells.other_is spells.own_are,
   netinfo_spelled payload,
 )
 

@@ -40,13 +40,15 @@ connected_at (a ∷ b ∷ c ∷ d ∷ p ∷ q ∷ r ∷ s ∷ more) fits long =
     }
 connected_at _ fits long = absurd (omega arith)
 
-connected_spelled : (payload : List ℕ) (to : ConnectedTo) → IsBytes payload → connected_address payload ≡ Some to → SpellsConnected payload to
+connected_spelled : (payload : List ℕ) (to : ConnectedTo) → IsBytes payload → connected_address payload ≡ Some to
+    → SpellsConnected payload to
 unfolding connected_address
 connected_spelled payload to fits e =
     let parts = cond_some _ _ _ e in
     subst (SpellsConnected payload) parts.1 (connected_at payload fits (leb-true _ _ parts.0))
 
-pub connected_law : (payload : List ℕ) (to : ConnectedTo) → IsBytes payload → SpellsConnected payload to ↔ (connected_address payload ≡ Some to)
+pub connected_law : (payload : List ℕ) (to : ConnectedTo) → IsBytes payload
+    → SpellsConnected payload to ↔ (connected_address payload ≡ Some to)
 connected_law payload to fits = (
   λ spells. ap connected_address spells.spelling ∙ connected_read-at to.ip to.ttl spells.more spells.four spells.ttl_fits,
   connected_spelled payload to fits,
@@ -144,7 +146,8 @@ reply_at h l rest fits within =
       handshake_fits = subst (λ k. k < 2 ^ 16) (sym long) (two_fit h l rest fits);
     }
 
-reply_spelled : (payload handshake : List ℕ) → IsBytes payload → handshake_reply payload ≡ Some handshake → SpellsReply payload handshake
+reply_spelled : (payload handshake : List ℕ) → IsBytes payload → handshake_reply payload ≡ Some handshake
+    → SpellsReply payload handshake
 unfolding handshake_reply
 reply_spelled [] handshake fits e = absurd (none-some handshake e)
 reply_spelled (h ∷ []) handshake fits e = absurd (none-some handshake e)
@@ -154,7 +157,8 @@ reply_spelled (h ∷ l ∷ rest) handshake fits e =
     let within : 2 + from_be_bytes w16 (h ∷ l ∷ []) ≤ suc (suc (length rest)) = leb-true _ _ tests.1 in
     subst (SpellsReply (h ∷ l ∷ rest)) parts.1 (reply_at h l rest fits (omega arith))
 
-pub reply_law : (payload handshake : List ℕ) → IsBytes payload → SpellsReply payload handshake ↔ (handshake_reply payload ≡ Some handshake)
+pub reply_law : (payload handshake : List ℕ) → IsBytes payload
+    → SpellsReply payload handshake ↔ (handshake_reply payload ≡ Some handshake)
 reply_law payload handshake fits = (
   λ spells. ap handshake_reply spells.spelling ∙ reply_read-at handshake spells.more spells.handshake_fits,
   reply_spelled payload handshake fits,
@@ -199,5 +203,6 @@ request_spelled (p ∷ q ∷ rest) request fits e =
     subst (λ (r : ℕ × List ℕ). SpellsRequest (p ∷ q ∷ rest) r.0 r.1) read.2
     (request_at p q rest read.0 fits (reply_spelled rest read.0 (IsBytes-drop 2 (p ∷ q ∷ rest) fits) read.1))
 
-pub request_law : (payload : List ℕ) (t : ℕ) (h : List ℕ) → IsBytes payload → SpellsRequest payload t h ↔ (handshake_request payload ≡ Some (t, h))
+pub request_law : (payload : List ℕ) (t : ℕ) (h : List ℕ) → IsBytes payload
+    → SpellsRequest payload t h ↔ (handshake_request payload ≡ Some (t, h))
 request_law payload t h fits = (request_read payload t h, request_spelled payload (t, h) fits)

@@ -60,7 +60,8 @@ same_answer : (a b : Answer) → a.kind ≡ b.kind → a.value ≡ b.value → a
 same_answer a b e f g =
     ap (λ n. record a { kind = n }) e ∙ ap (λ v. record b { value = v; ttl = a.ttl }) f ∙ ap (λ n. record b { ttl = n }) g
 
-front_same : (a b : Answer) (x y : List ℕ) → IsAnswer a → IsAnswer b → answer_bytes a ++ x ≡ answer_bytes b ++ y → SameFront a b x y
+front_same : (a b : Answer) (x y : List ℕ) → IsAnswer a → IsAnswer b → answer_bytes a ++ x ≡ answer_bytes b ++ y
+    → SameFront a b x y
 front_same a b x y a_is b_is e =
     let kind : a.kind ≡ b.kind = cc in
     let long : length a.value ≡ length b.value = cc in
@@ -83,7 +84,8 @@ answers_same (a ∷ answers) (b ∷ others) each each_other e =
     let later = answers_same answers others each.1 each_other.1 front.behind in
     cc (front.answer, later)
 
-pub one_spelling : (payload : List ℕ) (answers others : List Answer) → SpellsAnswers payload answers → SpellsAnswers payload others → answers ≡ others
+pub one_spelling : (payload : List ℕ) (answers others : List Answer) → SpellsAnswers payload answers
+    → SpellsAnswers payload others → answers ≡ others
 one_spelling payload answers others a b = answers_same answers others a.each b.each (sym a.spelling ∙ b.spelling)
 
 -- What is spelled is read.
@@ -104,7 +106,8 @@ answer_read a more is =
     let rest_long : length behind ≡ 4 + length more = length-append (to_be_bytes w32 a.ttl) more in
     let same : take n rest ≡ a.value = take_at a.value behind n refl in
     let later : drop n rest ≡ behind = drop_at a.value behind n refl in
-    let made : List ℕ → List ℕ → Option (Answer × List ℕ) = λ v l. Some (record { kind = a.kind; value = v; ttl = from_be_bytes w32 (take 4 l) }, drop 4 l) in
+    let made : List ℕ → List ℕ → Option (Answer × List ℕ) =
+    λ v l. Some (record { kind = a.kind; value = v; ttl = from_be_bytes w32 (take 4 l) }, drop 4 l) in
     let whole : leb (n + 4) (length rest) ≡ true = le-leb (n + 4) (length rest) (omega arith) in
     ap (λ l. answer_at (a.kind ∷ n ∷ l)) (append_assoc a.value (to_be_bytes w32 a.ttl) more)
     ∙ ap (λ b. cond (b && leb (n + 4) (length rest)) (made (take n rest) (drop n rest)) None) (right_length a is)
@@ -113,14 +116,16 @@ answer_read a more is =
     ∙ ap (made a.value) later
     ∙ ap (λ (t : ℕ). Some (record { kind = a.kind; value = a.value; ttl = t }, more)) (from_be_bytes-to_be_bytes_4 a.ttl is.ttl_fits)
 
-answers_read : (answers : List Answer) → AllByRecursion IsAnswer answers → answers_in (flat_map answer_bytes answers) ≡ Some answers
+answers_read : (answers : List Answer) → AllByRecursion IsAnswer answers
+    → answers_in (flat_map answer_bytes answers) ≡ Some answers
 unfolding answers_in answers_within
 answers_read [] each = refl
 answers_read (a ∷ answers) each =
     answers_step (answer_bytes a ++ flat_map answer_bytes answers) a (flat_map answer_bytes answers) (answer_read a (flat_map answer_bytes answers) each.0)
     ∙ ap (option_map (put_answer a)) (answers_read answers each.1)
 
-resolved_read : (payload : List ℕ) (answers : List Answer) → SpellsAnswers payload answers → resolved_answers payload ≡ Some answers
+resolved_read : (payload : List ℕ) (answers : List Answer) → SpellsAnswers payload answers
+    → resolved_answers payload ≡ Some answers
 unfolding resolved_answers
 resolved_read payload [] spells = absurd (spells.some refl)
 resolved_read payload (a ∷ answers) spells = ap resolved_answers spells.spelling ∙ answers_read (a ∷ answers) spells.each
@@ -142,12 +147,14 @@ unfolding is_value_length
 value_length kind size right is =
     eqb-true size 4 (sym (ap (λ b. cond b (nat_eq size 4) true) (eq-eqb kind resolved_ipv4 is)) ∙ right)
 
-front_spelled : (bytes : List ℕ) (a : Answer) (rest : List ℕ) → IsBytes bytes → answer_at bytes ≡ Some (a, rest) → Front bytes a rest
+front_spelled : (bytes : List ℕ) (a : Answer) (rest : List ℕ) → IsBytes bytes → answer_at bytes ≡ Some (a, rest)
+    → Front bytes a rest
 unfolding answer_at
 front_spelled [] a rest fits e = absurd (none-some _ e)
 front_spelled (kind ∷ []) a rest fits e = absurd (none-some _ e)
 front_spelled (kind ∷ size ∷ more) a rest fits e =
-    let found : Answer × List ℕ = (record { kind = kind; value = take size more; ttl = from_be_bytes w32 (take 4 (drop size more)) }, drop 4 (drop size more)) in
+    let found : Answer × List ℕ =
+    (record { kind = kind; value = take size more; ttl = from_be_bytes w32 (take 4 (drop size more)) }, drop 4 (drop size more)) in
     let parts = cond_some (is_value_length kind size && leb (size + 4) (length more)) found (a, rest) e in
     let tests = and_parts (is_value_length kind size) (leb (size + 4) (length more)) parts.0 in
     let later_fits : IsBytes more = IsBytes-drop 2 (kind ∷ size ∷ more) fits in
@@ -179,7 +186,8 @@ record Whole (bytes : List ℕ) (answers : List Answer) : Type 0 where
 nothing_spelled : (answers : List Answer) → ◌≡◌ {A = Option (List Answer)} (Some []) (Some answers) → Whole [] answers
 nothing_spelled answers e = subst (Whole []) (same_Some [] answers e) (record { spelling = refl; each = tt })
 
-within_spelled : (n : ℕ) (bytes : List ℕ) (answers : List Answer) → IsBytes bytes → answers_within n bytes ≡ Some answers → Whole bytes answers
+within_spelled : (n : ℕ) (bytes : List ℕ) (answers : List Answer) → IsBytes bytes → answers_within n bytes ≡ Some answers
+    → Whole bytes answers
 unfolding answers_within
 within_spelled zero [] answers fits e = nothing_spelled answers e
 within_spelled (suc n) [] answers fits e = nothing_spelled answers e
@@ -203,10 +211,13 @@ some_spelled b bytes [] whole =
     absurd (cc no)
 some_spelled b bytes (a ∷ answers) whole = record { spelling = whole.spelling; some = λ e. cc; each = whole.each }
 
-resolved_spelled : (payload : List ℕ) (answers : List Answer) → IsBytes payload → resolved_answers payload ≡ Some answers → SpellsAnswers payload answers
+resolved_spelled : (payload : List ℕ) (answers : List Answer) → IsBytes payload → resolved_answers payload ≡ Some answers
+    → SpellsAnswers payload answers
 unfolding resolved_answers answers_in
 resolved_spelled [] answers fits e = absurd (none-some _ e)
-resolved_spelled (b ∷ bytes) answers fits e = some_spelled b bytes answers (within_spelled (length (b ∷ bytes)) (b ∷ bytes) answers fits e)
+resolved_spelled (b ∷ bytes) answers fits e =
+    some_spelled b bytes answers (within_spelled (length (b ∷ bytes)) (b ∷ bytes) answers fits e)
 
-pub resolved_law : (payload : List ℕ) (answers : List Answer) → IsBytes payload → SpellsAnswers payload answers ↔ (resolved_answers payload ≡ Some answers)
+pub resolved_law : (payload : List ℕ) (answers : List Answer) → IsBytes payload
+    → SpellsAnswers payload answers ↔ (resolved_answers payload ≡ Some answers)
 resolved_law payload answers fits = (resolved_read payload answers, resolved_spelled payload answers fits)

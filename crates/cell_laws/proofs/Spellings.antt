@@ -49,7 +49,8 @@ pub later_spelled : (a : List ℕ) → IsBytes a → SpelledBy a (later_reading 
 later_spelled a fits = later_spelled-within (length a) a fits (omega arith)
 
 -- The cells of a link are spelled by a prefix of its bytes.
-pub whole_spelled : (bytes : List ℕ) → IsBytes bytes → (front rest : List ℕ) × (bytes ≡ front ++ rest) × Spells front (whole bytes)
+pub whole_spelled : (bytes : List ℕ) → IsBytes bytes
+    → (front rest : List ℕ) × (bytes ≡ front ++ rest) × Spells front (whole bytes)
 unfolding whole reading
 whole_spelled bytes fits =
     let own = later_spelled bytes fits in

@@ -10,7 +10,8 @@ use Rattle.tor_spec.proofs.VersionsLength.{length_versions_payload}
 use Rattle.cell_laws.specs.Versions.{SpellsVersions, IsCommon, IsHighest}
 use Rattle.cell_laws.proofs.Bytes.{IsBytes-drop, two_bytes, two_fit}
 
-pub versions_again : (versions : List ℕ) → AllByRecursion (λ v. v < 2 ^ 16) versions → versions_of (versions_payload versions) ≡ versions
+pub versions_again : (versions : List ℕ) → AllByRecursion (λ v. v < 2 ^ 16) versions
+    → versions_of (versions_payload versions) ≡ versions
 versions_again [] each = refl
 versions_again (v ∷ versions) each =
     ap (λ n. n ∷ versions_of (versions_payload versions)) (from_be_bytes-to_be_bytes_2 v each.0)
@@ -116,7 +117,8 @@ one_more v ours theirs false away (Some u) high = (
 
 highest_is : (ours theirs : List ℕ) → IsHighest ours theirs (highest_common ours theirs)
 highest_is [] theirs = λ w common. contains_none w common.0
-highest_is (v ∷ ours) theirs = one_more v ours theirs (lists_version theirs v) refl (highest_common ours theirs) (highest_is ours theirs)
+highest_is (v ∷ ours) theirs =
+    one_more v ours theirs (lists_version theirs v) refl (highest_common ours theirs) (highest_is ours theirs)
 
 one_highest : (ours theirs : List ℕ) (a b : Option ℕ) → IsHighest ours theirs a → IsHighest ours theirs b → a ≡ b
 one_highest ours theirs None None x y = refl
@@ -128,7 +130,8 @@ one_highest ours theirs (Some v) (Some w) x y =
     let same : v ≡ w = omega arith in
     ap Some same
 
-pub highest_law : (ours theirs : List ℕ) (version : Option ℕ) → IsHighest ours theirs version ↔ (highest_common ours theirs ≡ version)
+pub highest_law : (ours theirs : List ℕ) (version : Option ℕ)
+    → IsHighest ours theirs version ↔ (highest_common ours theirs ≡ version)
 highest_law ours theirs version = (
   λ high. one_highest ours theirs (highest_common ours theirs) version (highest_is ours theirs) high,
   λ e. subst (IsHighest ours theirs) e (highest_is ours theirs),

@@ -17,13 +17,15 @@ pub fn versions_are_read_as_spelled()
 
 /// A list of versions that is written is read back.
 pub fn versions_are_read_back()
-    ensures { (versions : List ℕ) → AllByRecursion (λ v. v < 2 ^ 16) versions → versions_of (versions_payload versions) ≡ versions }
+    ensures { (versions : List ℕ) → AllByRecursion (λ v. v < 2 ^ 16) versions →
+        versions_of (versions_payload versions) ≡ versions }
 {}
 
 /// The version that two sides take is the highest that both speak, and there is none exactly where
 /// they have none in common.
 pub fn highest_common_version_is_the_highest()
-    ensures { (ours theirs : List ℕ) (version : Option ℕ) → IsHighest ours theirs version ↔ (highest_common ours theirs ≡ version) }
+    ensures { (ours theirs : List ℕ) (version : Option ℕ) →
+        IsHighest ours theirs version ↔ (highest_common ours theirs ≡ version) }
 {}
 
 /// A payload is taken for NETINFO's exactly where it spells one.

@@ -31,7 +31,8 @@ sends_create2 payload = record no_effects { forth = Some (record { command = cre
 -- Each stream's address is kept at its place.
 abbrev pub AreAddresses : List Dest → PlacesState → Log → Type 0
 AreAddresses addresses state log =
-    (place : ℕ) (stream : Held) (of_log : Place) (none : Dest) → held_at state place ≡ Some stream → place_at log stream.serial ≡ Some of_log →
+    (place : ℕ) (stream : Held) (of_log : Place) (none : Dest) → held_at state place ≡ Some stream
+    → place_at log stream.serial ≡ Some of_log →
     of_log.to ≡ address_of (slice_index_or addresses place none)
 
 -- The parts of a circuit are those of its log, but for its count of RELAY_EARLY cells.

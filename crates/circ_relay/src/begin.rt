@@ -29,8 +29,12 @@ impl Circuit {
     // BEGIN is answered by an order to connect, or by END.
     pub(crate) fn begin(&mut self, rules: &Rules, message: &Message<'_>) -> Effects
         requires calls { HasCalls self.old }
-        ensures effects { (log : Log) (command : ℕ) (body : List ℕ) (m : ModelMessage) → IsBrought message.now log command body m → HasParts self.old log → effects_of result ≡ begin_effects (rules_of rules.now) log m }
-        ensures parts { (log : Log) (command : ℕ) (body : List ℕ) (m : ModelMessage) → IsBrought message.now log command body m → HasParts self.old log → m.command ≡ begin_command → result.close ≡ None → HasParts self.new (after_cell (rules_of rules.now) log command body) }
+        ensures effects { (log : Log) (command : ℕ) (body : List ℕ) (m : ModelMessage) →
+            IsBrought message.now log command body m → HasParts self.old log →
+            effects_of result ≡ begin_effects (rules_of rules.now) log m }
+        ensures parts { (log : Log) (command : ℕ) (body : List ℕ) (m : ModelMessage) → IsBrought message.now log command body m →
+            HasParts self.old log → m.command ≡ begin_command → result.close ≡ None →
+            HasParts self.new (after_cell (rules_of rules.now) log command body) }
         ensures windows { self.new.windows ≡ self.old.windows }
         ensures places { self.new.places.calls ≤ self.old.places.calls + 1 }
         ensures packaged { self.new.packager.padding.count ≤ self.old.packager.padding.count + 1 }
@@ -55,7 +59,8 @@ impl Circuit {
 
     // A BEGIN is for a StreamID that isn't 0 and isn't live.
     fn may_begin(&self, stream: u16) -> bool
-        ensures test { (log : Log) → ArePlaces self.now.places log → AreNamed log → result ≡ not ((stream == 0) || is_some (live_place log stream)) }
+        ensures test { (log : Log) → ArePlaces self.now.places log → AreNamed log →
+            result ≡ not ((stream == 0) || is_some (live_place log stream)) }
         ensures new { IsTrue result → position (is_live_as stream) self.now.places.streams ≡ None }
     {
         stream != 0 && self.live_place(stream).is_none()
@@ -63,7 +68,8 @@ impl Circuit {
 
     // Whether fewer than 32 places are taken.
     fn has_place(&self) -> bool
-        ensures test { (log : Log) → ArePlaces self.now.places log → AreNamed log → result ≡ not (nat_le place_limit (taken_places log)) }
+        ensures test { (log : Log) → ArePlaces self.now.places log → AreNamed log →
+            result ≡ not (nat_le place_limit (taken_places log)) }
         ensures free { result ≡ is_some (position is_free self.now.places.streams) }
     {
         self.places.has_free()
@@ -74,8 +80,12 @@ impl Circuit {
         requires calls { HasCalls self.old }
         requires new { position (is_live_as message.now.stream) self.old.places.streams ≡ None }
         requires free { IsTrue (is_some (position is_free self.old.places.streams)) }
-        ensures effects { (log : Log) → ArePlaces self.old.places log → effects_of result ≡ reaching log message.now.stream (Some (address_of to)) }
-        ensures parts { (rules : ModelRules) (log : Log) (command : ℕ) (body : List ℕ) (m : ModelMessage) → IsBrought message.now log command body m → HasParts self.old log → m.command ≡ begin_command → begin_effects rules log m ≡ reaching log m.stream (Some (address_of to)) → HasParts self.new (after_cell rules log command body) }
+        ensures effects { (log : Log) → ArePlaces self.old.places log →
+            effects_of result ≡ reaching log message.now.stream (Some (address_of to)) }
+        ensures parts { (rules : ModelRules) (log : Log) (command : ℕ) (body : List ℕ) (m : ModelMessage) →
+            IsBrought message.now log command body m → HasParts self.old log → m.command ≡ begin_command →
+            begin_effects rules log m ≡ reaching log m.stream (Some (address_of to)) →
+            HasParts self.new (after_cell rules log command body) }
         ensures windows { self.new.windows ≡ self.old.windows }
         ensures places { self.new.places.calls ≤ self.old.places.calls + 1 }
         ensures packager { self.new.packager ≡ self.old.packager }
@@ -97,7 +107,8 @@ impl Circuit {
     fn keep_address(&mut self, place: PlaceNo, to: Dest)
         requires { place.0 < 32 }
         ensures there { (none : Dest) → slice_index_or self.new.addresses place.0 none ≡ to }
-        ensures elsewhere { (other : ℕ) (none : Dest) → other ≢ place.0 → slice_index_or self.new.addresses other none ≡ slice_index_or self.old.addresses other none }
+        ensures elsewhere { (other : ℕ) (none : Dest) → other ≢ place.0 →
+            slice_index_or self.new.addresses other none ≡ slice_index_or self.old.addresses other none }
         ensures rest { self.new ≡ record self.old { addresses = self.new.addresses } }
     {
         self.addresses[place.0 as usize] = to;

@@ -69,8 +69,10 @@ impl Circuit {
 
     /// A relay body from the next hop goes back as it is.
     pub fn backward(&mut self, body: &[u8; 509]) -> Effects
-        ensures effects { (rules : ModelRules) (h : List Event) → IsCircuit self.old rules h → effects_of result ≡ effects rules h (Backward body.now) }
-        ensures circuit { (rules : ModelRules) (h : List Event) → IsCircuit self.old rules h → IsCircuit self.new rules (Backward body.now ∷ h) }
+        ensures effects { (rules : ModelRules) (h : List Event) → IsCircuit self.old rules h →
+            effects_of result ≡ effects rules h (Backward body.now) }
+        ensures circuit { (rules : ModelRules) (h : List Event) → IsCircuit self.old rules h →
+            IsCircuit self.new rules (Backward body.now ∷ h) }
         ensures stays { self.new ≡ self.old }
     {
         Effects {
@@ -109,7 +111,8 @@ impl Circuit {
     pub(crate) fn packaging(&mut self, body: &[u8; 509]) -> Effects
         requires count { self.old.packager.padding.count < 2 ^ 63 }
         requires fits { IsTrue (fits_length body.now) }
-        ensures effects { (log : Log) → IsPackager self.old.packager log → effects_of result ≡ record no_effects { back = Some (finished log body.now) } }
+        ensures effects { (log : Log) → IsPackager self.old.packager log →
+            effects_of result ≡ record no_effects { back = Some (finished log body.now) } }
         ensures next { Packages self.old.packager self.new.packager body.now }
         ensures unclosed { result.close ≡ None }
         ensures orderless { result.edge ≡ None }
@@ -127,7 +130,8 @@ impl Circuit {
         requires count { self.old.packager.padding.count < 2 ^ 63 }
         requires fits { IsTrue (fits_length body.now) }
         requires blank { effects_of outcome.old ≡ no_effects }
-        ensures effects { (log : Log) → IsPackager self.old.packager log → effects_of outcome.new ≡ record no_effects { back = Some (finished log body.now) } }
+        ensures effects { (log : Log) → IsPackager self.old.packager log →
+            effects_of outcome.new ≡ record no_effects { back = Some (finished log body.now) } }
         ensures next { Packages self.old.packager self.new.packager body.now }
         ensures unclosed { outcome.new.close ≡ None }
         ensures orderless { outcome.new.edge ≡ None }

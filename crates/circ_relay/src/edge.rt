@@ -32,8 +32,10 @@ impl Circuit {
     pub fn edge(&mut self, key: StreamKey, event: &EdgeEvent) -> Effects
         requires calls { HasCalls self.old }
         requires stream { MayReport self.old key event.now }
-        ensures effects { (rules : Rules) (h : List Event) → IsCircuit self.old rules h → effects_of result ≡ effects rules h (event_of key event.now) }
-        ensures circuit { (rules : Rules) (h : List Event) → IsCircuit self.old rules h → IsCircuit self.new rules (event_of key event.now ∷ h) }
+        ensures effects { (rules : Rules) (h : List Event) → IsCircuit self.old rules h →
+            effects_of result ≡ effects rules h (event_of key event.now) }
+        ensures circuit { (rules : Rules) (h : List Event) → IsCircuit self.old rules h →
+            IsCircuit self.new rules (event_of key event.now ∷ h) }
         ensures order { IfSome result.edge (λ order. stream_of order ≡ key) }
         ensures number { self.new.number ≡ self.old.number }
         ensures windows { self.new.windows.calls ≤ self.old.windows.calls + 1 }
@@ -51,8 +53,10 @@ impl Circuit {
     fn connected(&mut self, key: StreamKey) -> Effects
         requires calls { HasCalls self.old }
         requires stream { HasStream self.old key Phase.Reaching }
-        ensures effects { (rules : Rules) (h : List Event) → IsCircuit self.old rules h → effects_of result ≡ effects rules h (Connected key.serial) }
-        ensures circuit { (rules : Rules) (h : List Event) → IsCircuit self.old rules h → IsCircuit self.new rules (Connected key.serial ∷ h) }
+        ensures effects { (rules : Rules) (h : List Event) → IsCircuit self.old rules h →
+            effects_of result ≡ effects rules h (Connected key.serial) }
+        ensures circuit { (rules : Rules) (h : List Event) → IsCircuit self.old rules h →
+            IsCircuit self.new rules (Connected key.serial ∷ h) }
         ensures order { result.edge ≡ None }
         ensures number { self.new.number ≡ self.old.number }
         ensures windows { self.new.windows ≡ self.old.windows }
@@ -71,8 +75,10 @@ impl Circuit {
         requires calls { HasCalls self.old }
         requires stream { MaySend self.old key }
         requires short { length bytes.now ≤ 498 }
-        ensures effects { (rules : Rules) (h : List Event) → IsCircuit self.old rules h → effects_of result ≡ effects rules h (Data key.serial bytes.now) }
-        ensures circuit { (rules : Rules) (h : List Event) → IsCircuit self.old rules h → IsCircuit self.new rules (Data key.serial bytes.now ∷ h) }
+        ensures effects { (rules : Rules) (h : List Event) → IsCircuit self.old rules h →
+            effects_of result ≡ effects rules h (Data key.serial bytes.now) }
+        ensures circuit { (rules : Rules) (h : List Event) → IsCircuit self.old rules h →
+            IsCircuit self.new rules (Data key.serial bytes.now ∷ h) }
         ensures order { result.edge ≡ None }
         ensures number { self.new.number ≡ self.old.number }
         ensures windows { self.new.windows.calls ≡ self.old.windows.calls + 1 }
@@ -99,8 +105,10 @@ impl Circuit {
     fn ended(&mut self, key: StreamKey, reason: u8) -> Effects
         requires calls { HasCalls self.old }
         requires stream { IsLiveStream self.old key }
-        ensures effects { (rules : Rules) (h : List Event) → IsCircuit self.old rules h → effects_of result ≡ effects rules h (Ended key.serial reason) }
-        ensures circuit { (rules : Rules) (h : List Event) → IsCircuit self.old rules h → IsCircuit self.new rules (Ended key.serial reason ∷ h) }
+        ensures effects { (rules : Rules) (h : List Event) → IsCircuit self.old rules h →
+            effects_of result ≡ effects rules h (Ended key.serial reason) }
+        ensures circuit { (rules : Rules) (h : List Event) → IsCircuit self.old rules h →
+            IsCircuit self.new rules (Ended key.serial reason ∷ h) }
         ensures order { result.edge ≡ Some (EdgeOrder.Close key reason) }
         ensures number { self.new.number ≡ self.old.number }
         ensures windows { self.new.windows ≡ self.old.windows }
@@ -121,8 +129,10 @@ impl Circuit {
     pub fn drained(&mut self, key: StreamKey) -> Effects
         requires calls { HasCalls self.old }
         requires stream { HasUndrained self.old key }
-        ensures effects { (rules : Rules) (h : List Event) → IsCircuit self.old rules h → effects_of result ≡ effects rules h (Drained key.serial) }
-        ensures circuit { (rules : Rules) (h : List Event) → IsCircuit self.old rules h → IsCircuit self.new rules (Drained key.serial ∷ h) }
+        ensures effects { (rules : Rules) (h : List Event) → IsCircuit self.old rules h →
+            effects_of result ≡ effects rules h (Drained key.serial) }
+        ensures circuit { (rules : Rules) (h : List Event) → IsCircuit self.old rules h →
+            IsCircuit self.new rules (Drained key.serial ∷ h) }
         ensures number { self.new.number ≡ self.old.number }
         ensures windows { self.new.windows ≡ self.old.windows }
         ensures places { self.new.places.calls ≡ self.old.places.calls + 1 }
@@ -154,7 +164,8 @@ impl Circuit {
     pub fn freed(&mut self, key: StreamKey)
         requires calls { HasCalls self.old }
         requires stream { HasStream self.old key Phase.Ending }
-        ensures circuit { (rules : Rules) (h : List Event) → IsCircuit self.old rules h → IsCircuit self.new rules (Freed key.serial ∷ h) }
+        ensures circuit { (rules : Rules) (h : List Event) → IsCircuit self.old rules h →
+            IsCircuit self.new rules (Freed key.serial ∷ h) }
         ensures number { self.new.number ≡ self.old.number }
         ensures windows { self.new.windows ≡ self.old.windows }
         ensures places { self.new.places.calls ≡ self.old.places.calls + 1 }
@@ -169,7 +180,8 @@ impl Circuit {
     /// where both allow one more DATA.
     pub fn shut(&self, key: StreamKey) -> Option<(ShutWhy, u64)>
         requires { HasStream self.now key Phase.Joined }
-        ensures window { (rules : Rules) (h : List Event) → IsCircuit self.now rules h → result ≡ shut_window rules (log rules h) key.serial }
+        ensures window { (rules : Rules) (h : List Event) → IsCircuit self.now rules h →
+            result ≡ shut_window rules (log rules h) key.serial }
         ensures none { (result ≡ None) ↔ MaySend self.now key }
     {
         let place = self.taken_place(key);

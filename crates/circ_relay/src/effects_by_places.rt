@@ -24,15 +24,19 @@ ghost use Rattle.circ_relay.specs.PlacesOfLog.{AreNamed, ArePlaces, key_of};
 
 /// What the edge reports of a held stream.
 pub fn reports_of_a_held_stream()
-    ensures connected { (state : PlacesState) (rules : Rules) (log : Log) (place : ℕ) (h : Held) (p : Place) → ArePlaces state log → IsFalse (is_closed log) →
+    ensures connected { (state : PlacesState) (rules : Rules) (log : Log) (place : ℕ) (h : Held) (p : Place) →
+        ArePlaces state log → IsFalse (is_closed log) →
         held_at state place ≡ Some h → place_at log h.serial ≡ Some p →
         effects_after rules log (Connected h.serial) ≡ packaging log connected_command h.stream (connected_payload p.to.ip time_to_live) }
-    ensures bytes { (state : PlacesState) (rules : Rules) (log : Log) (place : ℕ) (h : Held) (bytes : List ℕ) → ArePlaces state log → IsFalse (is_closed log) →
+    ensures bytes { (state : PlacesState) (rules : Rules) (log : Log) (place : ℕ) (h : Held) (bytes : List ℕ) →
+        ArePlaces state log → IsFalse (is_closed log) →
         held_at state place ≡ Some h → effects_after rules log (Data h.serial bytes) ≡ packaging log data_command h.stream bytes }
-    ensures ended { (state : PlacesState) (rules : Rules) (log : Log) (place : ℕ) (h : Held) (reason : ℕ) → ArePlaces state log → IsFalse (is_closed log) →
+    ensures ended { (state : PlacesState) (rules : Rules) (log : Log) (place : ℕ) (h : Held) (reason : ℕ) → ArePlaces state log →
+        IsFalse (is_closed log) →
         held_at state place ≡ Some h →
         effects_after rules log (Ended h.serial reason) ≡ record (ending log h.stream reason) { edge = Some (Close (key_of h) reason) } }
-    ensures drained { (state : PlacesState) (rules : Rules) (log : Log) (place : ℕ) (h : Held) (due : Bool) → ArePlaces state log → IsFalse (is_closed log) →
+    ensures drained { (state : PlacesState) (rules : Rules) (log : Log) (place : ℕ) (h : Held) (due : Bool) →
+        ArePlaces state log → IsFalse (is_closed log) →
         held_at state place ≡ Some h → sendme_due h ≡ Some due →
         effects_after rules log (Drained h.serial) ≡ (if due then packaging log sendme_command h.stream [] else no_effects) }
 {}
@@ -42,17 +46,25 @@ pub fn messages_of_a_live_stream()
     ensures end { (rules : Rules) (log : Log) (e : Event) (m : Message) (serial : ℕ) →
         message_at log e ≡ Some m → m.command ≡ end_command → m.place ≡ Some serial →
         effects_after rules log e ≡ ordering (Close (record { stream = m.stream; serial = serial }) (end_reason m.payload)) }
-    ensures accepted { (state : PlacesState) (rules : Rules) (log : Log) (e : Event) (m : Message) (place : ℕ) (h : Held) → ArePlaces state log →
-        message_at log e ≡ Some m → m.command ≡ data_command → m.place ≡ Some h.serial → held_at state place ≡ Some h → IsTrue (may_accept h) →
+    ensures accepted { (state : PlacesState) (rules : Rules) (log : Log) (e : Event) (m : Message) (place : ℕ) (h : Held) →
+        ArePlaces state log →
+        message_at log e ≡ Some m → m.command ≡ data_command → m.place ≡ Some h.serial → held_at state place ≡ Some h →
+        IsTrue (may_accept h) →
         effects_after rules log e ≡ record (acknowledging log m) { edge = Some (Carry (record { stream = m.stream; serial = h.serial }) m.payload) } }
-    ensures overrun { (state : PlacesState) (rules : Rules) (log : Log) (e : Event) (m : Message) (place : ℕ) (h : Held) → ArePlaces state log →
-        message_at log e ≡ Some m → m.command ≡ data_command → m.place ≡ Some h.serial → held_at state place ≡ Some h → IsFalse (may_accept h) →
+    ensures overrun { (state : PlacesState) (rules : Rules) (log : Log) (e : Event) (m : Message) (place : ℕ) (h : Held) →
+        ArePlaces state log →
+        message_at log e ≡ Some m → m.command ≡ data_command → m.place ≡ Some h.serial → held_at state place ≡ Some h →
+        IsFalse (may_accept h) →
         effects_after rules log e ≡ closing destroy_protocol }
-    ensures raised { (state : PlacesState) (rules : Rules) (log : Log) (e : Event) (m : Message) (place : ℕ) (h : Held) → ArePlaces state log →
-        message_at log e ≡ Some m → m.command ≡ sendme_command → 0 < m.stream → m.place ≡ Some h.serial → held_at state place ≡ Some h → IsTrue (may_credit h) →
+    ensures raised { (state : PlacesState) (rules : Rules) (log : Log) (e : Event) (m : Message) (place : ℕ) (h : Held) →
+        ArePlaces state log →
+        message_at log e ≡ Some m → m.command ≡ sendme_command → 0 < m.stream → m.place ≡ Some h.serial →
+        held_at state place ≡ Some h → IsTrue (may_credit h) →
         effects_after rules log e ≡ no_effects }
-    ensures too_much { (state : PlacesState) (rules : Rules) (log : Log) (e : Event) (m : Message) (place : ℕ) (h : Held) → ArePlaces state log →
-        message_at log e ≡ Some m → m.command ≡ sendme_command → 0 < m.stream → m.place ≡ Some h.serial → held_at state place ≡ Some h → IsFalse (may_credit h) →
+    ensures too_much { (state : PlacesState) (rules : Rules) (log : Log) (e : Event) (m : Message) (place : ℕ) (h : Held) →
+        ArePlaces state log →
+        message_at log e ≡ Some m → m.command ≡ sendme_command → 0 < m.stream → m.place ≡ Some h.serial →
+        held_at state place ≡ Some h → IsFalse (may_credit h) →
         effects_after rules log e ≡ closing destroy_protocol }
 {}
 
@@ -60,15 +72,21 @@ pub fn messages_of_a_live_stream()
 /// is, else an order Reach with the next serial where its name is allowed, and END with EXITPOLICY where
 /// it isn't.
 pub fn a_begin_by_the_free_places()
-    ensures full { (state : PlacesState) (rules : Rules) (log : Log) (e : Event) (m : Message) (target : Target) → ArePlaces state log → AreNamed log → length state.streams ≡ place_limit →
-        message_at log e ≡ Some m → m.command ≡ begin_command → 0 < m.stream → m.place ≡ None → begin_target m.payload ≡ Some target →
+    ensures full { (state : PlacesState) (rules : Rules) (log : Log) (e : Event) (m : Message) (target : Target) →
+        ArePlaces state log → AreNamed log → length state.streams ≡ place_limit →
+        message_at log e ≡ Some m → m.command ≡ begin_command → 0 < m.stream → m.place ≡ None →
+        begin_target m.payload ≡ Some target →
         position is_free state.streams ≡ None → effects_after rules log e ≡ ending log m.stream end_resource_limit }
-    ensures reach { (state : PlacesState) (rules : Rules) (log : Log) (e : Event) (m : Message) (target : Target) (place : ℕ) (to : Address) → ArePlaces state log → AreNamed log → length state.streams ≡ place_limit →
-        message_at log e ≡ Some m → m.command ≡ begin_command → 0 < m.stream → m.place ≡ None → begin_target m.payload ≡ Some target →
+    ensures reach { (state : PlacesState) (rules : Rules) (log : Log) (e : Event) (m : Message) (target : Target) (place : ℕ) (to : Address) →
+        ArePlaces state log → AreNamed log → length state.streams ≡ place_limit →
+        message_at log e ≡ Some m → m.command ≡ begin_command → 0 < m.stream → m.place ≡ None →
+        begin_target m.payload ≡ Some target →
         position is_free state.streams ≡ Some place → allowed_address rules target ≡ Some to →
         effects_after rules log e ≡ ordering (Reach (record { stream = m.stream; serial = state.next_serial }) to) }
-    ensures unallowed { (state : PlacesState) (rules : Rules) (log : Log) (e : Event) (m : Message) (target : Target) (place : ℕ) → ArePlaces state log → AreNamed log → length state.streams ≡ place_limit →
-        message_at log e ≡ Some m → m.command ≡ begin_command → 0 < m.stream → m.place ≡ None → begin_target m.payload ≡ Some target →
+    ensures unallowed { (state : PlacesState) (rules : Rules) (log : Log) (e : Event) (m : Message) (target : Target) (place : ℕ) →
+        ArePlaces state log → AreNamed log → length state.streams ≡ place_limit →
+        message_at log e ≡ Some m → m.command ≡ begin_command → 0 < m.stream → m.place ≡ None →
+        begin_target m.payload ≡ Some target →
         position is_free state.streams ≡ Some place → allowed_address rules target ≡ None →
         effects_after rules log e ≡ ending log m.stream end_exit_policy }
 {}

@@ -46,8 +46,11 @@ impl Circuit {
 
     // EXTEND2 must come in RELAY_EARLY, have no next hop before it, and name an IPv4 address.
     pub(crate) fn extend(&mut self, message: &Message<'_>) -> Effects
-        ensures effects { (log : Log) (command : ℕ) (body : List ℕ) (m : ModelMessage) → IsBrought message.now log command body m → HasParts self.old log → effects_of result ≡ extend_effects log m }
-        ensures parts { (rules : ModelRules) (log : Log) (command : ℕ) (body : List ℕ) (m : ModelMessage) → IsBrought message.now log command body m → HasParts self.old log → m.command ≡ extend2_command → result.close ≡ None → HasParts self.new (after_cell rules log command body) }
+        ensures effects { (log : Log) (command : ℕ) (body : List ℕ) (m : ModelMessage) →
+            IsBrought message.now log command body m → HasParts self.old log → effects_of result ≡ extend_effects log m }
+        ensures parts { (rules : ModelRules) (log : Log) (command : ℕ) (body : List ℕ) (m : ModelMessage) →
+            IsBrought message.now log command body m → HasParts self.old log → m.command ≡ extend2_command → result.close ≡ None →
+            HasParts self.new (after_cell rules log command body) }
         ensures windows { self.new.windows ≡ self.old.windows }
         ensures places { self.new.places ≡ self.old.places }
         ensures early { self.new.early ≡ self.old.early }

@@ -22,7 +22,8 @@ impl Circuit {
     /// A channel to the next hop is there, and a new leg on it: CREATE2 goes out.
     pub fn next_linked(&mut self) -> Effects
         requires { self.old.next_hop ≡ NextHop.Dialling }
-        ensures effects { (rules : Rules) (h : List Event) → IsCircuit self.old rules h → effects_of result ≡ effects rules h Linked }
+        ensures effects { (rules : Rules) (h : List Event) → IsCircuit self.old rules h →
+            effects_of result ≡ effects rules h Linked }
         ensures circuit { (rules : Rules) (h : List Event) → IsCircuit self.old rules h → IsCircuit self.new rules (Linked ∷ h) }
         ensures rest { self.new ≡ record self.old { next_hop = NextHop.Waiting } }
     {
@@ -38,8 +39,10 @@ impl Circuit {
     pub fn next_answered(&mut self, payload: &[u8; 509]) -> Effects
         requires calls { HasCalls self.old }
         requires awaited { self.old.next_hop ≡ NextHop.Waiting }
-        ensures effects { (rules : Rules) (h : List Event) → IsCircuit self.old rules h → effects_of result ≡ effects rules h (Answered payload.now) }
-        ensures circuit { (rules : Rules) (h : List Event) → IsCircuit self.old rules h → result.close ≡ None → IsCircuit self.new rules (Answered payload.now ∷ h) }
+        ensures effects { (rules : Rules) (h : List Event) → IsCircuit self.old rules h →
+            effects_of result ≡ effects rules h (Answered payload.now) }
+        ensures circuit { (rules : Rules) (h : List Event) → IsCircuit self.old rules h → result.close ≡ None →
+            IsCircuit self.new rules (Answered payload.now ∷ h) }
         ensures packaged { self.new.packager.padding.count ≤ self.old.packager.padding.count + 1 }
         ensures rest { self.new ≡ record self.old { next_hop = NextHop.There; packager = self.new.packager } }
     {
@@ -55,7 +58,8 @@ impl Circuit {
     /// No channel to the next hop could be had.
     pub fn next_failed(&mut self) -> Effects
         requires { self.old.next_hop ≡ NextHop.Dialling }
-        ensures effects { (rules : Rules) (h : List Event) → IsCircuit self.old rules h → effects_of result ≡ effects rules h Failed }
+        ensures effects { (rules : Rules) (h : List Event) → IsCircuit self.old rules h →
+            effects_of result ≡ effects rules h Failed }
         ensures stays { self.new ≡ self.old }
     {
         Effects::closing(destroy_reason::CONNECT_FAILED)

@@ -41,8 +41,12 @@ impl Circuit {
         requires empty { room.items ≡ [] }
         requires ample { IsTrue (is_data_for_live opened.now self.old.places) → 498 ≤ room.spare }
         requires blank { effects_of outcome.old ≡ no_effects }
-        ensures effects { (h : List Event) (body : List ℕ) → IsCircuit self.old (rules_of rules.now) h → IsOpened opened.now (log (rules_of rules.now) h) body → effects_of outcome.new ≡ effects (rules_of rules.now) h (Forward command body) }
-        ensures circuit { (h : List Event) (body : List ℕ) → IsCircuit self.old (rules_of rules.now) h → IsOpened opened.now (log (rules_of rules.now) h) body → outcome.new.close ≡ None → IsCircuit self.new (rules_of rules.now) (Forward command body ∷ h) }
+        ensures effects { (h : List Event) (body : List ℕ) → IsCircuit self.old (rules_of rules.now) h →
+            IsOpened opened.now (log (rules_of rules.now) h) body →
+            effects_of outcome.new ≡ effects (rules_of rules.now) h (Forward command body) }
+        ensures circuit { (h : List Event) (body : List ℕ) → IsCircuit self.old (rules_of rules.now) h →
+            IsOpened opened.now (log (rules_of rules.now) h) body → outcome.new.close ≡ None →
+            IsCircuit self.new (rules_of rules.now) (Forward command body ∷ h) }
         ensures windows { self.new.windows.calls ≤ self.old.windows.calls + 1 }
         ensures places { self.new.places.calls ≤ self.old.places.calls + 1 }
         ensures packaged { self.new.packager.padding.count ≤ self.old.packager.padding.count + 1 }
@@ -72,8 +76,12 @@ impl Circuit {
         requires empty { room.items ≡ [] }
         requires ample { IsTrue (is_data_for_live opened.now self.old.places) → 498 ≤ room.spare }
         requires blank { effects_of outcome.old ≡ no_effects }
-        ensures effects { (log : Log) (body : List ℕ) → IsCell opened.now log command body → IsMadeBy self.old (rules_of rules.now) → HasParts self.old log → effects_of outcome.new ≡ effects_after (rules_of rules.now) log (Forward command body) }
-        ensures parts { (log : Log) (body : List ℕ) → IsCell opened.now log command body → IsMadeBy self.old (rules_of rules.now) → HasParts self.old log → outcome.new.close ≡ None → HasParts self.new (after_cell (rules_of rules.now) log command body) }
+        ensures effects { (log : Log) (body : List ℕ) → IsCell opened.now log command body →
+            IsMadeBy self.old (rules_of rules.now) → HasParts self.old log →
+            effects_of outcome.new ≡ effects_after (rules_of rules.now) log (Forward command body) }
+        ensures parts { (log : Log) (body : List ℕ) → IsCell opened.now log command body →
+            IsMadeBy self.old (rules_of rules.now) → HasParts self.old log → outcome.new.close ≡ None →
+            HasParts self.new (after_cell (rules_of rules.now) log command body) }
         ensures windows { self.new.windows.calls ≤ self.old.windows.calls + 1 }
         ensures places { self.new.places.calls ≤ self.old.places.calls + 1 }
         ensures packaged { self.new.packager.padding.count ≤ self.old.packager.padding.count + 1 }
@@ -99,10 +107,15 @@ impl Circuit {
     fn message(&mut self, rules: &Rules, message: &Message<'_>, room: Bytes, outcome: &mut Effects)
         requires calls { HasCalls self.old }
         requires empty { room.items ≡ [] }
-        requires ample { message.now.command ≡ data_command → IsTrue (is_some (position (is_live_as message.now.stream) self.old.places.streams)) → 498 ≤ room.spare }
+        requires ample { message.now.command ≡ data_command →
+            IsTrue (is_some (position (is_live_as message.now.stream) self.old.places.streams)) → 498 ≤ room.spare }
         requires blank { effects_of outcome.old ≡ no_effects }
-        ensures effects { (log : Log) (command : ℕ) (body : List ℕ) (m : ModelMessage) → IsBrought message.now log command body m → IsMadeBy self.old (rules_of rules.now) → HasParts self.old log → effects_of outcome.new ≡ message_effects (rules_of rules.now) log m }
-        ensures parts { (log : Log) (command : ℕ) (body : List ℕ) (m : ModelMessage) → IsBrought message.now log command body m → IsMadeBy self.old (rules_of rules.now) → HasParts self.old log → outcome.new.close ≡ None → HasParts self.new (after_cell (rules_of rules.now) log command body) }
+        ensures effects { (log : Log) (command : ℕ) (body : List ℕ) (m : ModelMessage) →
+            IsBrought message.now log command body m → IsMadeBy self.old (rules_of rules.now) → HasParts self.old log →
+            effects_of outcome.new ≡ message_effects (rules_of rules.now) log m }
+        ensures parts { (log : Log) (command : ℕ) (body : List ℕ) (m : ModelMessage) → IsBrought message.now log command body m →
+            IsMadeBy self.old (rules_of rules.now) → HasParts self.old log → outcome.new.close ≡ None →
+            HasParts self.new (after_cell (rules_of rules.now) log command body) }
         ensures windows { self.new.windows.calls ≤ self.old.windows.calls + 1 }
         ensures places { self.new.places.calls ≤ self.old.places.calls + 1 }
         ensures packaged { self.new.packager.padding.count ≤ self.old.packager.padding.count + 1 }
@@ -123,8 +136,12 @@ impl Circuit {
     fn other_message(&mut self, rules: &Rules, message: &Message<'_>) -> Effects
         requires calls { HasCalls self.old }
         requires other { message.now.command ≢ data_command }
-        ensures effects { (log : Log) (command : ℕ) (body : List ℕ) (m : ModelMessage) → IsBrought message.now log command body m → IsMadeBy self.old (rules_of rules.now) → HasParts self.old log → effects_of result ≡ message_effects (rules_of rules.now) log m }
-        ensures parts { (log : Log) (command : ℕ) (body : List ℕ) (m : ModelMessage) → IsBrought message.now log command body m → IsMadeBy self.old (rules_of rules.now) → HasParts self.old log → result.close ≡ None → HasParts self.new (after_cell (rules_of rules.now) log command body) }
+        ensures effects { (log : Log) (command : ℕ) (body : List ℕ) (m : ModelMessage) →
+            IsBrought message.now log command body m → IsMadeBy self.old (rules_of rules.now) → HasParts self.old log →
+            effects_of result ≡ message_effects (rules_of rules.now) log m }
+        ensures parts { (log : Log) (command : ℕ) (body : List ℕ) (m : ModelMessage) → IsBrought message.now log command body m →
+            IsMadeBy self.old (rules_of rules.now) → HasParts self.old log → result.close ≡ None →
+            HasParts self.new (after_cell (rules_of rules.now) log command body) }
         ensures windows { self.new.windows.calls ≤ self.old.windows.calls + 1 }
         ensures places { self.new.places.calls ≤ self.old.places.calls + 1 }
         ensures packaged { self.new.packager.padding.count ≤ self.old.packager.padding.count + 1 }

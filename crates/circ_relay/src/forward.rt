@@ -79,8 +79,12 @@ impl Circuit {
         requires calls { HasCalls self.old }
         requires empty { room.items ≡ [] }
         requires ample { 498 ≤ room.spare }
-        ensures effects { (h : List Event) (body : List ℕ) → IsCircuit self.old (rules_of rules.now) h → IsOpened opened.now (log (rules_of rules.now) h) body → effects_of result ≡ effects (rules_of rules.now) h (Forward command body) }
-        ensures circuit { (h : List Event) (body : List ℕ) → IsCircuit self.old (rules_of rules.now) h → IsOpened opened.now (log (rules_of rules.now) h) body → result.close ≡ None → IsCircuit self.new (rules_of rules.now) (Forward command body ∷ h) }
+        ensures effects { (h : List Event) (body : List ℕ) → IsCircuit self.old (rules_of rules.now) h →
+            IsOpened opened.now (log (rules_of rules.now) h) body →
+            effects_of result ≡ effects (rules_of rules.now) h (Forward command body) }
+        ensures circuit { (h : List Event) (body : List ℕ) → IsCircuit self.old (rules_of rules.now) h →
+            IsOpened opened.now (log (rules_of rules.now) h) body → result.close ≡ None →
+            IsCircuit self.new (rules_of rules.now) (Forward command body ∷ h) }
         ensures windows { self.new.windows.calls ≤ self.old.windows.calls + 1 }
         ensures places { self.new.places.calls ≤ self.old.places.calls + 1 }
         ensures packaged { self.new.packager.padding.count ≤ self.old.packager.padding.count + 1 }
@@ -113,8 +117,10 @@ impl Circuit {
     // A cell that isn't recognised.
     fn for_next_hop(&mut self, opened: &Opened, command: u8) -> Effects
         requires { opened.now.recognised ≡ None }
-        ensures effects { (rules : ModelRules) (h : List Event) (body : List ℕ) → IsCircuit self.old rules h → IsOpened opened.now (log rules h) body → effects_of result ≡ effects rules h (Forward command body) }
-        ensures circuit { (rules : ModelRules) (h : List Event) (body : List ℕ) → IsCircuit self.old rules h → IsOpened opened.now (log rules h) body → result.close ≡ None → IsCircuit self.new rules (Forward command body ∷ h) }
+        ensures effects { (rules : ModelRules) (h : List Event) (body : List ℕ) → IsCircuit self.old rules h →
+            IsOpened opened.now (log rules h) body → effects_of result ≡ effects rules h (Forward command body) }
+        ensures circuit { (rules : ModelRules) (h : List Event) (body : List ℕ) → IsCircuit self.old rules h →
+            IsOpened opened.now (log rules h) body → result.close ≡ None → IsCircuit self.new rules (Forward command body ∷ h) }
         ensures orderless { result.edge ≡ None }
         ensures rest { self.new ≡ record self.old { early = self.new.early } }
     {
@@ -127,7 +133,8 @@ impl Circuit {
     // Counts a RELAY_EARLY, unless it is one more than a circuit takes.
     pub(crate) fn counts(&mut self, command: u8) -> bool
         ensures test { result ≡ not ((command == relay_early_command) && nat_le relay_early_limit self.old.early) }
-        ensures early { IsTrue result → self.new.early ≡ (if command == relay_early_command then self.old.early + 1 else self.old.early) }
+        ensures early { IsTrue result →
+            self.new.early ≡ (if command == relay_early_command then self.old.early + 1 else self.old.early) }
         ensures rest { self.new ≡ record self.old { early = self.new.early } }
     {
         if command != cell_command::RELAY_EARLY {
@@ -142,7 +149,8 @@ impl Circuit {
 
     // A body for another hop goes on with the command of its cell, if there is a next hop.
     fn passed_on(&self, command: u8, body: &[u8; 509]) -> Effects
-        ensures effects { (log : Log) → HasParts self.now log → effects_of result ≡ passed_on (next_hop log) (record { command = command; body = body.now }) }
+        ensures effects { (log : Log) → HasParts self.now log →
+            effects_of result ≡ passed_on (next_hop log) (record { command = command; body = body.now }) }
         ensures orderless { result.edge ≡ None }
     {
         match self.next_hop {

@@ -34,7 +34,8 @@ impl Model for Packager {
 impl Packager {
     /// Before the first body, by the seed of the backward digest and the key of the padding.
     pub fn of(seed: &[u8; 20], pad: Option<[u8; 16]>) -> Packager
-        ensures packager { (log : Log) → own log ≡ [] → (born_keys log).db ≡ seed.now → born_pad log ≡ pad → IsPackager result log }
+        ensures packager { (log : Log) → own log ≡ [] → (born_keys log).db ≡ seed.now → born_pad log ≡ pad →
+            IsPackager result log }
         ensures count { result.padding.count ≡ 0 }
     {
         Packager {

@@ -115,11 +115,14 @@ pub fn other_events_leave_the_places()
     ensures no_place { (state : PlacesState) (rules : Rules) (log : Log) (e : Event) (m : Message) → ArePlaces state log →
         message_at log e ≡ Some m → m.command ≢ begin_command → m.place ≡ None → ArePlaces state (entry_after rules log e ∷ log) }
     ensures other_command { (state : PlacesState) (rules : Rules) (log : Log) (e : Event) (m : Message) → ArePlaces state log →
-        message_at log e ≡ Some m → m.command ≢ begin_command → m.command ≢ data_command → m.command ≢ end_command → m.command ≢ sendme_command →
+        message_at log e ≡ Some m → m.command ≢ begin_command → m.command ≢ data_command → m.command ≢ end_command →
+        m.command ≢ sendme_command →
         ArePlaces state (entry_after rules log e ∷ log) }
     ensures refused { (state : PlacesState) (rules : Rules) (log : Log) (e : Event) (m : Message) → ArePlaces state log →
-        message_at log e ≡ Some m → m.command ≡ begin_command → (effects_after rules log e).edge ≡ None → ArePlaces state (entry_after rules log e ∷ log) }
-    ensures closing { (state : PlacesState) (rules : Rules) (log : Log) (e : Event) (m : Message) (reason : ℕ) → ArePlaces state log →
+        message_at log e ≡ Some m → m.command ≡ begin_command → (effects_after rules log e).edge ≡ None →
+        ArePlaces state (entry_after rules log e ∷ log) }
+    ensures closing { (state : PlacesState) (rules : Rules) (log : Log) (e : Event) (m : Message) (reason : ℕ) →
+        ArePlaces state log →
         message_at log e ≡ Some m → effects_after rules log e ≡ closing reason → ArePlaces state (entry_after rules log e ∷ log) }
 {}
 

@@ -22,8 +22,12 @@ use tr_io::names::Dest;
 impl Circuit {
     pub(crate) fn resolve(&mut self, rules: &Rules, message: &Message<'_>) -> Effects
         requires { self.old.packager.padding.count < 2 ^ 63 }
-        ensures effects { (log : Log) (command : ℕ) (body : List ℕ) (m : ModelMessage) → IsBrought message.now log command body m → HasParts self.old log → effects_of result ≡ resolve_effects (rules_of rules.now) log m }
-        ensures parts { (log : Log) (command : ℕ) (body : List ℕ) (m : ModelMessage) → IsBrought message.now log command body m → HasParts self.old log → m.command ≡ resolve_command → HasParts self.new (after_cell (rules_of rules.now) log command body) }
+        ensures effects { (log : Log) (command : ℕ) (body : List ℕ) (m : ModelMessage) →
+            IsBrought message.now log command body m → HasParts self.old log →
+            effects_of result ≡ resolve_effects (rules_of rules.now) log m }
+        ensures parts { (log : Log) (command : ℕ) (body : List ℕ) (m : ModelMessage) → IsBrought message.now log command body m →
+            HasParts self.old log → m.command ≡ resolve_command →
+            HasParts self.new (after_cell (rules_of rules.now) log command body) }
         ensures packaged { self.new.packager.padding.count ≡ self.old.packager.padding.count + 1 }
         ensures rest { self.new ≡ record self.old { packager = self.new.packager } }
         ensures orderless { result.edge ≡ None }

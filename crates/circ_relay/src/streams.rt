@@ -45,7 +45,8 @@ impl Circuit {
 
     pub(crate) fn key_at(&self, stream: u16, place: PlaceNo) -> StreamKey
         requires { IsTaken self.now.places place.0 }
-        ensures key { (h : Held) → held_at self.now.places place.0 ≡ Some h → key_of result ≡ record { stream = stream; serial = h.serial } }
+        ensures key { (h : Held) → held_at self.now.places place.0 ≡ Some h →
+            key_of result ≡ record { stream = stream; serial = h.serial } }
         ensures circuit { result.circ ≡ self.now.number }
     {
         StreamKey {
@@ -74,8 +75,11 @@ impl Circuit {
         requires empty { room.items ≡ [] }
         requires ample { IsTrue (is_some (position (is_live_as message.now.stream) self.old.places.streams)) → 498 ≤ room.spare }
         requires blank { effects_of outcome.old ≡ no_effects }
-        ensures effects { (log : Log) (command : ℕ) (body : List ℕ) (m : ModelMessage) → IsBrought message.now log command body m → HasParts self.old log → effects_of outcome.new ≡ data_effects log m }
-        ensures parts { (rules : ModelRules) (log : Log) (command : ℕ) (body : List ℕ) (m : ModelMessage) → IsBrought message.now log command body m → HasParts self.old log → m.command ≡ data_command → outcome.new.close ≡ None → HasParts self.new (after_cell rules log command body) }
+        ensures effects { (log : Log) (command : ℕ) (body : List ℕ) (m : ModelMessage) →
+            IsBrought message.now log command body m → HasParts self.old log → effects_of outcome.new ≡ data_effects log m }
+        ensures parts { (rules : ModelRules) (log : Log) (command : ℕ) (body : List ℕ) (m : ModelMessage) →
+            IsBrought message.now log command body m → HasParts self.old log → m.command ≡ data_command →
+            outcome.new.close ≡ None → HasParts self.new (after_cell rules log command body) }
         ensures windows { self.new.windows.calls ≤ self.old.windows.calls + 1 }
         ensures places { self.new.places.calls ≤ self.old.places.calls + 1 }
         ensures packaged { self.new.packager.padding.count ≤ self.old.packager.padding.count + 1 }
@@ -104,8 +108,11 @@ impl Circuit {
         requires calls { self.old.windows.calls < 2 ^ 63 }
         requires packaged { self.old.packager.padding.count < 2 ^ 63 }
         requires blank { effects_of outcome.old ≡ no_effects }
-        ensures effects { (log : Log) (m : ModelMessage) → IsPackager self.old.packager log → HasCountsOf self.old.windows (window_of log) → m.digest ≡ digest.now → effects_of outcome.new ≡ acknowledging log m }
-        ensures packager { (log : Log) (m : ModelMessage) → IsPackager self.old.packager log → HasCountsOf self.old.windows (window_of log) → m.digest ≡ digest.now → IsPackagedNext self.new.packager log (acknowledging log m).back }
+        ensures effects { (log : Log) (m : ModelMessage) → IsPackager self.old.packager log →
+            HasCountsOf self.old.windows (window_of log) → m.digest ≡ digest.now → effects_of outcome.new ≡ acknowledging log m }
+        ensures packager { (log : Log) (m : ModelMessage) → IsPackager self.old.packager log →
+            HasCountsOf self.old.windows (window_of log) → m.digest ≡ digest.now →
+            IsPackagedNext self.new.packager log (acknowledging log m).back }
         ensures stands { (w : CircuitWindow) → HasCountsOf self.old.windows w → HasCountsOf self.new.windows (after_accepting w) }
         ensures windows { self.new.windows.calls ≡ self.old.windows.calls + 1 }
         ensures limits { KeepsLimits self.old.windows self.new.windows }
@@ -123,8 +130,11 @@ impl Circuit {
 
     pub(crate) fn end(&mut self, message: &Message<'_>) -> Effects
         requires calls { HasCalls self.old }
-        ensures effects { (log : Log) (command : ℕ) (body : List ℕ) (m : ModelMessage) → IsBrought message.now log command body m → HasParts self.old log → effects_of result ≡ end_effects m }
-        ensures parts { (rules : ModelRules) (log : Log) (command : ℕ) (body : List ℕ) (m : ModelMessage) → IsBrought message.now log command body m → HasParts self.old log → m.command ≡ end_command → result.close ≡ None → HasParts self.new (after_cell rules log command body) }
+        ensures effects { (log : Log) (command : ℕ) (body : List ℕ) (m : ModelMessage) →
+            IsBrought message.now log command body m → HasParts self.old log → effects_of result ≡ end_effects m }
+        ensures parts { (rules : ModelRules) (log : Log) (command : ℕ) (body : List ℕ) (m : ModelMessage) →
+            IsBrought message.now log command body m → HasParts self.old log → m.command ≡ end_command → result.close ≡ None →
+            HasParts self.new (after_cell rules log command body) }
         ensures windows { self.new.windows ≡ self.old.windows }
         ensures places { self.new.places.calls ≤ self.old.places.calls + 1 }
         ensures packager { self.new.packager ≡ self.old.packager }
@@ -145,8 +155,12 @@ impl Circuit {
 
     pub(crate) fn sendme(&mut self, message: &Message<'_>) -> Effects
         requires calls { HasCalls self.old }
-        ensures effects { (rules : ModelRules) (log : Log) (command : ℕ) (body : List ℕ) (m : ModelMessage) → IsBrought message.now log command body m → IsMadeBy self.old rules → HasParts self.old log → effects_of result ≡ sendme_effects rules log m }
-        ensures parts { (rules : ModelRules) (log : Log) (command : ℕ) (body : List ℕ) (m : ModelMessage) → IsBrought message.now log command body m → IsMadeBy self.old rules → HasParts self.old log → m.command ≡ sendme_command → result.close ≡ None → HasParts self.new (after_cell rules log command body) }
+        ensures effects { (rules : ModelRules) (log : Log) (command : ℕ) (body : List ℕ) (m : ModelMessage) →
+            IsBrought message.now log command body m → IsMadeBy self.old rules → HasParts self.old log →
+            effects_of result ≡ sendme_effects rules log m }
+        ensures parts { (rules : ModelRules) (log : Log) (command : ℕ) (body : List ℕ) (m : ModelMessage) →
+            IsBrought message.now log command body m → IsMadeBy self.old rules → HasParts self.old log →
+            m.command ≡ sendme_command → result.close ≡ None → HasParts self.new (after_cell rules log command body) }
         ensures windows { self.new.windows.calls ≤ self.old.windows.calls + 1 }
         ensures places { self.new.places.calls ≤ self.old.places.calls + 1 }
         ensures packager { self.new.packager ≡ self.old.packager }

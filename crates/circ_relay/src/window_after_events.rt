@@ -66,13 +66,19 @@ pub fn quiet_events_leave_the_window()
 /// where a body is packaged for it.
 #[tactic(auto, using(crate::proofs::QuietEvents::quiet_events))]
 pub fn reports_leave_the_window()
-    ensures body { (rules : Rules) (log : Log) (body : List ℕ) → window_of (entry_after rules log (Backward body) ∷ log) ≡ window_of log }
-    ensures connected { (rules : Rules) (log : Log) (serial : ℕ) → window_of (entry_after rules log (Connected serial) ∷ log) ≡ window_of log }
-    ensures ended { (rules : Rules) (log : Log) (serial reason : ℕ) → window_of (entry_after rules log (Ended serial reason) ∷ log) ≡ window_of log }
-    ensures drained { (rules : Rules) (log : Log) (serial : ℕ) → window_of (entry_after rules log (Drained serial) ∷ log) ≡ window_of log }
-    ensures freed { (rules : Rules) (log : Log) (serial : ℕ) → window_of (entry_after rules log (Freed serial) ∷ log) ≡ window_of log }
+    ensures body { (rules : Rules) (log : Log) (body : List ℕ) →
+        window_of (entry_after rules log (Backward body) ∷ log) ≡ window_of log }
+    ensures connected { (rules : Rules) (log : Log) (serial : ℕ) →
+        window_of (entry_after rules log (Connected serial) ∷ log) ≡ window_of log }
+    ensures ended { (rules : Rules) (log : Log) (serial reason : ℕ) →
+        window_of (entry_after rules log (Ended serial reason) ∷ log) ≡ window_of log }
+    ensures drained { (rules : Rules) (log : Log) (serial : ℕ) →
+        window_of (entry_after rules log (Drained serial) ∷ log) ≡ window_of log }
+    ensures freed { (rules : Rules) (log : Log) (serial : ℕ) →
+        window_of (entry_after rules log (Freed serial) ∷ log) ≡ window_of log }
     ensures linked { (rules : Rules) (log : Log) → window_of (entry_after rules log Linked ∷ log) ≡ window_of log }
-    ensures answered { (rules : Rules) (log : Log) (payload : List ℕ) → window_of (entry_after rules log (Answered payload) ∷ log) ≡ window_of log }
+    ensures answered { (rules : Rules) (log : Log) (payload : List ℕ) →
+        window_of (entry_after rules log (Answered payload) ∷ log) ≡ window_of log }
     ensures failed { (rules : Rules) (log : Log) → window_of (entry_after rules log Failed ∷ log) ≡ window_of log }
 {}
 

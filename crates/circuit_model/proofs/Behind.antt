@@ -19,20 +19,25 @@ pushed-append : {A : Type 0} (xs : List A) (x : Option A) → pushed xs x ≡ xs
 pushed-append xs None = simp append-nil
 pushed-append xs (Some x) = refl
 
-pub one_body_back : (rules : Rules) (h : List Event) (e : Event) → behind (log rules (e ∷ h)) ≡ behind (log rules h) ++ option_to_list (effects rules h e).back
+pub one_body_back : (rules : Rules) (h : List Event) (e : Event)
+    → behind (log rules (e ∷ h)) ≡ behind (log rules h) ++ option_to_list (effects rules h e).back
 one_body_back rules h e = pushed-append (behind (log rules h)) (effects rules h e).back
 
-pub backward_goes_as_it_is : (rules : Rules) (h : List Event) (body : List ℕ) → is_closed (log rules h) ≡ false → behind (log rules (Backward body ∷ h)) ≡ behind (log rules h) ++ body ∷ []
+pub backward_goes_as_it_is : (rules : Rules) (h : List Event) (body : List ℕ) → is_closed (log rules h) ≡ false
+    → behind (log rules (Backward body ∷ h)) ≡ behind (log rules h) ++ body ∷ []
 unfolding open_effects
 backward_goes_as_it_is rules h body live = rw live
 
-does-refuse : (rules : Rules) (l : Log) (m : Message) (target : Target) → m.command ≡ begin_command → (m.stream == 0) ≡ false → m.place ≡ None → begin_target m.payload ≡ Some target → nat_le 32 (taken_places l) ≡ false → allowed_address rules target ≡ None →
+does-refuse : (rules : Rules) (l : Log) (m : Message) (target : Target) → m.command ≡ begin_command → (m.stream == 0) ≡ false
+    → m.place ≡ None → begin_target m.payload ≡ Some target → nat_le 32 (taken_places l) ≡ false
+    → allowed_address rules target ≡ None →
     message_effects rules l m ≡ ending l m.stream 4
 unfolding message_effects
 does-refuse rules l m target command stream free asked room address = rw (command, stream, free, asked, room, address)
 
 pub refused_begin_ends : (rules : Rules) (h : List Event) (e : Event) (m : Message) (target : Target) →
-    message_at (log rules h) e ≡ Some m → m.command ≡ begin_command → 0 < m.stream → m.place ≡ None → begin_target m.payload ≡ Some target → taken_places (log rules h) < 32 → allowed_address rules target ≡ None →
+    message_at (log rules h) e ≡ Some m → m.command ≡ begin_command → 0 < m.stream → m.place ≡ None
+    → begin_target m.payload ≡ Some target → taken_places (log rules h) < 32 → allowed_address rules target ≡ None →
     effects rules h e ≡ ending (log rules h) m.stream 4
 refused_begin_ends rules h e m target found command stream free asked room address =
     let l : Log = log rules h in

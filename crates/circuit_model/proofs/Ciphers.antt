@@ -17,11 +17,14 @@ unfolding opened
 opened_is_read l body = refl
 
 -- the layer behind a forward body
-layer-next : (l : Log) (command : ℕ) (body : List ℕ) (m : Option Message) (fx : Effects) → next_layer (record { event = Forward command body; message = m; effects = fx } ∷ l) ≡ after_opening (next_layer l) body
+layer-next : (l : Log) (command : ℕ) (body : List ℕ) (m : Option Message) (fx : Effects)
+    → next_layer (record { event = Forward command body; message = m; effects = fx } ∷ l) ≡ after_opening (next_layer l) body
 unfolding after_opening
-layer-next l command body m fx = let next : 509 * (forward_count l + 1) ≡ 509 * forward_count l + 509 = omega arith in rw next refl
+layer-next l command body m fx =
+    let next : 509 * (forward_count l + 1) ≡ 509 * forward_count l + 509 = omega arith in rw next refl
 
-pub batch_opened : (rules : Rules) (events : List Event) (cells : List CircuitCell) → opened_all (next_layer (log rules events)) (map body_of cells) ≡ opened_each rules events cells
+pub batch_opened : (rules : Rules) (events : List Event) (cells : List CircuitCell)
+    → opened_all (next_layer (log rules events)) (map body_of cells) ≡ opened_each rules events cells
 batch_opened rules events [] = refl
 batch_opened rules events (cell ∷ cells) =
     let entry = entry_after rules (log rules events) (Forward cell.command cell.body) in
@@ -29,15 +32,19 @@ batch_opened rules events (cell ∷ cells) =
     ap (λ l. opened (next_layer (log rules events)) cell.body ∷ opened_all l (map body_of cells)) (sym next)
     ∙ ap (λ l. opened (next_layer (log rules events)) cell.body ∷ l) (batch_opened rules (Forward cell.command cell.body ∷ events) cells)
 
-pub batch_layer : (rules : Rules) (events : List Event) (cells : List CircuitCell) → after_opening_all (next_layer (log rules events)) (map body_of cells) ≡ next_layer (log rules (events_behind events cells))
+pub batch_layer : (rules : Rules) (events : List Event) (cells : List CircuitCell)
+    → after_opening_all (next_layer (log rules events)) (map body_of cells) ≡ next_layer (log rules (events_behind events cells))
 batch_layer rules events [] = refl
 batch_layer rules events (cell ∷ cells) =
     let entry = entry_after rules (log rules events) (Forward cell.command cell.body) in
-    ap (λ l. after_opening_all l (map body_of cells)) (sym (layer-next (log rules events) cell.command cell.body entry.message entry.effects)) ∙ batch_layer rules (Forward cell.command cell.body ∷ events) cells
+    ap (λ l. after_opening_all l (map body_of cells)) (sym (layer-next (log rules events) cell.command cell.body entry.message entry.effects))
+    ∙ batch_layer rules (Forward cell.command cell.body ∷ events) cells
 
 -- sealed bodies are those that leave on leg 0
-pub batch_sealed : (key : List ℕ) (n : ℕ) (bodies : List (List ℕ)) → sealed_all key (509 * n) bodies ≡ map body_of (all_sealed key n bodies)
+pub batch_sealed : (key : List ℕ) (n : ℕ) (bodies : List (List ℕ))
+    → sealed_all key (509 * n) bodies ≡ map body_of (all_sealed key n bodies)
 batch_sealed key n [] = refl
 batch_sealed key n (body ∷ bodies) =
     let next : 509 * n + 509 ≡ 509 * (n + 1) = omega arith in
-    ap (λ i. layered key (509 * n) body ∷ sealed_all key i bodies) next ∙ ap (λ l. layered key (509 * n) body ∷ l) (batch_sealed key (n + 1) bodies)
+    ap (λ i. layered key (509 * n) body ∷ sealed_all key i bodies) next
+    ∙ ap (λ l. layered key (509 * n) body ∷ l) (batch_sealed key (n + 1) bodies)

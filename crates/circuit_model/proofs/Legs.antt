@@ -36,7 +36,8 @@ message-not_linked_in l Linked m found = cc
 message-not_linked_in l (Answered payload) m found = refl
 message-not_linked_in l Failed m found = refl
 
-not_linked-by : (closed : Bool) (l : Log) (e : Event) (m : Message) → (if closed then None else message_in l e) ≡ Some m → is_linked e ≡ false
+not_linked-by : (closed : Bool) (l : Log) (e : Event) (m : Message) → (if closed then None else message_in l e) ≡ Some m
+    → is_linked e ≡ false
 not_linked-by true l e m found = cc
 not_linked-by false l e m found = message-not_linked_in l e m found
 
@@ -46,14 +47,16 @@ has_leg-not_absent Dialling leg = cc
 has_leg-not_absent Waiting leg = refl
 has_leg-not_absent There leg = refl
 
-does-truncate : (rules : Rules) (l : Log) (m : Message) → m.command ≡ truncate_command → message_effects rules l m ≡ truncate_effects l
+does-truncate : (rules : Rules) (l : Log) (m : Message) → m.command ≡ truncate_command
+    → message_effects rules l m ≡ truncate_effects l
 unfolding message_effects
 does-truncate rules l m command = rw command
 
 self_eq : (n : ℕ) → (n == n) ≡ true
 self_eq n = grind arith
 
-pub truncate_ends_the_leg : (rules : Rules) (h : List Event) (e : Event) (m : Message) → message_at (log rules h) e ≡ Some m → m.command ≡ truncate_command → has_leg (next_hop (log rules h)) ≡ true → 0 < leg_count (log rules h) →
+pub truncate_ends_the_leg : (rules : Rules) (h : List Event) (e : Event) (m : Message) → message_at (log rules h) e ≡ Some m
+    → m.command ≡ truncate_command → has_leg (next_hop (log rules h)) ≡ true → 0 < leg_count (log rules h) →
     one (log rules (e ∷ h)) (leg_count (log rules h)) ≡ one (log rules h) (leg_count (log rules h)) ++ destroy 3 ∷ []
 truncate_ends_the_leg rules h e m found command leg some =
     let l : Log = log rules h in
@@ -71,7 +74,8 @@ passed_on-none Dialling cell leg = refl
 passed_on-none Waiting cell leg = cc
 passed_on-none There cell leg = cc
 
-received-none : (rules : Rules) (l : Log) (command : ℕ) (r : Received) → has_leg (next_hop l) ≡ false → (forward_effects rules l command r).forth ≡ None
+received-none : (rules : Rules) (l : Log) (command : ℕ) (r : Received) → has_leg (next_hop l) ≡ false
+    → (forward_effects rules l command r).forth ≡ None
 received-none rules l command TooManyEarly leg = refl
 received-none rules l command (Unrecognised plain) leg = passed_on-none (next_hop l) _ leg
 received-none rules l command TooLong leg = refl
@@ -93,7 +97,8 @@ extending-none : (l : Log) (handshake : Option (List ℕ)) → (extending l hand
 extending-none l None = refl
 extending-none l (Some handshake) = if-none (nat_le (length handshake) 496) _ _ refl refl
 
-open-none : (rules : Rules) (l : Log) (e : Event) → is_linked e ≡ false → has_leg (next_hop l) ≡ false → (open_effects rules l e).forth ≡ None
+open-none : (rules : Rules) (l : Log) (e : Event) → is_linked e ≡ false → has_leg (next_hop l) ≡ false
+    → (open_effects rules l e).forth ≡ None
 unfolding open_effects
 open-none rules l (Forward command body) other leg = received-none rules l command (received l command body) leg
 open-none rules l (Born reply keys pad) other leg = refl
@@ -115,7 +120,8 @@ append-nothing : (b : Bool) (xs : List CircuitCell) → xs ++ (if b then [] else
 append-nothing true xs = append-nil xs
 append-nothing false xs = append-nil xs
 
-pub no_leg_no_cells : (rules : Rules) (h : List Event) (e : Event) (leg : ℕ) → is_linked e ≡ false → has_leg (next_hop (log rules h)) ≡ false →
+pub no_leg_no_cells : (rules : Rules) (h : List Event) (e : Event) (leg : ℕ) → is_linked e ≡ false
+    → has_leg (next_hop (log rules h)) ≡ false →
     sent_to_hop (log rules (e ∷ h)) leg ≡ sent_to_hop (log rules h) leg
 no_leg_no_cells rules h e leg other none =
     let l : Log = log rules h in
@@ -124,7 +130,8 @@ no_leg_no_cells rules h e leg other none =
 
 -- Leg 0.
 
-append_sealed : (key : List ℕ) (n : ℕ) (bodies : List (List ℕ)) (body : List ℕ) → all_sealed key n (bodies ++ body ∷ []) ≡ all_sealed key n bodies ++ sealed key (n + length bodies) body ∷ []
+append_sealed : (key : List ℕ) (n : ℕ) (bodies : List (List ℕ)) (body : List ℕ)
+    → all_sealed key n (bodies ++ body ∷ []) ≡ all_sealed key n bodies ++ sealed key (n + length bodies) body ∷ []
 append_sealed key n [] body = rw add-zero
 append_sealed key n (first ∷ bodies) body =
     let more : (n + 1) + length bodies ≡ n + suc (length bodies) = omega arith in
@@ -157,5 +164,6 @@ client_leg_grows rules h e other =
     let same : reply_in e ≡ None = not_born-reply e other in
     rw (other, same) (pushed_sealed (born_keys l).kb (option_to_list (born_reply l)) (behind l) (effects rules h e).back)
 
-pub hop_leg_grows : (rules : Rules) (h : List Event) (e : Event) (leg : ℕ) → (more : List CircuitCell) × (sent_to_hop (log rules (e ∷ h)) leg ≡ sent_to_hop (log rules h) leg ++ more)
+pub hop_leg_grows : (rules : Rules) (h : List Event) (e : Event) (leg : ℕ)
+    → (more : List CircuitCell) × (sent_to_hop (log rules (e ∷ h)) leg ≡ sent_to_hop (log rules h) leg ++ more)
 hop_leg_grows rules h e leg = (_, refl)

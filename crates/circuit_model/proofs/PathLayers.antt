@@ -39,7 +39,8 @@ layered-twice key i body long = zip2-twice body (keystream_part key i 509) (long
 
 length-layered_for : (hops : List PathHop) (body : List ℕ) → length body ≡ 509 → length (layered_for hops body) ≡ 509
 length-layered_for [] body long = long
-length-layered_for (hop ∷ hops) body long = length-layered hop.keys.kf (509 * hop.sent) (layered_for hops body) (length-layered_for hops body long)
+length-layered_for (hop ∷ hops) body long =
+    length-layered hop.keys.kf (509 * hop.sent) (layered_for hops body) (length-layered_for hops body long)
 
 pub a_hop_takes_its_layer_off : (log : Log) (hop : PathHop) (hops : List PathHop) (body : List ℕ) → length body ≡ 509 →
     (born_keys log).kf ≡ hop.keys.kf → forward_count log ≡ hop.sent →

@@ -25,7 +25,8 @@ pub record IsTame (effects : Effects) : Type 0 where
 
 -- The relay command of a packaged body: neither padding nor Digest touches it.
 
-command-before_padding : (log : Log) (n command : ℕ) (rest more : List ℕ) → (relay_head (digested log (take (15 + n) (command ∷ rest) ++ more))).command ≡ command
+command-before_padding : (log : Log) (n command : ℕ) (rest more : List ℕ)
+    → (relay_head (digested log (take (15 + n) (command ∷ rest) ++ more))).command ≡ command
 unfolding relay_head digested with_digest
 command-before_padding log n command rest more =
     let front : 15 + n ≡ suc (14 + n) = omega arith in
@@ -40,11 +41,14 @@ command-digested log (Some key) n command stream payload =
     let size : ℕ = (relay_head body).length in
     command-before_padding log size command (drop 1 body) (drop (15 + size) (keystream_part key (509 * n) 509))
 
-pub command-package_of : (log : Log) (command stream : ℕ) (payload : List ℕ) → (relay_head (package_of log command stream payload)).command ≡ command
+pub command-package_of : (log : Log) (command stream : ℕ) (payload : List ℕ)
+    → (relay_head (package_of log command stream payload)).command ≡ command
 command-package_of log command stream payload = command-digested log (born_pad log) (length (own log)) command stream payload
 
-package-tame : (log : Log) (command stream : ℕ) (payload : List ℕ) → (command == data_command) ≡ false → IsTame (packaging log command stream payload)
-package-tame log command stream payload other = record { no_data = rw (command-package_of log command stream payload) other; no_cell = refl }
+package-tame : (log : Log) (command stream : ℕ) (payload : List ℕ) → (command == data_command) ≡ false
+    → IsTame (packaging log command stream payload)
+package-tame log command stream payload other =
+    record { no_data = rw (command-package_of log command stream payload) other; no_cell = refl }
 
 nothing-tame : IsTame no_effects
 nothing-tame = record { no_data = refl; no_cell = refl }
@@ -69,10 +73,12 @@ beginning-tame rules log stream (Some target) =
     if-tame (nat_le place_limit (taken_places log)) _ _ (ending-tame log stream 11) (reaching-tame log stream (allowed_address rules target))
 
 begin-tame : (rules : Rules) (log : Log) (m : Message) → IsTame (begin_effects rules log m)
-begin-tame rules log m = if-tame ((m.stream == 0) || is_some m.place) _ _ (closing-tame 1) (beginning-tame rules log m.stream (begin_target m.payload))
+begin-tame rules log m =
+    if-tame ((m.stream == 0) || is_some m.place) _ _ (closing-tame 1) (beginning-tame rules log m.stream (begin_target m.payload))
 
 acknowledging-tame : (log : Log) (m : Message) → IsTame (acknowledging log m)
-acknowledging-tame log m = if-tame (is_sendme_due (accepted_data log + 1)) _ _ (package-tame log sendme_command 0 _ refl) nothing-tame
+acknowledging-tame log m =
+    if-tame (is_sendme_due (accepted_data log + 1)) _ _ (package-tame log sendme_command 0 _ refl) nothing-tame
 
 data-tame : (log : Log) (m : Message) (place : Option ℕ) → IsTame (data_at log m place)
 data-tame log m None = acknowledging-tame log m
@@ -86,10 +92,12 @@ end-tame m (Some serial) = record { no_data = refl; no_cell = refl }
 
 stream_sendme-tame : (log : Log) (place : Option ℕ) → IsTame (stream_sendme_at log place)
 stream_sendme-tame log None = nothing-tame
-stream_sendme-tame log (Some serial) = if-tame (nat_lt (stream_start + stream_packaged log serial) (stream_grant log serial + stream_step)) _ _ (closing-tame 1) nothing-tame
+stream_sendme-tame log (Some serial) =
+    if-tame (nat_lt (stream_start + stream_packaged log serial) (stream_grant log serial + stream_step)) _ _ (closing-tame 1) nothing-tame
 
 sendme-tame : (rules : Rules) (log : Log) (m : Message) → IsTame (sendme_effects rules log m)
-sendme-tame rules log m = if-tame (m.stream == 0) _ _ (if-tame (is_right_sendme rules log m.payload) _ _ nothing-tame (closing-tame 1)) (stream_sendme-tame log m.place)
+sendme-tame rules log m =
+    if-tame (m.stream == 0) _ _ (if-tame (is_right_sendme rules log m.payload) _ _ nothing-tame (closing-tame 1)) (stream_sendme-tame log m.place)
 
 truncate-tame : (log : Log) → IsTame (truncate_effects log)
 truncate-tame log = record { no_data = (package-tame log truncated_command 0 (3 ∷ []) refl).no_data; no_cell = refl }
@@ -130,4 +138,5 @@ connected-tame log (Some place) = package-tame log connected_command place.key.s
 
 pub extending-tame : (log : Log) (handshake : Option (List ℕ)) → IsTame (extending log handshake)
 extending-tame log None = closing-tame 1
-extending-tame log (Some handshake) = if-tame (nat_le (length handshake) 496) _ _ (package-tame log extended2_command 0 _ refl) (closing-tame 1)
+extending-tame log (Some handshake) =
+    if-tame (nat_le (length handshake) 496) _ _ (package-tame log extended2_command 0 _ refl) (closing-tame 1)

@@ -28,13 +28,15 @@ version_0-has_no_proof (suc version ∷ more) old =
     absurd cc
 
 pub version_0_is_right : (rules : Rules) (h : List Event) (payload : List ℕ) → rules.least ≡ 0 → is_version_0 payload ≡ true →
-    circuit_step * (good_sendmes (log rules h) + 1) ≤ circuit_packaged (log rules h) → is_right_sendme rules (log rules h) payload ≡ true
+    circuit_step * (good_sendmes (log rules h) + 1) ≤ circuit_packaged (log rules h)
+    → is_right_sendme rules (log rules h) payload ≡ true
 unfolding is_right_sendme
 version_0_is_right rules h payload least old whole =
     let enough : nat_le (100 * (good_sendmes (log rules h) + 1)) (circuit_packaged (log rules h)) ≡ true = grind arith in
     rw (enough, least, old)
 
-pub version_1_needs_proof : (rules : Rules) (h : List Event) (payload : List ℕ) → 0 < rules.least → is_version_0 payload ≡ true → is_right_sendme rules (log rules h) payload ≡ false
+pub version_1_needs_proof : (rules : Rules) (h : List Event) (payload : List ℕ) → 0 < rules.least → is_version_0 payload ≡ true
+    → is_right_sendme rules (log rules h) payload ≡ false
 unfolding is_right_sendme
 version_1_needs_proof rules h payload least old =
     let no : (rules.least == 0) ≡ false = grind arith in

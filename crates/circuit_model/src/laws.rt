@@ -49,7 +49,8 @@ pub fn ninth_relay_early_closes()
 pub fn wrong_sendme_closes()
     ensures none_owed { (rules : Rules) (h : List Event) (e : Event) (m : Message) →
         message_at (log rules h) e ≡ Some m → m.command ≡ sendme_command → m.stream ≡ 0 →
-        circuit_packaged (log rules h) < circuit_step * (good_sendmes (log rules h) + 1) → effects rules h e ≡ closing destroy_protocol }
+        circuit_packaged (log rules h) < circuit_step * (good_sendmes (log rules h) + 1) →
+        effects rules h e ≡ closing destroy_protocol }
     ensures no_proof { (rules : Rules) (h : List Event) (e : Event) (m : Message) →
         message_at (log rules h) e ≡ Some m → m.command ≡ sendme_command → m.stream ≡ 0 →
         IsFalse (needs_no_proof rules.least m.payload) → sendme_proof m.payload ≡ None →

@@ -10,7 +10,8 @@ use Rattle.circuit_table.specs.Ports.{Port, LegName, Ports, on_channel, ids_of}
 -- What the part of a map on one channel has.
 pub get-on_channel : (ports : Ports) (chan : ℕ) (q : Port)
     → get (on_channel ports chan) q ≡ cond (nat_eq q.0 chan) (get ports q) None
-get-on_channel ports chan q = get-retain_keys ports (λ p. nat_eq p.0 chan) q (λ x tied. ap (λ p. nat_eq p.0 chan) (sym (pair_keys.exact q x tied)))
+get-on_channel ports chan q =
+    get-retain_keys ports (λ p. nat_eq p.0 chan) q (λ x tied. ap (λ p. nat_eq p.0 chan) (sym (pair_keys.exact q x tied)))
 
 same_part : (a b : Ports) → ((q : Port) → get a q ≡ get b q) → a ≡ b
 same_part a b alike = same_map pair_keys.total pair_keys.exact a b alike

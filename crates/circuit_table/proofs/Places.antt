@@ -63,9 +63,12 @@ pub is_indexed-reordered : (old new : Slab LegName) (before after : Index) (coun
     → recounted ≡ counts → IsIndexed new after recounted
 is_indexed-reordered old new before after counts recounted was slots places same =
     record {
-      has_leg = λ q at used. subst (λ xs. IsSome (slice_index_or xs at None)) (sym slots) (was.has_leg q at (sym (places q) ∙ used));
+      has_leg =
+          λ q at used. subst (λ xs. IsSome (slice_index_or xs at None)) (sym slots) (was.has_leg q at (sym (places q) ∙ used));
       apart = λ p q at e f. was.apart p q at (sym (places p) ∙ e) (sym (places q) ∙ f);
-      counted = λ chan. ap (λ c. count_of c chan) same ∙ was.counted chan ∙ ap (λ m. ids_of m chan) (sym (ports_of-reordered old new before after slots places));
+      counted =
+          λ chan. ap (λ c. count_of c chan) same ∙ was.counted chan
+          ∙ ap (λ m. ids_of m chan) (sym (ports_of-reordered old new before after slots places));
     }
 
 -- The counts with one more or less.
@@ -89,7 +92,8 @@ module _ (old new : Slab LegName) (before after : Index) (port : Port) (place : 
     module _ (has_leg : (q : Port) (at : ℕ) → place_of before q ≡ Some at → IsSome (slab.get old at)) where
       -- a place that was used is not the one that was free
       other_place : (q : Port) (at : ℕ) → place_of before q ≡ Some at → at ≢ place
-      other_place q at used same = let gone : IsSome {T = LegName} None = subst IsSome (ap (slab.get old) same ∙ free) (has_leg q at used) in cc
+      other_place q at used same =
+          let gone : IsSome {T = LegName} None = subst IsSome (ap (slab.get old) same ∙ free) (has_leg q at used) in cc
 
       read_after : (q : Port) (here : Bool)
           → option_map (leg_at new) (cond here (Some place) (place_of before q)) ≡ cond here (Some leg) (get (ports_of old before) q)
@@ -127,7 +131,8 @@ module _ (old new : Slab LegName) (before after : Index) (port : Port) (place : 
 
         pub is_indexed-inserted : (counts_before counts_after : Counts) → get (ports_of old before) port ≡ None
             → ((chan : ℕ) → count_of counts_before chan ≡ ids_of (ports_of old before) chan)
-            → ((chan : ℕ) → count_of counts_after chan ≡ cond (nat_eq port.0 chan) (count_of counts_before chan + 1) (count_of counts_before chan)) → IsIndexed new after counts_after
+            → ((chan : ℕ) → count_of counts_after chan ≡ cond (nat_eq port.0 chan) (count_of counts_before chan + 1) (count_of counts_before chan))
+            → IsIndexed new after counts_after
         is_indexed-inserted counts_before counts_after none counted more =
             record {
               has_leg = λ q at is. has_leg_after q at (pair_eq port q) (sym (moved q) ∙ is);
@@ -179,7 +184,8 @@ module _ (old new : Slab LegName) (before after : Index) (port : Port) (place : 
 
       pub is_indexed-removed : (counts_before counts_after : Counts)
           → ((chan : ℕ) → count_of counts_before chan ≡ ids_of (ports_of old before) chan)
-          → ((chan : ℕ) → count_of counts_after chan ≡ cond (nat_eq chan port.0) (count_of counts_before chan - 1) (count_of counts_before chan)) → IsIndexed new after counts_after
+          → ((chan : ℕ) → count_of counts_after chan ≡ cond (nat_eq chan port.0) (count_of counts_before chan - 1) (count_of counts_before chan))
+          → IsIndexed new after counts_after
       is_indexed-removed counts_before counts_after counted less =
           record {
             has_leg = λ q at is. has_leg_without q at (left_place q at (pair_eq port q) (sym (moved q) ∙ is));
@@ -207,7 +213,9 @@ ports_of-absent legs before after port free same =
   where
     without : (q : Port) (here : Bool) → eq_by_cmp pair_cmp q port ≡ here
         → get (ports_of legs before) q ≡ cond here None (get (ports_of legs before) q)
-    without q true is = ap (get (ports_of legs before)) (tied_key pair_keys q port is) ∙ get-ports_of legs before port ∙ ap (option_map (leg_at legs)) free
+    without q true is =
+        ap (get (ports_of legs before)) (tied_key pair_keys q port is) ∙ get-ports_of legs before port
+        ∙ ap (option_map (leg_at legs)) free
     without q false is = refl
 
 -- A table without entries.
@@ -217,7 +225,8 @@ is_indexed-empty legs places counts none uncounted =
     record {
       has_leg = λ q at is. absurd (nowhere q at is);
       apart = λ p q at e f. absurd (nowhere p at e);
-      counted = λ chan. ap (λ c. count_of c chan) uncounted ∙ sym (ap (λ p. ids_of (ports_of legs p) chan) none ∙ ids_of-empty chan);
+      counted =
+          λ chan. ap (λ c. count_of c chan) uncounted ∙ sym (ap (λ p. ids_of (ports_of legs p) chan) none ∙ ids_of-empty chan);
     }
   where
     nowhere : (q : Port) (at : ℕ) → place_of places q ≡ Some at → ⊥

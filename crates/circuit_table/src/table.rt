@@ -109,7 +109,8 @@ impl CircuitTable {
 /// One CircID of the channel is counted less.
 fn count_down(counts: &mut HashMap<u64, u32>, chan: u64)
     requires { 0 < count_of counts.old.entries chan }
-    ensures { (c : ℕ) → count_of counts.new.entries c ≡ (if c == chan then count_of counts.old.entries c - 1 else count_of counts.old.entries c) }
+    ensures { (c : ℕ) →
+        count_of counts.new.entries c ≡ (if c == chan then count_of counts.old.entries c - 1 else count_of counts.old.entries c) }
 {
     let Some(count) = counts.get(&chan).copied() else {
         return;

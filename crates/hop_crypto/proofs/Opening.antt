@@ -35,7 +35,8 @@ pub opened_recognised : (before : OpenerState) (next : StreamPlace) (layer : Ope
     → TookOff before next layer body plain → is_recognised layer.seed layer.absorbed plain ≡ true
     → opened layer body ≡ record { body = plain; recognised = Some (running_digest layer.seed (layer.absorbed ++ plain ∷ [])) }
 unfolding opened
-opened_recognised before next layer body plain took recognised = rw (← layer_off before next layer body plain took, recognised) refl
+opened_recognised before next layer body plain took recognised =
+    rw (← layer_off before next layer body plain took, recognised) refl
 
 pub opened_other : (before : OpenerState) (next : StreamPlace) (layer : OpeningLayer) (body plain : List ℕ)
     → TookOff before next layer body plain → is_recognised layer.seed layer.absorbed plain ≡ false

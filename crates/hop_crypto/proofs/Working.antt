@@ -37,7 +37,8 @@ IsWorked-append (Forth start) middle end xs ys os ps first second = λ layer sta
 IsWorked-append (Back start) middle end xs ys os ps first second =
     let P : Cipher → Type 0 = λ c. IsWorked c ys ps end in
     let s = subst P first.1 second in
-    let long : start.position + 509 * length xs + 509 * length ys ≡ start.position + 509 * length (xs ++ ys) = omega (arith, length-append xs ys) in (
+    let long : start.position + 509 * length xs + 509 * length ys ≡ start.position + 509 * length (xs ++ ys) =
+    omega (arith, length-append xs ys) in (
       rw (sealed_all-append start.key start.position xs ys)
           (rw (map-append sealed_from) (ap (λ (o : List Opened). o ++ ps) first.0 ∙ ap (λ (o : List Opened). map sealed_from (sealed_all start.key start.position xs) ++ o) s.0)),
       s.1 ∙ ap (λ (p : ℕ). Back (record { key = start.key; position = p })) long,

@@ -47,8 +47,10 @@ impl Opener {
     /// running digest, and the answer is the digest's 20 bytes; otherwise the digest stays.
     pub fn take_off(&mut self, body: &mut [u8; 509]) -> Option<[u8; 20]>
         requires { self.old.stream.position < 2 ^ 100 }
-        ensures opened { (layer : OpeningLayer) → self.old ≡ opener_of layer → opened layer body.old ≡ record { body = body.new; recognised = result } }
-        ensures state { (layer : OpeningLayer) → self.old ≡ opener_of layer → self.new ≡ opener_of (after_opening layer body.old) }
+        ensures opened { (layer : OpeningLayer) → self.old ≡ opener_of layer →
+            opened layer body.old ≡ record { body = body.new; recognised = result } }
+        ensures state { (layer : OpeningLayer) → self.old ≡ opener_of layer →
+            self.new ≡ opener_of (after_opening layer body.old) }
         ensures stream { self.new.stream ≡ record self.old.stream { position = self.old.stream.position + 509 } }
     {
         self.stream.apply(body);

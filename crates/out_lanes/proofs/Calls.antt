@@ -25,7 +25,8 @@ module _ {K X : Type 0} {R : K → K → Ordering} where
         room = λ fits. let too_much : more ≤ 0 = subst (λ line. more ≤ line.spare) none fits in absurd (omega arith);
       })
 
-  pub reserves-nothing : {T E : Type 0} {old new : FinMap R (Roomy X)} {key : K} {more : ℕ} (x : T) → new ≡ old → more ≡ 0 → Reserves {E = E} old new key more (Ok x)
+  pub reserves-nothing : {T E : Type 0} {old new : FinMap R (Roomy X)} {key : K} {more : ℕ} (x : T) → new ≡ old → more ≡ 0
+      → Reserves {E = E} old new key more (Ok x)
   reserves-nothing {T} {E} {old} {new} {key} {more} x same none =
       record {
         items = ap (λ m. (line_at m key).items) same;
@@ -65,7 +66,9 @@ module _ {K X S : Type 0} {R : K → K → Ordering} {eq : K → K → Bool} (ke
     w : Rewrites (from_entries {R = R} m.entries) (from_entries {R = R} n.entries) key was is
     w = written keys m n key was is writes found
 
-    pub reserves : {T E : Type 0} (more : ℕ) (r : Result T E) → is.items ≡ was.items → OnOk r (more ≤ is.spare) → was.spare ≤ is.spare → OnErr r (is ≡ was) → (more ≤ was.spare → IsOk r) → Reserves old (from_entries {R = R} n.entries) key more r
+    pub reserves : {T E : Type 0} (more : ℕ) (r : Result T E) → is.items ≡ was.items → OnOk r (more ≤ is.spare)
+        → was.spare ≤ is.spare → OnErr r (is ≡ was) → (more ≤ was.spare → IsOk r)
+        → Reserves old (from_entries {R = R} n.entries) key more r
     reserves more r items ok kept err room =
         subst (λ o. Reserves o (from_entries {R = R} n.entries) key more r) seen
         (record {
@@ -77,12 +80,15 @@ module _ {K X S : Type 0} {R : K → K → Ordering} {eq : K → K → Bool} (ke
           room = rw w.was_line room;
         })
 
-    pub adds_last : (item : X) → is.items ≡ was.items ++ item ∷ [] → is.spare + 1 ≡ was.spare → AddsLast old (from_entries {R = R} n.entries) key item
+    pub adds_last : (item : X) → is.items ≡ was.items ++ item ∷ [] → is.spare + 1 ≡ was.spare
+        → AddsLast old (from_entries {R = R} n.entries) key item
     adds_last item items spare =
         subst (λ o. AddsLast o (from_entries {R = R} n.entries) key item) seen
         (record { items = rw (w.is_line, w.was_line) items; spare = rw (w.is_line, w.was_line) spare; others = w.others })
 
-    pub takes_first : (first : Option X) → IfSome first (λ x. was.items ≡ x ∷ is.items) → IfSome first (λ x. is.spare ≡ was.spare + 1) → IfNone first ((was.items ≡ []) × (is ≡ was)) → TakesFirst old (from_entries {R = R} n.entries) key first
+    pub takes_first : (first : Option X) → IfSome first (λ x. was.items ≡ x ∷ is.items)
+        → IfSome first (λ x. is.spare ≡ was.spare + 1) → IfNone first ((was.items ≡ []) × (is ≡ was))
+        → TakesFirst old (from_entries {R = R} n.entries) key first
     takes_first first some more none =
         let taken = first_taken first was is some none in
         subst (λ o. TakesFirst o (from_entries {R = R} n.entries) key first) seen
@@ -95,7 +101,8 @@ module _ {K X S : Type 0} {R : K → K → Ordering} {eq : K → K → Bool} (ke
 
 -- A list is new at a key that had none.
 module _ {K X S : Type 0} {R : K → K → Ordering} {eq : K → K → Bool} (keys : OrdersKeys R eq) (start m n : HashMap K (Roomy X) S) (key : K) {old : FinMap R (Roomy X)} (seen : from_entries {R = R} start.entries ≡ old) (is : Roomy X) (same : m ≡ start) (updates : Updates eq m n key (Some is)) (absent : None ≡ lookup (eq key) start.entries) where
-  pub reserves-added : {T E : Type 0} (more : ℕ) (x : T) → is.items ≡ [] → more ≤ is.spare → Reserves {E = E} old (from_entries {R = R} n.entries) key more (Ok x)
+  pub reserves-added : {T E : Type 0} (more : ℕ) (x : T) → is.items ≡ [] → more ≤ is.spare
+      → Reserves {E = E} old (from_entries {R = R} n.entries) key more (Ok x)
   reserves-added {T} {E} more x items ok =
       let w = added keys m n key start is same updates absent in
       subst (λ o. Reserves {E = E} o (from_entries {R = R} n.entries) key more (Ok x)) seen

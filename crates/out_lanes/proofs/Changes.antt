@@ -19,13 +19,16 @@ pub record Rewrites {K X : Type 0} {R : K → K → Ordering} (old new : FinMap 
   pub others : OthersStay old new key
 
 module _ {K X : Type 0} {R : K → K → Ordering} {eq : K → K → Bool} (keys : OrdersKeys R eq) where
-  pub line_at-entries : (lines : List (K × Roomy X)) (key : K) → line_at (from_entries {R = R} lines) key ≡ unwrap_or (lookup (eq key) lines) nothing
+  pub line_at-entries : (lines : List (K × Roomy X)) (key : K)
+      → line_at (from_entries {R = R} lines) key ≡ unwrap_or (lookup (eq key) lines) nothing
   line_at-entries lines key = ap (λ o. unwrap_or o nothing) (get-entries keys lines key)
 
-  pub line_found : (lines : List (K × Roomy X)) (key : K) (line : Roomy X) → lookup (eq key) lines ≡ Some line → line_at (from_entries {R = R} lines) key ≡ line
+  pub line_found : (lines : List (K × Roomy X)) (key : K) (line : Roomy X) → lookup (eq key) lines ≡ Some line
+      → line_at (from_entries {R = R} lines) key ≡ line
   line_found lines key line is = line_at-entries lines key ∙ ap (λ o. unwrap_or o nothing) is
 
-  pub line_absent : (lines : List (K × Roomy X)) (key : K) → lookup (eq key) lines ≡ None → line_at (from_entries {R = R} lines) key ≡ nothing
+  pub line_absent : (lines : List (K × Roomy X)) (key : K) → lookup (eq key) lines ≡ None
+      → line_at (from_entries {R = R} lines) key ≡ nothing
   line_absent lines key none = line_at-entries lines key ∙ ap (λ o. unwrap_or o nothing) none
 
   module _ (before after : List (K × Roomy X)) (key : K) (now : Option (Roomy X)) (moved : (q : K) → lookup (eq q) after ≡ cond (eq key q) now (lookup (eq q) before)) where
@@ -44,28 +47,35 @@ module _ {K X : Type 0} {R : K → K → Ordering} {eq : K → K → Bool} (keys
         ∙ ap (λ o. unwrap_or o nothing) (moved q ∙ apart q (eq key q) refl differs)
         ∙ sym (line_at-entries before q)
 
-    pub rewrites : (was : Roomy X) → line_at (from_entries {R = R} before) key ≡ was → Rewrites (from_entries {R = R} before) (from_entries {R = R} after) key was (unwrap_or now nothing)
+    pub rewrites : (was : Roomy X) → line_at (from_entries {R = R} before) key ≡ was
+        → Rewrites (from_entries {R = R} before) (from_entries {R = R} after) key was (unwrap_or now nothing)
     rewrites was is = record { was_line = is; is_line = line_after; others = others_after }
 
 module _ {K X S : Type 0} {R : K → K → Ordering} {eq : K → K → Bool} (keys : OrdersKeys R eq) (m n : HashMap K (Roomy X) S) (key : K) where
   -- a list that was found is written
-  pub written : (was is : Roomy X) → WritesThrough eq (eq key) m is n → Some was ≡ lookup (eq key) m.entries → Rewrites (from_entries {R = R} m.entries) (from_entries {R = R} n.entries) key was is
+  pub written : (was is : Roomy X) → WritesThrough eq (eq key) m is n → Some was ≡ lookup (eq key) m.entries
+      → Rewrites (from_entries {R = R} m.entries) (from_entries {R = R} n.entries) key was is
   written was is writes found =
       rewrites keys m.entries n.entries key (Some is) ((writes.3 (subst IsSome found refl)).0) was (line_found keys m.entries key was (sym found))
 
   -- where it is written as it was, the map stays
-  pub rewritten : (was is : Roomy X) → WritesThrough eq (eq key) m is n → Some was ≡ lookup (eq key) m.entries → is ≡ was → from_entries {R = R} n.entries ≡ from_entries m.entries
-  rewritten was is writes found same = ap (from_entries {R = R}) (writes.0 ∙ ap (set_value (eq key) m.entries) same ∙ set_value_same (eq key) m.entries was (sym found))
+  pub rewritten : (was is : Roomy X) → WritesThrough eq (eq key) m is n → Some was ≡ lookup (eq key) m.entries → is ≡ was
+      → from_entries {R = R} n.entries ≡ from_entries m.entries
+  rewritten was is writes found same =
+      ap (from_entries {R = R}) (writes.0 ∙ ap (set_value (eq key) m.entries) same ∙ set_value_same (eq key) m.entries was (sym found))
 
   -- a list is new at a key that had none
-  pub added : (start : HashMap K (Roomy X) S) (is : Roomy X) → m ≡ start → Updates eq m n key (Some is) → None ≡ lookup (eq key) start.entries → Rewrites (from_entries {R = R} start.entries) (from_entries {R = R} n.entries) key nothing is
+  pub added : (start : HashMap K (Roomy X) S) (is : Roomy X) → m ≡ start → Updates eq m n key (Some is)
+      → None ≡ lookup (eq key) start.entries
+      → Rewrites (from_entries {R = R} start.entries) (from_entries {R = R} n.entries) key nothing is
   added start is same updates absent =
       let none : None ≡ lookup (eq key) m.entries = subst (λ o. None ≡ lookup (eq key) o.entries) (sym same) absent in
       let w = rewrites keys m.entries n.entries key (Some is) updates.0 nothing (line_absent keys m.entries key (sym none)) in
       subst (λ o. Rewrites (from_entries {R = R} o.entries) (from_entries {R = R} n.entries) key nothing is) same w
 
   -- a list goes
-  pub removed : Updates eq m n key None → Rewrites (from_entries {R = R} m.entries) (from_entries {R = R} n.entries) key (line_at (from_entries {R = R} m.entries) key) nothing
+  pub removed : Updates eq m n key None
+      → Rewrites (from_entries {R = R} m.entries) (from_entries {R = R} n.entries) key (line_at (from_entries {R = R} m.entries) key) nothing
   removed updates = rewrites keys m.entries n.entries key None updates.0 _ refl
 
 -- What a failure says, said otherwise.

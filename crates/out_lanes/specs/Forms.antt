@@ -12,4 +12,5 @@ EachWellFormed [] = Unit {0}
 EachWellFormed (cell ∷ cells) = IsWellFormed cell × EachWellFormed cells
 
 abbrev pub AreWellFormed : List (LegName × Roomy Cell) → Type 0
-AreWellFormed queues = (leg : LegName) (queue : Roomy Cell) → lookup (pair_eq leg) queues ≡ Some queue → EachWellFormed queue.items
+AreWellFormed queues =
+    (leg : LegName) (queue : Roomy Cell) → lookup (pair_eq leg) queues ≡ Some queue → EachWellFormed queue.items

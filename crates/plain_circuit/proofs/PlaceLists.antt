@@ -25,10 +25,12 @@ shifted-by false true i n p q = absurd (grind arith)
 shifted : (i n : ℕ) → nat_lt (suc i) (suc n) ≡ nat_lt i n
 shifted i n = shifted-by (nat_lt (suc i) (suc n)) (nat_lt i n) i n refl refl
 
-lookup-is : (xs : List Place) (i : ℕ) (r : Option Place) → is_some r ≡ nat_lt i (length xs) → ((d : Place) → unwrap_or r d ≡ get_or xs i d) → r ≡ slice_get xs i
+lookup-is : (xs : List Place) (i : ℕ) (r : Option Place) → is_some r ≡ nat_lt i (length xs)
+    → ((d : Place) → unwrap_or r d ≡ get_or xs i d) → r ≡ slice_get xs i
 lookup-is [] i r some is = none-is r (some ∙ grind arith)
 lookup-is (x ∷ xs) zero r some is = first-is x r (some ∙ grind arith) (is x)
 lookup-is (x ∷ xs) (suc i) r some is = lookup-is xs i r (some ∙ shifted i (length xs)) is
 
-pub copied-is : (xs : List Place) (i : ℕ) (o : Option (Bor Place)) → is_some o ≡ nat_lt i (length xs) → ((d : Place) → unwrap_or (option_copied o) d ≡ get_or xs i d) → option_copied o ≡ slice_get xs i
+pub copied-is : (xs : List Place) (i : ℕ) (o : Option (Bor Place)) → is_some o ≡ nat_lt i (length xs)
+    → ((d : Place) → unwrap_or (option_copied o) d ≡ get_or xs i d) → option_copied o ≡ slice_get xs i
 copied-is xs i o some is = lookup-is xs i (option_copied o) (is_some-copied o ∙ some) is

@@ -12,9 +12,11 @@ use Rattle.tor_spec.proofs.Bodies.{relay_body_head}
 pub end_put : (k start m : ℕ) (body from end : List ℕ) → length body ≡ m → length from ≡ m → start ≡ min k m
     → end ≡ mid_of start (m - start) from → put_mid start (m - start) body end ≡ take k body ++ drop k from
 end_put k start m body from end long as_long start_is end_is =
-    let none : drop (m - start) (drop start body) ≡ [] = drop_all (m - start) (drop start body) (omega (arith, length-drop start body)) in
+    let none : drop (m - start) (drop start body) ≡ [] =
+    drop_all (m - start) (drop start body) (omega (arith, length-drop start body)) in
     let front : take start body ≡ take k body = ap (λ n. take n body) (start_is ∙ ap (min k) (sym long)) ∙ take_min k body in
-    let whole : take (m - start) (drop start from) ≡ drop start from = take_all (m - start) (drop start from) (omega (arith, length-drop start from)) in
+    let whole : take (m - start) (drop start from) ≡ drop start from =
+    take_all (m - start) (drop start from) (omega (arith, length-drop start from)) in
     let back : drop start from ≡ drop k from = ap (λ n. drop n from) (start_is ∙ ap (min k) (sym as_long)) ∙ drop_min k from in
     ap (λ rest. take start body ++ (end ++ rest)) none
     ∙ ap (λ e. take start body ++ e) (append-nil end ∙ end_is ∙ whole ∙ back)

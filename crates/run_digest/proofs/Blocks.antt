@@ -80,7 +80,8 @@ pub low_bits : (t n : ℕ) → t ≡ n % 2 ^ 64 → t % 64 ≡ n % 64
 low_bits t n e = omega arith
 
 -- Bytes that do not fill the block begun.
-pub short_grown : (m b h r : List ℕ) (t u : ℕ) → state h r t ≡ hash_state m → t % 64 + length b < 64 → u ≡ (t + length b) % 2 ^ 64 →
+pub short_grown : (m b h r : List ℕ) (t u : ℕ) → state h r t ≡ hash_state m → t % 64 + length b < 64
+    → u ≡ (t + length b) % 2 ^ 64 →
     state h (r ++ b) u ≡ hash_state (m ++ b)
 short_grown m b h r t u e short is_u =
     let v : HashState = state h r t in

@@ -18,7 +18,8 @@ turned x lt =
     let even : x * 2 % 2 ^ 32 % 2 ≡ 0 = omega arith in
     let top : x / 2 ^ 31 < 2 = omega arith in
     let same : x * 2 % 2 ^ 32 ≡ x % 2 ^ 31 * 2 = omega arith in
-    or_disjoint (x * 2 % 2 ^ 32) (x / 2 ^ 31) (even_and_bit (x * 2 % 2 ^ 32) (x / 2 ^ 31) even top) ∙ ap (λ (n : ℕ). n + x / 2 ^ 31) same
+    or_disjoint (x * 2 % 2 ^ 32) (x / 2 ^ 31) (even_and_bit (x * 2 % 2 ^ 32) (x / 2 ^ 31) even top)
+    ∙ ap (λ (n : ℕ). n + x / 2 ^ 31) same
 
 differ_is_xor : (a b : ℕ) → a < 2 → b < 2 → bit_xor a b ≡ differ a b
 differ_is_xor a b la lb = elim (zero_or_one a la) [

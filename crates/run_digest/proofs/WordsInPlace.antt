@@ -6,14 +6,16 @@ use Rattle.std.proofs.lemmas.List.{get_or_append_left, get_or-append_right, get_
 use Rattle.std.proofs.lemmas.Simd.{get_or-chunk, length-chunk}
 use Rattle.run_digest.specs.Words.{HasWords, word, four_words}
 
-in_four : (block : List ℕ) (at : ℕ) (tail : List ℕ) (i : ℕ) → i < 4 → get_or (four_words block at ++ tail) i 0 ≡ word block (at + i)
+in_four : (block : List ℕ) (at : ℕ) (tail : List ℕ) (i : ℕ) → i < 4
+    → get_or (four_words block at ++ tail) i 0 ≡ word block (at + i)
 in_four block at tail zero lt = let e : at ≡ at + 0 = omega arith in ap (word block) e
 in_four block at tail (suc zero) lt = refl
 in_four block at tail (suc (suc zero)) lt = refl
 in_four block at tail (suc (suc (suc zero))) lt = refl
 in_four block at tail (suc (suc (suc (suc i)))) lt = absurd (omega arith)
 
-pub stored : (block words four tail : List ℕ) (at : ℕ) → at ≤ length words → HasWords block at words → four ≡ four_words block at →
+pub stored : (block words four tail : List ℕ) (at : ℕ) → at ≤ length words → HasWords block at words
+    → four ≡ four_words block at →
     (t : ℕ) → t < at + 4 → get_or (take at words ++ (four ++ tail)) t 0 ≡ word block t
 stored block words four tail at room has is t lt =
     let long : length (take at words) ≡ at = length-take-le at words room in
@@ -42,7 +44,8 @@ four_lanes (a ∷ b ∷ c ∷ d ∷ f ∷ xs) e = absurd (omega arith)
 same_four : {p q r s u v w x : ℕ} → p ≡ u → q ≡ v → r ≡ w → s ≡ x → p ∷ q ∷ r ∷ s ∷ [] ≡ u ∷ v ∷ w ∷ x ∷ []
 same_four a b c d = cc
 
-lane_is : (block words : List ℕ) (at k n i t : ℕ) → k ≡ 4 → at + 4 ≤ n → at + 4 ≤ length words → HasWords block n words → i < 4 → t ≡ at + i →
+lane_is : (block words : List ℕ) (at k n i t : ℕ) → k ≡ 4 → at + 4 ≤ n → at + 4 ≤ length words → HasWords block n words → i < 4
+    → t ≡ at + i →
     get_or (chunk 0 4 (chunk at k words)) i 0 ≡ word block t
 lane_is block words at k n i t is_four le room has lt e =
     let long : length (chunk at k words) ≡ k = length-chunk at k words (omega arith) in

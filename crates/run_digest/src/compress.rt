@@ -49,7 +49,9 @@ impl Variables {
     // After the 20 rounds of a stage.
     #[inline(always)]
     fn after_stage(self, stage: Stage, words: &[u32; 80]) -> Variables
-        ensures { (hash block : List ℕ) → HasWords block (first_of stage + 20) words.now → list_of self ≡ rounds hash (schedule block 64) (first_of stage) → list_of result ≡ rounds hash (schedule block 64) (first_of stage + 20) }
+        ensures { (hash block : List ℕ) → HasWords block (first_of stage + 20) words.now →
+            list_of self ≡ rounds hash (schedule block 64) (first_of stage) →
+            list_of result ≡ rounds hash (schedule block 64) (first_of stage + 20) }
     {
         let first = stage.first_round();
         let mut v = self;
@@ -65,7 +67,8 @@ impl Variables {
         requires from { first_of stage ≤ t }
         requires to { t + 5 ≤ first_of stage + 20 }
         requires room { t + 5 ≤ 80 }
-        ensures { (hash block : List ℕ) → HasWords block (t + 5) words.now → list_of self ≡ rounds hash (schedule block 64) t → list_of result ≡ rounds hash (schedule block 64) (t + 5) }
+        ensures { (hash block : List ℕ) → HasWords block (t + 5) words.now → list_of self ≡ rounds hash (schedule block 64) t →
+            list_of result ≡ rounds hash (schedule block 64) (t + 5) }
     {
         self.after_round(stage, words[t])
             .after_round(stage, words[t + 1])

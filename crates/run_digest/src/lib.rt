@@ -48,7 +48,8 @@ impl Running {
 
     /// The digest that this one is once `body` has gone by.
     pub fn followed_by(&self, body: &[u8; 509]) -> Running
-        ensures { (seed : List ℕ) (bodies : List (List ℕ)) → HasAbsorbed self.now seed bodies → HasAbsorbed result seed (bodies ++ body.now ∷ []) }
+        ensures { (seed : List ℕ) (bodies : List (List ℕ)) → HasAbsorbed self.now seed bodies →
+            HasAbsorbed result seed (bodies ++ body.now ∷ []) }
     {
         let mut state = self.state;
         state.update(&body[..5]);
@@ -59,21 +60,24 @@ impl Running {
 
     /// The 20 bytes of the digest.
     pub fn digest(&self) -> [u8; 20]
-        ensures { (seed : List ℕ) (bodies : List (List ℕ)) → HasAbsorbed self.now seed bodies → result ≡ running_digest seed bodies }
+        ensures { (seed : List ℕ) (bodies : List (List ℕ)) → HasAbsorbed self.now seed bodies →
+            result ≡ running_digest seed bodies }
     {
         self.state.finish()
     }
 
     /// The 20 bytes that the digest would have after `body`.
     pub fn look_with(&self, body: &[u8; 509]) -> [u8; 20]
-        ensures { (seed : List ℕ) (bodies : List (List ℕ)) → HasAbsorbed self.now seed bodies → result ≡ running_digest seed (bodies ++ body.now ∷ []) }
+        ensures { (seed : List ℕ) (bodies : List (List ℕ)) → HasAbsorbed self.now seed bodies →
+            result ≡ running_digest seed (bodies ++ body.now ∷ []) }
     {
         self.followed_by(body).digest()
     }
 
     /// Lets `body` go by.
     pub fn absorb(&mut self, body: &[u8; 509])
-        ensures { (seed : List ℕ) (bodies : List (List ℕ)) → HasAbsorbed self.old seed bodies → HasAbsorbed self.new seed (bodies ++ body.now ∷ []) }
+        ensures { (seed : List ℕ) (bodies : List (List ℕ)) → HasAbsorbed self.old seed bodies →
+            HasAbsorbed self.new seed (bodies ++ body.now ∷ []) }
     {
         *self = self.followed_by(body);
     }

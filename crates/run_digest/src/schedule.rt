@@ -64,7 +64,8 @@ fn store(words: &mut [u32; 80], at: usize, four: u32x4)
 
 // The four words behind these sixteen.
 fn next_four(a: u32x4, b: u32x4, c: u32x4, d: u32x4) -> u32x4
-    ensures { (block : List ℕ) (n : ℕ) → n + 20 ≤ 80 → a ≡ four_words block n → b ≡ four_words block (n + 4) → c ≡ four_words block (n + 8) → d ≡ four_words block (n + 12) → result ≡ four_words block (n + 16) }
+    ensures { (block : List ℕ) (n : ℕ) → n + 20 ≤ 80 → a ≡ four_words block n → b ≡ four_words block (n + 4) →
+        c ≡ four_words block (n + 8) → d ≡ four_words block (n + 12) → result ≡ four_words block (n + 16) }
 {
     let zeros = u32x4::splat(0);
     let but_first = turn(d.shuffle(zeros, [1, 2, 3, 4]) ^ c ^ a.shuffle(b, [2, 3, 4, 5]) ^ a);

@@ -16,11 +16,14 @@ packed_due s w digest calls more stands due behind grown =
       packed = omega (arith, length-append w.packaged (digest ∷ []));
       good = stands.good;
       accepted = stands.accepted;
-      owed_proofs = grown ∙ ap (λ (o : List (List ℕ)). o ++ digest ∷ []) stands.owed_proofs ∙ sym (owed_more w digest (rw count at due) (rw (good, count) at behind));
+      owed_proofs =
+          grown ∙ ap (λ (o : List (List ℕ)). o ++ digest ∷ []) stands.owed_proofs
+          ∙ sym (owed_more w digest (rw count at due) (rw (good, count) at behind));
     }
 
 -- One more DATA cell that isn't.
-pub packed_other : (s : WindowsState) (w : CircuitWindow) (digest : List ℕ) (calls : ℕ) → HasCountsOf s w → (s.packed + 1) % 100 ≢ 0
+pub packed_other : (s : WindowsState) (w : CircuitWindow) (digest : List ℕ) (calls : ℕ) → HasCountsOf s w
+    → (s.packed + 1) % 100 ≢ 0
     → HasCountsOf (record s { calls = calls; packed = s.packed + 1 }) (after_packaging w digest)
 packed_other s w digest calls stands other =
     let count : s.packed ≡ length w.packaged = stands.packed in
@@ -32,7 +35,8 @@ packed_other s w digest calls stands other =
     }
 
 -- A good proof is paid for.
-pub proved : (s : WindowsState) (w : CircuitWindow) (calls : ℕ) (fewer : List (List ℕ)) → HasCountsOf s w → fewer ≡ drop 1 s.owed_proofs
+pub proved : (s : WindowsState) (w : CircuitWindow) (calls : ℕ) (fewer : List (List ℕ)) → HasCountsOf s w
+    → fewer ≡ drop 1 s.owed_proofs
     → HasCountsOf (record s { calls = calls; good = s.good + 1; owed_proofs = fewer }) (after_acknowledging w)
 proved s w calls fewer stands paid = record {
   packed = stands.packed;

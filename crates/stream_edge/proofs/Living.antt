@@ -26,7 +26,8 @@ live_before held place k id holds within lives live = elim (at_place held place 
 ]
 
 pub LivesOnce-set : (held : List (Option Held)) (place : ℕ) (holds : Option Held) → LivesOnce held → place < length held
-    → ((id : ℕ) → IsTrue (is_live_as id holds) → IsTrue (is_live_as id (get_or held place None))) → LivesOnce (set held place holds)
+    → ((id : ℕ) → IsTrue (is_live_as id holds) → IsTrue (is_live_as id (get_or held place None)))
+    → LivesOnce (set held place holds)
 LivesOnce-set held place holds once within lives = λ one other id a b.
     once one other id (live_before held place one id holds within lives a) (live_before held place other id holds within lives b)
 
@@ -35,7 +36,8 @@ head_fails : (b : Bool) (n m : ℕ) → suc m ≤ cond (not b) (1 + n) 0 → (b 
 head_fails true n m long = absurd (omega (arith, long))
 head_fails false n m long = (refl, omega (arith, long))
 
-all_fail : (t : Option Held → Bool) (xs : List (Option Held)) (k : ℕ) → t None ≡ false → length xs ≤ position_or_len t xs → t (get_or xs k None) ≡ false
+all_fail : (t : Option Held → Bool) (xs : List (Option Held)) (k : ℕ) → t None ≡ false → length xs ≤ position_or_len t xs
+    → t (get_or xs k None) ≡ false
 all_fail t [] k off long = off
 all_fail t (x ∷ xs) zero off long = (head_fails (t x) (position_or_len t xs) (length xs) long).0
 all_fail t (x ∷ xs) (suc k) off long = all_fail t xs k off (head_fails (t x) (position_or_len t xs) (length xs) long).1
@@ -44,7 +46,8 @@ none_by : (n m : ℕ) (b : Bool) → ltb n m ≡ b → ◌≡◌ {A = Option ℕ
 none_by n m true is none = cc
 none_by n m false is none = ltb-false n m is
 
-no_other : (held : List (Option Held)) (id k : ℕ) → position (is_live_as id) held ≡ None → IsTrue (is_live_as id (get_or held k None)) → ⊥
+no_other : (held : List (Option Held)) (id k : ℕ) → position (is_live_as id) held ≡ None
+    → IsTrue (is_live_as id (get_or held k None)) → ⊥
 no_other held id k none live =
     let long : length held ≤ position_or_len (is_live_as id) held =
     none_by (position_or_len (is_live_as id) held) (length held) (ltb (position_or_len (is_live_as id) held) (length held)) refl none in

@@ -89,7 +89,8 @@ IsInStep-begun s place id is fewer within new =
     }
 
 -- A DATA cell that is packaged, where the window allows it.
-pub packaged_counted : (h : Held) (calls : ℕ) → IsCounted h calls → IsTrue (may_package h) → IsCounted (after_packaging h) (calls + 1)
+pub packaged_counted : (h : Held) (calls : ℕ) → IsCounted h calls → IsTrue (may_package h)
+    → IsCounted (after_packaging h) (calls + 1)
 packaged_counted h calls is room =
     let below : h.packed < pack_grant h = ltb-true h.packed (pack_grant h) room in
     record {

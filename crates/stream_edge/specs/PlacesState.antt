@@ -43,7 +43,8 @@ pub record IsCounted (h : Held) (calls : ℕ) : Type 0 where
 -- A StreamID is live at one place at most.
 abbrev pub LivesOnce : List (Option Held) → Type 0
 LivesOnce streams =
-    (one other id : ℕ) → IsTrue (is_live_as id (get_or streams one None)) → IsTrue (is_live_as id (get_or streams other None)) → one ≡ other
+    (one other id : ℕ) → IsTrue (is_live_as id (get_or streams one None)) → IsTrue (is_live_as id (get_or streams other None))
+    → one ≡ other
 
 pub record IsInStep (s : PlacesState) : Type 0 where
   pub places : length s.streams ≡ 32

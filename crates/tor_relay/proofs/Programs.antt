@@ -23,11 +23,13 @@ said_of (LinkRefused cause) other = refl
 said_of (CircuitClosed cause) other = refl
 said_of (StreamEnded reason) other = refl
 
-pub says_end : (status : Status) (text : List ℕ) (e : SinkRun) → (status ≡ Done → ⊥) → text ≡ end_message status → IsSaid text e → IsSaid (message status) e
+pub says_end : (status : Status) (text : List ℕ) (e : SinkRun) → (status ≡ Done → ⊥) → text ≡ end_message status → IsSaid text e
+    → IsSaid (message status) e
 says_end status text e other is said =
     subst (λ xs. IsSaid xs e) (sym (said_of status other)) (subst (λ xs. IsSaid xs e) is said)
 
-pub says_nothing : (status : Status) (contents flushed : Option (List ℕ)) (faults : ℕ) → status ≡ Done → IsSaid (message status) (sink_run contents faults contents flushed faults)
+pub says_nothing : (status : Status) (contents flushed : Option (List ℕ)) (faults : ℕ) → status ≡ Done
+    → IsSaid (message status) (sink_run contents faults contents flushed faults)
 says_nothing status contents flushed faults done =
     let Said : Status → Type 0 = λ s. IsSaid (message s) (sink_run contents faults contents flushed faults) in
     subst Said (sym done) (inl (starts_empty contents))

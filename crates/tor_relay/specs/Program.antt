@@ -56,7 +56,8 @@ message (StreamEnded reason) = end_message (StreamEnded reason)
 
 -- All of a text is written; or standard error failed, and the front of it is.
 abbrev pub IsSaid : List ℕ → SinkRun → Type 0
-IsSaid text e = IsWritten e.contents text e.contents_after ⊎ (IsPartWritten e.contents text e.contents_after × Rose e.faults e.faults_after)
+IsSaid text e =
+    IsWritten e.contents text e.contents_after ⊎ (IsPartWritten e.contents text e.contents_after × Rose e.faults e.faults_after)
 
 -- A run of the command line that these words are ends with this status.
 pub record EndsAs {S K : Type 0} (words : List (List ℕ)) (status : Status) (source source_after : S) (sink sink_after : K) (r : SourceRun) (w : SinkRun) : Type 0 where
@@ -66,7 +67,8 @@ pub record EndsAs {S K : Type 0} (words : List (List ℕ)) (status : Status) (so
   pub read : status ≡ ReadFault → Rose r.faults r.faults_after
   pub write : status ≡ WriteFault → Rose w.faults w.faults_after
   pub run : is_tape_line words ≡ true → IsRun status r w
-  pub done : is_tape_line words ≡ true → (tape : List ℕ) (rules : Rules) (records : List Record) → IsGood tape rules records r w → IsDone status rules records w
+  pub done : is_tape_line words ≡ true → (tape : List ℕ) (rules : Rules) (records : List Record) → IsGood tape rules records r w
+      → IsDone status rules records w
 
 -- The number is that of a status, which is said.
 pub record Tells (number : ℕ) (status : Status) (e : SinkRun) : Type 0 where

@@ -46,7 +46,8 @@ relay_body_length command stream payload short =
     ∙ ap (λ n. length payload + n) (length-replicate (498 - length payload) 0) ∙ omega arith in
     ap (λ n. suc (suc (suc (suc (suc (suc (suc (suc (suc (suc (suc n))))))))))) data_long
 
-pub with_digest_length : (body first : List ℕ) → 9 ≤ length body → length first ≡ 4 → length (with_digest body first) ≡ length body
+pub with_digest_length : (body first : List ℕ) → 9 ≤ length body → length first ≡ 4
+    → length (with_digest body first) ≡ length body
 unfolding with_digest
 with_digest_length (a ∷ b ∷ c ∷ d ∷ e ∷ f ∷ g ∷ h ∷ i ∷ rest) (p ∷ q ∷ r ∷ s ∷ []) within four = refl
 with_digest_length _ _ within four = absurd (omega arith)

@@ -17,12 +17,14 @@ cut_off-append of a b n found e =
     let still : nat_le n (length (a ++ b)) ≡ true = le-leb _ _ (simp length-append (omega arith)) in
     rw (still, take-append-le n a b within, drop-append-le n a b within, ← cut.1) refl
 
-pub cell_at-append : (a b : List ℕ) (found : WireCell × List ℕ) → cell_at a ≡ Some found → cell_at (a ++ b) ≡ Some (found.0, found.1 ++ b)
+pub cell_at-append : (a b : List ℕ) (found : WireCell × List ℕ) → cell_at a ≡ Some found
+    → cell_at (a ++ b) ≡ Some (found.0, found.1 ++ b)
 unfolding cell_at
 cell_at-append a b found e =
     option_and_then_some _ _ found e (λ n size cut. rw (cell_size-append a b n size) (cut_off-append cell_of a b n found cut))
 
-pub first_at-append : (a b : List ℕ) (found : WireCell × List ℕ) → first_at a ≡ Some found → first_at (a ++ b) ≡ Some (found.0, found.1 ++ b)
+pub first_at-append : (a b : List ℕ) (found : WireCell × List ℕ) → first_at a ≡ Some found
+    → first_at (a ++ b) ≡ Some (found.0, found.1 ++ b)
 unfolding first_at
 first_at-append a b found e =
     option_and_then_some _ _ found e (λ n size cut. rw (first_size-append a b n size) (cut_off-append first_of a b n found cut))
@@ -78,7 +80,8 @@ beyond a b n none e (Some m) s =
 pub size_beyond : (a b : List ℕ) (n : ℕ) → cell_at a ≡ None → cell_size (a ++ b) ≡ Some n → length a ≤ n
 size_beyond a b n none e = beyond a b n none e (cell_size a) refl
 
-first_beyond : (a b : List ℕ) (n : ℕ) → first_at a ≡ None → first_size (a ++ b) ≡ Some n → (o : Option ℕ) → first_size a ≡ o → length a ≤ n
+first_beyond : (a b : List ℕ) (n : ℕ) → first_at a ≡ None → first_size (a ++ b) ≡ Some n → (o : Option ℕ) → first_size a ≡ o
+    → length a ≤ n
 first_beyond a b n none e None s = first_untold_short a b n s e
 first_beyond a b n none e (Some m) s =
     let same : m ≡ n = same_Some m n (sym (first_size-append a b m s) ∙ e) in

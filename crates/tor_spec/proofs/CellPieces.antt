@@ -73,7 +73,8 @@ first-at a b w (Some found) e =
     ∙ ap (with_cell found.0) (later-pieces found.1 b)
     ∙ rw (first_reading-some a found w e) refl
 
-first-pieces-at : (a b : List ℕ) (o : Option (ℕ × ℕ)) → wrong_start a ≡ o → first_reading (a ++ b) ≡ then_piece (first_reading a) b
+first-pieces-at : (a b : List ℕ) (o : Option (ℕ × ℕ)) → wrong_start a ≡ o
+    → first_reading (a ++ b) ≡ then_piece (first_reading a) b
 first-pieces-at a b (Some x) w = first-wrong a b x w
 first-pieces-at a b None w = first-at a b w (first_at a) refl
 
@@ -123,7 +124,8 @@ unfolding refusal
 refused-at a b w None e = rw (first_reading-none a w e) refl
 refused-at a b w (Some found) e =
     let long : 5 ≤ length a = first_at-told a found e in
-    let opened : (first_reading a).left.opening ≡ false = ap (λ r. r.left.opening) (first_reading-some a found w e) ∙ later-open found.1 in
+    let opened : (first_reading a).left.opening ≡ false =
+    ap (λ r. r.left.opening) (first_reading-some a found w e) ∙ later-open found.1 in
     rw (opened, wrong_start-append a b (omega arith), w) refl
 
 refused-pieces-at : (a b : List ℕ) (o : Option (ℕ × ℕ)) → wrong_start a ≡ o

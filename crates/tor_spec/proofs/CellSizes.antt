@@ -66,7 +66,8 @@ least_size a n e = elim (size_told a n e) [
 ]
 
 -- Two lists with the same head tell the same size.
-same_variable : (a b : List ℕ) (n : ℕ) → ((i : ℕ) → i < 7 → get_or b i 0 ≡ get_or a i 0) → 7 ≤ length b → TellsVariable a n → TellsVariable b n
+same_variable : (a b : List ℕ) (n : ℕ) → ((i : ℕ) → i < 7 → get_or b i 0 ≡ get_or a i 0) → 7 ≤ length b → TellsVariable a n
+    → TellsVariable b n
 same_variable a b n same long t = record {
   variable = ap is_variable (same 4 (omega arith)) ∙ t.variable;
   long = long;
@@ -109,7 +110,8 @@ cell_size-take a n e within =
           size_fixed (take n a) n (same_fixed a (take n a) n (get_or-take n a 4 0 (omega arith)) (omega arith) f)
     ])
 
-pub first_size-take : (a : List ℕ) (n : ℕ) → first_size a ≡ Some n → n ≤ length a → first_size (take n a) ≡ Some (length (take n a))
+pub first_size-take : (a : List ℕ) (n : ℕ) → first_size a ≡ Some n → n ≤ length a
+    → first_size (take n a) ≡ Some (length (take n a))
 first_size-take a n e within =
     let long : length (take n a) ≡ n = length-take-le n a within in
     let told = first_size_told a n e in
@@ -124,7 +126,8 @@ untold_short a b n none e =
     elim (cases_lt (length a) 5) [
       | inl short ↦ omega arith
       | inr long ↦
-          let told : (if is_variable (slice_index a 4) then told_size a else Some 514) ≡ None = rw (le-ltb (length a) 5 long) at none in
+          let told : (if is_variable (slice_index a 4) then told_size a else Some 514) ≡ None =
+          rw (le-ltb (length a) 5 long) at none in
           elim (chosen (is_variable (slice_index a 4)) (told_size a) (Some 514) None told) [
             | inl v ↦
                 let short : length a < 7 = ltb-true _ _ (untold _ _ v.1) in

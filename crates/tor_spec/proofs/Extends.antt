@@ -51,7 +51,8 @@ destination-none to n bytes e =
     ap (λ found. behind_earlier to (option_map (λ read. (first_address read.0, read.1))
     (option_and_then (λ read. option_map (put_before read.0) (specifiers n read.1)) found))) e
 
-option_map-option_or : {X Y : Type 0} (f : X → Y) (a b : Option X) → option_map f (option_or a b) ≡ option_or (option_map f a) (option_map f b)
+option_map-option_or : {X Y : Type 0} (f : X → Y) (a b : Option X)
+    → option_map f (option_or a b) ≡ option_or (option_map f a) (option_map f b)
 option_map-option_or f None b = refl
 option_map-option_or f (Some x) b = refl
 

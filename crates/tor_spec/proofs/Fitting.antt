@@ -8,7 +8,8 @@ use Rattle.tor_spec.specs.Resolve.{resolved_payload}
 use Rattle.tor_spec.specs.Sendme.{sendme_payload}
 use Rattle.tor_spec.proofs.Bodies.{relay_body_fits}
 
-pub body_fits : (body : List ℕ) (command stream : ℕ) (payload : List ℕ) → body ≡ relay_body command stream payload → stream < 2 ^ 16 → length payload ≤ 498 → fits_length body ≡ true
+pub body_fits : (body : List ℕ) (command stream : ℕ) (payload : List ℕ) → body ≡ relay_body command stream payload
+    → stream < 2 ^ 16 → length payload ≤ 498 → fits_length body ≡ true
 body_fits body command stream payload is within short = ap fits_length is ∙ relay_body_fits command stream payload within short
 
 pub reply_fits : (handshake : List ℕ) → length handshake ≤ 496 → length (handshake_reply_payload handshake) ≤ 498

@@ -3,7 +3,8 @@ use Rattle.std.proofs.Common.{ℕ, zero, suc, ◌≡◌, ◌-◌, ◌<◌, ◌�
 use Rattle.std.specs.Prelude.{option_and_then, is_some}
 use Rattle.tor_spec.specs.Netinfo.{behind_address, behind_addresses, behind_list, is_netinfo}
 
-pub one_address : (n : ℕ) (bytes more : List ℕ) → 0 < n → behind_address bytes ≡ Some more → behind_addresses n bytes ≡ behind_addresses (n - 1) more
+pub one_address : (n : ℕ) (bytes more : List ℕ) → 0 < n → behind_address bytes ≡ Some more
+    → behind_addresses n bytes ≡ behind_addresses (n - 1) more
 unfolding behind_addresses
 one_address zero bytes more h e = absurd (omega arith)
 one_address (suc n) bytes more h e = let less : suc n - 1 ≡ n = omega arith in rw (e, less) refl

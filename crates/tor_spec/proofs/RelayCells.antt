@@ -23,6 +23,7 @@ body_copied m n k head payload head_long short m_is k_is =
     let blank : drop 11 (replicate m 0) ≡ replicate n 0 = drop-replicate 11 m 0 ∙ ap (λ i. replicate i 0) (omega arith) in
     let before : take 11 (head ++ drop 11 (replicate m 0)) ≡ head = take_at head (drop 11 (replicate m 0)) 11 head_long in
     let behind : drop k (drop 11 (head ++ drop 11 (replicate m 0))) ≡ replicate (n - length payload) 0 =
-    ap (drop k) (drop_at head (drop 11 (replicate m 0)) 11 head_long) ∙ ap (drop k) blank ∙ drop-replicate k n 0 ∙ ap (λ i. replicate (n - i) 0) k_is in
+    ap (drop k) (drop_at head (drop 11 (replicate m 0)) 11 head_long) ∙ ap (drop k) blank ∙ drop-replicate k n 0
+    ∙ ap (λ i. replicate (n - i) 0) k_is in
     ap (λ a. a ++ (payload ++ drop k (drop 11 (head ++ drop 11 (replicate m 0))))) before
     ∙ ap (λ b. head ++ (payload ++ b)) behind ∙ sym (append_assoc head payload (replicate (n - length payload) 0))

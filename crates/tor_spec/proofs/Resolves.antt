@@ -29,7 +29,8 @@ same_later None f g same = refl
 same_later (Some read) f g same = ap (option_map (put_answer read.0)) (same read.0 read.1 refl)
 
 -- A greater bound changes nothing.
-pub within_enough : (n m : ℕ) (bytes : List ℕ) → length bytes ≤ n → length bytes ≤ m → answers_within n bytes ≡ answers_within m bytes
+pub within_enough : (n m : ℕ) (bytes : List ℕ) → length bytes ≤ n → length bytes ≤ m
+    → answers_within n bytes ≡ answers_within m bytes
 unfolding answers_within
 within_enough zero zero [] h k = refl
 within_enough zero (suc m) [] h k = refl

@@ -34,7 +34,8 @@ at_position p xs d i e =
 
 no_position : {X : Type 0} (p : X → Bool) (xs : List X) (d : X) → position p xs ≡ None → list_any p xs ≡ false
 no_position p xs d e =
-    let beyond : length xs ≤ position_or_len p xs = ltb-false _ _ (not_chosen (nat_lt (position_or_len p xs) (length xs)) (position_or_len p xs) e) in
+    let beyond : length xs ≤ position_or_len p xs =
+    ltb-false _ _ (not_chosen (nat_lt (position_or_len p xs) (length xs)) (position_or_len p xs) e) in
     list_any_none p xs (All-from_get_or (λ x. p x ≡ false) xs d (λ i h. fails_before_first p xs i d (omega arith)))
 
 pub terminated_at : (bytes : List ℕ) (i : ℕ) → position is_zero_byte bytes ≡ Some i → terminated_text bytes ≡ Some (take i bytes)

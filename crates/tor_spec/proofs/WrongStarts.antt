@@ -23,7 +23,8 @@ pub wrong_start-take : (a : List ℕ) (x : ℕ × ℕ) → wrong_start a ≡ Som
 wrong_start-take a x e =
     let long = wrong_start-told a x e in
     let three : length (take 3 a) ≡ 3 = length-take-le 3 a long in
-    let again : wrong_start (take 3 a ++ drop 3 a) ≡ wrong_start (take 3 a) = wrong_start-append (take 3 a) (drop 3 a) (omega arith) in
+    let again : wrong_start (take 3 a ++ drop 3 a) ≡ wrong_start (take 3 a) =
+    wrong_start-append (take 3 a) (drop 3 a) (omega arith) in
     sym again ∙ ap wrong_start (take-append-drop 3 a) ∙ e
 
 abbrev circuit_of : List ℕ → ℕ
@@ -33,7 +34,8 @@ circuit_of a = from_be_bytes w16 (slice_index a 0 ∷ slice_index a 1 ∷ [])
 pub right_start : (a : List ℕ) → 3 ≤ length a → wrong_start a ≡ None → (circuit_of a ≡ 0) × (slice_index a 2 ≡ 7)
 unfolding wrong_start
 right_start a long e =
-    let told : (if (circuit_of a == 0) && (slice_index a 2 == 7) then None else Some (circuit_of a, slice_index a 2)) ≡ None = rw (le-ltb (length a) 3 long) at e in
+    let told : (if (circuit_of a == 0) && (slice_index a 2 == 7) then None else Some (circuit_of a, slice_index a 2)) ≡ None =
+    rw (le-ltb (length a) 3 long) at e in
     elim (chosen ((circuit_of a == 0) && (slice_index a 2 == 7)) None (Some (circuit_of a, slice_index a 2)) None told) [
       | inl both ↦
           let parts = and_parts _ _ both.0 in

@@ -24,16 +24,21 @@ starts_empty None = refl
 starts_empty (Some bytes) = ap Some (sym (append-nil bytes))
 
 -- all is written at last
-pub ends : (before now : Option (List ℕ)) (piece left : List ℕ) (count : ℕ) → left ≡ drop count piece → length left ≡ 0 → IsWritten before (take count piece) now → IsWritten before piece now
+pub ends : (before now : Option (List ℕ)) (piece left : List ℕ) (count : ℕ) → left ≡ drop count piece → length left ≡ 0
+    → IsWritten before (take count piece) now → IsWritten before piece now
 ends before now piece left count rest none written =
-    let all : take count piece ≡ piece = sym (append-nil (take count piece)) ∙ ap (λ xs. take count piece ++ xs) (sym (nil_from_length left none) ∙ rest) ∙ take-append-drop count piece in
+    let all : take count piece ≡ piece =
+    sym (append-nil (take count piece)) ∙ ap (λ xs. take count piece ++ xs) (sym (nil_from_length left none) ∙ rest)
+    ∙ take-append-drop count piece in
     subst (λ xs. IsWritten before xs now) all written
 
 -- n bytes more were written
-pub write_more : (before now after : Option (List ℕ)) (piece left : List ℕ) (count n : ℕ) → left ≡ drop count piece → IsWritten before (take count piece) now → WritesTo now (Took n) left after → IsWritten before (take (count + n) piece) after
+pub write_more : (before now after : Option (List ℕ)) (piece left : List ℕ) (count n : ℕ) → left ≡ drop count piece
+    → IsWritten before (take count piece) now → WritesTo now (Took n) left after → IsWritten before (take (count + n) piece) after
 write_more None now after piece left count n rest written writes = subst (λ o. WritesTo o (Took n) left after) written writes
 write_more (Some bytes) now after piece left count n rest written writes =
-    let at_now : after ≡ Some ((bytes ++ take count piece) ++ take n left) = subst (λ o. WritesTo o (Took n) left after) written writes in
+    let at_now : after ≡ Some ((bytes ++ take count piece) ++ take n left) =
+    subst (λ o. WritesTo o (Took n) left after) written writes in
     at_now
     ∙ ap Some (append_assoc bytes (take count piece) (take n left)
     ∙ ap (λ xs. bytes ++ (take count piece ++ take n xs)) rest
@@ -43,7 +48,8 @@ pub take_all : (xs : List ℕ) (k : ℕ) → length xs ≡ k → take k xs ≡ x
 take_all xs k is = ap (λ m. take m xs) (sym is) ∙ take-length xs
 
 -- what is left goes on
-pub left_more : (piece left : List ℕ) (count n : ℕ) → left ≡ drop count piece → take (length left - n) (drop n left) ≡ drop (count + n) piece
+pub left_more : (piece left : List ℕ) (count n : ℕ) → left ≡ drop count piece
+    → take (length left - n) (drop n left) ≡ drop (count + n) piece
 left_more piece left count n rest =
     take_all (drop n left) (length left - n) (length-drop n left)
     ∙ ap (drop n) rest
@@ -53,18 +59,21 @@ left_more piece left count n rest =
 pub none_written : (before : Option (List ℕ)) (piece : List ℕ) → IsPartWritten before piece before
 none_written before piece = (0, starts before piece)
 
-pub all_written : (before after : Option (List ℕ)) (piece : List ℕ) → IsWritten before piece after → IsPartWritten before piece after
+pub all_written : (before after : Option (List ℕ)) (piece : List ℕ) → IsWritten before piece after
+    → IsPartWritten before piece after
 all_written before after piece written = (length piece, subst (λ xs. IsWritten before xs after) (sym (take-length piece)) written)
 
 -- What is written behind a piece that was written.
-pub whole_behind : (before now after : Option (List ℕ)) (piece more out : List ℕ) → IsWritten before piece now → IsWritten now more after → piece ++ more ≡ out → IsWritten before out after
+pub whole_behind : (before now after : Option (List ℕ)) (piece more out : List ℕ) → IsWritten before piece now
+    → IsWritten now more after → piece ++ more ≡ out → IsWritten before out after
 whole_behind None now after piece more out written next is = subst (λ o. IsWritten o more after) written next
 whole_behind (Some told) now after piece more out written next is =
     subst (λ o. IsWritten o more after) written next
     ∙ ap Some (append_assoc told piece more)
     ∙ ap (λ xs. Some (told ++ xs)) is
 
-pub part_behind : (before now after : Option (List ℕ)) (piece more out : List ℕ) → IsWritten before piece now → IsPartWritten now more after → piece ++ more ≡ out → IsPartWritten before out after
+pub part_behind : (before now after : Option (List ℕ)) (piece more out : List ℕ) → IsWritten before piece now
+    → IsPartWritten now more after → piece ++ more ≡ out → IsPartWritten before out after
 part_behind before now after piece more out written next is =
     let front : piece ++ take next.0 more ≡ take (length piece + next.0) out =
     sym (take-append-add piece more next.0) ∙ ap (λ xs. take (length piece + next.0) xs) is in

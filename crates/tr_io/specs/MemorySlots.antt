@@ -6,7 +6,8 @@ use Rattle.tr_io.specs.Sessions.{Session, SlotSessions}
 use Rattle.tr_io.specs.Pieces.{Piece}
 
 abbrev pub session_of : MemorySession → Session
-session_of m = record { number = m.number; to = m.to; input = take m.at m.bytes.items; is_at_end = length m.bytes.items == m.at; greeting = m.greeting.items }
+session_of m =
+    record { number = m.number; to = m.to; input = take m.at m.bytes.items; is_at_end = length m.bytes.items == m.at; greeting = m.greeting.items }
 
 abbrev pub sessions_of : List MemorySession → Option MemorySession → SlotSessions
 sessions_of past present = record { past = map session_of past; present = option_map session_of present }

@@ -100,7 +100,8 @@ pub trait CorePort {
         ensures own { is_own self.now pass.new }
         ensures spent { IfSpent result (is_spent pass.new) }
         ensures step { (place : Option ℕ) × CallAdds (λ a. Made.GiveBack (Self.Done.note done) place a ∷ []) (mine pass.old) result (mine pass.new) }
-        ensures same { (job : Self.Job) → gave pass.old job → Self.Done.is_of done job → CallAdds (λ a. Made.GiveBack (Self.Done.note done) None a ∷ []) (mine pass.old) result (mine pass.new) };
+        ensures same { (job : Self.Job) → gave pass.old job → Self.Done.is_of done job →
+            CallAdds (λ a. Made.GiveBack (Self.Done.note done) None a ∷ []) (mine pass.old) result (mine pass.new) };
 
     /// Gives a job up, and its circuit. What `give_back` says of its content holds here too.
     fn abandon(&self, pass: &mut Self::Pass, job: Self::Job) -> Turn<BackAnswer>
@@ -108,7 +109,8 @@ pub trait CorePort {
         ensures own { is_own self.now pass.new }
         ensures spent { IfSpent result (is_spent pass.new) }
         ensures step { (place : Option ℕ) × CallAdds (λ a. Made.Abandon (Self.Job.note job) place a ∷ []) (mine pass.old) result (mine pass.new) }
-        ensures same { gave pass.old job → CallAdds (λ a. Made.Abandon (Self.Job.note job) None a ∷ []) (mine pass.old) result (mine pass.new) };
+        ensures same { gave pass.old job →
+            CallAdds (λ a. Made.Abandon (Self.Job.note job) None a ∷ []) (mine pass.old) result (mine pass.new) };
 
     /// The next cell that leaves on a channel at a tick, which is well formed.
     fn next_cell(&self, pass: &mut Self::Pass, chan: ChanNo, tick: u64) -> Turn<Option<Cell>>

@@ -41,8 +41,10 @@ pub trait Stepping<T: Kept> {
     fn apply(&mut self, state: &mut T) -> (bool, Self::Answer)
         requires { (b : T.Start) × ((h : List T.Step) × (T.stands state.old b h × (length h < 2 ^ 62))) }
         ensures counted { result.0 ≡ counts result.1 }
-        ensures step { IsTrue result.0 → (b : T.Start) (h : List T.Step) → T.stands state.old b h → T.stands state.new b (h ++ step_of self.old result.1 ∷ []) }
-        ensures same { IsTrue (not result.0) → (b : T.Start) (h : List T.Step) → T.stands state.old b h → T.stands state.new b h };
+        ensures step { IsTrue result.0 → (b : T.Start) (h : List T.Step) → T.stands state.old b h →
+            T.stands state.new b (h ++ step_of self.old result.1 ∷ []) }
+        ensures same { IsTrue (not result.0) → (b : T.Start) (h : List T.Step) → T.stands state.old b h →
+            T.stands state.new b h };
 
     /// Whether others may have work to do because of this answer. A lock wakes by it those that
     /// parked: a step that says no wakes nobody, so where it is in doubt, it says yes.

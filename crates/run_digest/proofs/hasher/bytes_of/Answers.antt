@@ -9,7 +9,8 @@ one_word_more : (h : List ℕ) (i : ℕ) → digest_bytes h (suc i) ≡ digest_b
 unfolding digest_bytes
 one_word_more h i = refl
 
-written : (h bytes word tail : List ℕ) (i n : ℕ) → take (4 * i) bytes ≡ digest_bytes h i → word ≡ to_be_bytes w32 (slice_index h i) →
+written : (h bytes word tail : List ℕ) (i n : ℕ) → take (4 * i) bytes ≡ digest_bytes h i
+    → word ≡ to_be_bytes w32 (slice_index h i) →
     4 * i ≤ length bytes → n ≡ 4 * i + 4 → take n (take (4 * i) bytes ++ (word ++ tail)) ≡ digest_bytes h (i + 1)
 written h bytes word tail i n before is room e =
     let long : length word ≡ 4 = ap length is in

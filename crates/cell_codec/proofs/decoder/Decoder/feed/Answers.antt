@@ -48,7 +48,8 @@ returns-in-Some-2-clause-cells c =
 
 pub returns-in-Some-2-clause-accepted : goal.returns-in-Some-2-clause-accepted
 returns-in-Some-2-clause-accepted c =
-    opening_refusal _ _ _ _ (sym c.self.view_is) c.in-Opening.is ∙ (rw c.as_slice.ensures.value at (sym c.in_default.ensures.start))
+    opening_refusal _ _ _ _ (sym c.self.view_is) c.in-Opening.is
+    ∙ (rw c.as_slice.ensures.value at (sym c.in_default.ensures.start))
 
 pub returns-in-Some-2-clause-unread : goal.returns-in-Some-2-clause-unread
 returns-in-Some-2-clause-unread c = λ _.
@@ -60,30 +61,35 @@ pub returns-in-None-clause-cells : goal.returns-in-None-clause-cells
 returns-in-None-clause-cells c =
     let kept : (c.feed_opening.new.rest.items ≡ c.self.inside.rest.items ++ c.args.piece.now) × (first_at c.feed_opening.new.rest.items ≡ None) =
     rw c.in-None.is at c.in_ok-cells-in-Opening.ensures.opening in
-    let start : wrong_start (c.self.inside.rest.items ++ c.args.piece.now) ≡ None = rw c.as_slice.ensures.value at (sym c.in_default.ensures.start) in
+    let start : wrong_start (c.self.inside.rest.items ++ c.args.piece.now) ≡ None =
+    rw c.as_slice.ensures.value at (sym c.in_default.ensures.start) in
     ap (map wire_cell) c.new.ensures ∙ sym (opening_cells _ start (rw kept.0 at kept.1))
     ∙ sym (ap (λ r. r.cells) (opening_reading _ _ _ _ (sym c.self.view_is) c.in-Opening.is))
 
 pub returns-in-None-clause-accepted : goal.returns-in-None-clause-accepted
 returns-in-None-clause-accepted c =
-    opening_refusal _ _ _ _ (sym c.self.view_is) c.in-Opening.is ∙ (rw c.as_slice.ensures.value at (sym c.in_default.ensures.start))
+    opening_refusal _ _ _ _ (sym c.self.view_is) c.in-Opening.is
+    ∙ (rw c.as_slice.ensures.value at (sym c.in_default.ensures.start))
 
 pub returns-in-None-clause-unread : goal.returns-in-None-clause-unread
 returns-in-None-clause-unread c = λ _.
     let kept : (c.feed_opening.new.rest.items ≡ c.self.inside.rest.items ++ c.args.piece.now) × (first_at c.feed_opening.new.rest.items ≡ None) =
     rw c.in-None.is at c.in_ok-cells-in-Opening.ensures.opening in
-    let start : wrong_start (c.self.inside.rest.items ++ c.args.piece.now) ≡ None = rw c.as_slice.ensures.value at (sym c.in_default.ensures.start) in
+    let start : wrong_start (c.self.inside.rest.items ++ c.args.piece.now) ≡ None =
+    rw c.as_slice.ensures.value at (sym c.in_default.ensures.start) in
     ap (λ s. unread_of s c.feed_opening.new.rest.items) c.in-Opening.is
     ∙ opening_left _ _ start (rw kept.0 at kept.1) kept.0
     ∙ sym (ap (λ r. r.left) (opening_reading _ _ _ _ (sym c.self.view_is) c.in-Opening.is))
 
 pub returns-in_err-feed_open-in-Open-clause-refused : goal.returns-in_err-feed_open-in-Open-clause-refused
 returns-in_err-feed_open-in-Open-clause-refused c =
-    let accepted : refusal (with_piece c.args.self.now c.args.piece.now) ≡ None = open_accepted _ _ _ _ (sym c.self.view_is) c.in-Open.is in
+    let accepted : refusal (with_piece c.args.self.now c.args.piece.now) ≡ None =
+    open_accepted _ _ _ _ (sym c.self.view_is) c.in-Open.is in
     search (rules, accepted)
 
 pub returns-in_err-cells-in-Opening-clause-refused : goal.returns-in_err-cells-in-Opening-clause-refused
 returns-in_err-cells-in-Opening-clause-refused c =
     let accepted : refusal (with_piece c.args.self.now c.args.piece.now) ≡ None =
-    opening_refusal _ _ _ _ (sym c.self.view_is) c.in-Opening.is ∙ (rw c.as_slice.ensures.value at (sym c.in_default.ensures.start)) in
+    opening_refusal _ _ _ _ (sym c.self.view_is) c.in-Opening.is
+    ∙ (rw c.as_slice.ensures.value at (sym c.in_default.ensures.start)) in
     search (rules, accepted)

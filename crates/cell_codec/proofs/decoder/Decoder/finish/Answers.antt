@@ -10,5 +10,6 @@ returns-then-is_empty-clause-short c =
 
 pub returns-else-is_empty-clause-short : goal.returns-else-is_empty-clause-short
 returns-else-is_empty-clause-short c =
-    let some : length c.self.inside.rest.items ≡ 0 → ⊥ = λ e. eqb-false _ _ (sym c.is_empty.ensures ∙ c.if-is_empty.false) (omega arith) in
+    let some : length c.self.inside.rest.items ≡ 0 → ⊥ =
+    λ e. eqb-false _ _ (sym c.is_empty.ensures ∙ c.if-is_empty.false) (omega arith) in
     (λ _. unfinished _ _ _ (sym c.self.view_is) c.self.invariant (λ e. some (ap length e)), λ _. refl)

@@ -62,7 +62,8 @@ invariant_of-self-2 c =
     let digest = ap (λ (o : OpenerState). o.digest) took.stands in
     record {
       layer = after_opening layer c.args.body.now;
-      state_is = state_recognised here (place_of c.apply.new.self) c.in_ok-digest.digest layer c.args.body.now c.apply.new.body took
+      state_is =
+          state_recognised here (place_of c.apply.new.self) c.in_ok-digest.digest layer c.args.body.now c.apply.new.body took
           (c.in_ok-digest.ensures.some layer.seed layer.absorbed digest)
           (c.in_ok-digest.ensures.digest layer.seed layer.absorbed digest);
     }

@@ -2,7 +2,8 @@ use Rattle.std.proofs.Common.{◌≡◌, ℕ, ◌+◌, ◌*◌, ◌∙◌, List,
 use Rattle.sha1.specs.Sha1.{rounds, schedule}
 use Rattle.run_digest.proofs.compress.Variables.after_stage.Goals as goal
 
-moved : (hash block : List ℕ) {x : List ℕ} (t u : ℕ) → x ≡ rounds hash (schedule block 64) t → t ≡ u → x ≡ rounds hash (schedule block 64) u
+moved : (hash block : List ℕ) {x : List ℕ} (t u : ℕ) → x ≡ rounds hash (schedule block 64) t → t ≡ u
+    → x ≡ rounds hash (schedule block 64) u
 moved hash block t u at e = at ∙ ap (rounds hash (schedule block 64)) e
 
 pub loop-five-init : goal.loop-five-init

@@ -10,7 +10,8 @@ pub invariant_of-self : goal.invariant_of-self
 invariant_of-self c =
     let place = c.args.place.0 in
     let holds = c.args.stream in
-    let here : PlacesState = record { streams = c.self.inside.streams; next_serial = c.self.inside.next_serial; calls = c.self.inside.calls } in
+    let here : PlacesState =
+    record { streams = c.self.inside.streams; next_serial = c.self.inside.next_serial; calls = c.self.inside.calls } in
     IsInStep-put here place holds c.self.invariant
     (subst (λ (s : PlacesState). s.calls < 2 ^ 63) (sym c.self.view_is) c.requires.calls)
     c.requires.within

@@ -7,12 +7,14 @@ use Rattle.stream_edge.proofs.places.Places.take_place.Goals as goal
 
 pub invariant_of-self : goal.invariant_of-self
 invariant_of-self c =
-    let here : PlacesState = record { streams = c.self.inside.streams; next_serial = c.self.inside.next_serial; calls = c.self.inside.calls } in
+    let here : PlacesState =
+    record { streams = c.self.inside.streams; next_serial = c.self.inside.next_serial; calls = c.self.inside.calls } in
     IsInStep-called here c.self.invariant (subst (λ (s : PlacesState). s.calls < 2 ^ 63) (sym c.self.view_is) c.requires.calls)
 
 pub invariant_of-self-2 : goal.invariant_of-self-2
 invariant_of-self-2 c =
-    let here : PlacesState = record { streams = c.self.inside.streams; next_serial = c.self.inside.next_serial; calls = c.self.inside.calls } in
+    let here : PlacesState =
+    record { streams = c.self.inside.streams; next_serial = c.self.inside.next_serial; calls = c.self.inside.calls } in
     let id = c.args.id in
     let place = c.in_ok-place.place in
     let next : Held → PlacesState = λ h. record (with_held here place (Some h)) { next_serial = here.next_serial + 1 } in
