@@ -1,9 +1,9 @@
 -- Laws for callers: what a tick does to a leg, and that only one leg is served next.
 use Rattle.std.proofs.Common.{◌≡◌, ℕ, ◌/◌, refl, sym, arith}
 use Rattle.ewma_sched.specs.Counts.{halved}
-use Rattle.ewma_sched.specs.Legs.{LegName, LegState, SchedState, IsServedFirst, IsNext}
+use Rattle.ewma_sched.specs.Legs.{LegName, ScheduledLeg, SchedState, IsServedFirst, IsNext}
 
-pub served_once : (p q : LegName) (x y : LegState) → IsServedFirst p x q y → IsServedFirst q y p x → p ≡ q
+pub served_once : (p q : LegName) (x y : ScheduledLeg) → IsServedFirst p x q y → IsServedFirst q y p x → p ≡ q
 served_once p q x y first second =
     let a = first.count in
     let b = second.count in

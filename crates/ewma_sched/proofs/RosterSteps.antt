@@ -35,7 +35,8 @@ served_roster old new chan now roster next served x is ticked serves on queued c
     let charged : Leg = record x { count = record { value = served.count; tick = now } } in
     let named : (name : LegName) → has_name name served ≡ has_name name first
     = λ name. ap (has_name name) serves.charged in
-    let counted : (name : LegName) → count_by (has_name name) next.ready_queue.items ≡ count_by (has_name name) roster.ready_queue.items
+    let counted : (name : LegName)
+    → count_by (has_name name) next.ready_queue.items ≡ count_by (has_name name) roster.ready_queue.items
     = λ name.
     count_moved (has_name name) (served ∷ rest) next.ready_queue.items serves.moved
     ∙ count_cons (has_name name) served rest
@@ -72,7 +73,8 @@ served_roster old new chan now roster next served x is ticked serves on queued c
       names = λ name.
           counted name ∙ is.names name
           ∙ sym (same_weight change chan (waits_one chan charged on queued ∙ sym weighs) name);
-      counts = All-permutation HasIts (served ∷ rest) next.ready_queue.items serves.moved (All-cons HasIts served rest front later_ones);
+      counts =
+          All-permutation HasIts (served ∷ rest) next.ready_queue.items serves.moved (All-cons HasIts served rest front later_ones);
       idle = omega arith;
       room = omega arith;
     }
@@ -90,7 +92,8 @@ began_roster old new chan now roster next leg x is ticked counted on queued chan
     let begun : Leg = record x { has_cells = true } in
     let gone : count_by (has_name leg) roster.ready_queue.items ≡ 0
     = is.names leg ∙ ap (waits_on chan) change.before ∙ waits_none chan x queued in
-    let split : (name : LegName) → count_by (has_name name) next.ready_queue.items ≡ cond {A = ℕ} (has_name name entry) 1 0 + count_by (has_name name) roster.ready_queue.items
+    let split : (name : LegName)
+    → count_by (has_name name) next.ready_queue.items ≡ cond {A = ℕ} (has_name name entry) 1 0 + count_by (has_name name) roster.ready_queue.items
     = λ name.
     count_moved (has_name name) (entry ∷ roster.ready_queue.items) next.ready_queue.items moved
     ∙ count_cons (has_name name) entry roster.ready_queue.items in
@@ -117,7 +120,8 @@ began_roster old new chan now roster next leg x is ticked counted on queued chan
           split name ∙ ap (λ b. cond {A = ℕ} b 1 0 + count_by (has_name name) roster.ready_queue.items) (apart_back leg name off)
           ∙ (let e : 0 + count_by (has_name name) roster.ready_queue.items ≡ count_by (has_name name) roster.ready_queue.items = omega arith in e)
           ∙ is.names name ∙ ap (waits_on chan) (sym (at_other change name off)));
-      counts = All-permutation HasIts (entry ∷ roster.ready_queue.items) next.ready_queue.items moved (All-cons HasIts entry roster.ready_queue.items front behind);
+      counts =
+          All-permutation HasIts (entry ∷ roster.ready_queue.items) next.ready_queue.items moved (All-cons HasIts entry roster.ready_queue.items front behind);
       idle = omega arith;
       room = room;
     }
@@ -133,7 +137,8 @@ pub ended_roster : (old new : Legs) (chan now : ℕ) (roster next : Roster) (leg
 ended_roster old new chan now roster next leg x is on queued change moved ordered idle same room =
     let entry = ready_at leg x roster.tick in
     let resting : Leg = record x { has_cells = false } in
-    let split : (name : LegName) → cond {A = ℕ} (has_name name entry) 1 0 + count_by (has_name name) next.ready_queue.items ≡ count_by (has_name name) roster.ready_queue.items
+    let split : (name : LegName)
+    → cond {A = ℕ} (has_name name entry) 1 0 + count_by (has_name name) next.ready_queue.items ≡ count_by (has_name name) roster.ready_queue.items
     = λ name.
     sym (count_cons (has_name name) entry next.ready_queue.items)
     ∙ count_moved (has_name name) roster.ready_queue.items (entry ∷ next.ready_queue.items) moved in

@@ -53,7 +53,8 @@ module _ (legs legs' : Legs) (chan tick : ℕ) (next last : Roster) (served : Re
   unfolding front
   there = ap (λ w. leg_in legs (w.circ, w.number)) one.serves.charged ∙ front.there
 
-  counted : Counted → Changes legs legs' (served.circ, served.number) (Some front.state) (Some (record front.state { count = record { value = served.count; tick = tick } }))
+  counted : Counted
+      → Changes legs legs' (served.circ, served.number) (Some front.state) (Some (record front.state { count = record { value = served.count; tick = tick } }))
   counted h =
       subst (λ o. MatchOption o (SameLegs legs legs') (λ x. Changes legs legs' (served.circ, served.number) (Some x) (Some (record x { count = record { value = served.count; tick = tick } })))) there h
 
@@ -64,7 +65,8 @@ module _ (legs legs' : Legs) (chan tick : ℕ) (next last : Roster) (served : Re
       = ap (λ w. w.count) one.serves.charged ∙ ap (λ w. charged w.count) front.is in
       record {
         state = x;
-        change = subst (λ v. Changes legs legs' (served.circ, served.number) (Some x) (Some (record x { count = record { value = v; tick = tick } }))) count (counted h);
+        change =
+            subst (λ v. Changes legs legs' (served.circ, served.number) (Some x) (Some (record x { count = record { value = v; tick = tick } }))) count (counted h);
       }
 
   pub served_table : (rosters rosters' : Rosters) (now : ℕ) → IsTable legs rosters now → now ≤ tick → Counted

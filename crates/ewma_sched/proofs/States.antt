@@ -8,7 +8,7 @@ use Rattle.hashed_maps.specs.Pairs.{pair_cmp, pair_eq}
 use Rattle.hashed_maps.proofs.Keys.{pair_keys, agrees_back}
 use Rattle.hashed_maps.proofs.Entries.{get-entries}
 use Rattle.ewma_sched.specs.declared.legs.Leg.{Leg}
-use Rattle.ewma_sched.specs.Legs.{LegName, LegState, SchedState, leg_at, with_leg, without_leg, halved_leg, at_tick}
+use Rattle.ewma_sched.specs.Legs.{LegName, ScheduledLeg, SchedState, leg_at, with_leg, without_leg, halved_leg, at_tick}
 use Rattle.ewma_sched.specs.Tables.{Becomes, Legs, leg_in, state_of, states}
 use Rattle.ewma_sched.proofs.Halving.{halved_from}
 
@@ -33,7 +33,7 @@ unfolding at_tick
 ticked_at s tick leg =
     let es = finite.entries s.legs in
     let halve = halved_leg (tick - s.tick) in
-    let halved_es = map (λ (e : LegName × LegState). (e.0, halve e.1)) es in
+    let halved_es = map (λ (e : LegName × ScheduledLeg). (e.0, halve e.1)) es in
     get-entries pair_keys halved_es leg
     ∙ lookup-map_values halve (pair_eq leg) es
     ∙ ap (option_map halve) (sym (found_by_name leg es) ∙ sym (finite.get-entries s.legs leg))
@@ -80,8 +80,8 @@ module _ (old new : Legs) (now : ℕ) where
       ∙ ap (option_map (state_of now)) (gone other)
       ∙ mapped_cond (state_of now) (pair_eq leg other) None (leg_in old other)
       ∙ sym (finite.get-remove pair_keys.total (states old now).legs leg other
-      ∙ ap (λ b. cond {A = Option LegState} b None (leg_at (states old now) other)) (sym (agrees_back pair_keys leg other))
-      ∙ ap (λ o. cond {A = Option LegState} (pair_eq leg other) None o) (states_at old now other)))
+      ∙ ap (λ b. cond {A = Option ScheduledLeg} b None (leg_at (states old now) other)) (sym (agrees_back pair_keys leg other))
+      ∙ ap (λ o. cond {A = Option ScheduledLeg} (pair_eq leg other) None o) (states_at old now other)))
 
   pub leg_changed : (leg : LegName) (x : Leg) → Becomes old new leg (Some x)
       → states new now ≡ with_leg (states old now) leg (state_of now x)
@@ -92,8 +92,8 @@ module _ (old new : Legs) (now : ℕ) where
       ∙ ap (option_map (state_of now)) (changed other)
       ∙ mapped_cond (state_of now) (pair_eq leg other) (Some x) (leg_in old other)
       ∙ sym (finite.get-insert pair_keys.total (states old now).legs leg (state_of now x) other
-      ∙ ap (λ b. cond {A = Option LegState} b (Some (state_of now x)) (leg_at (states old now) other)) (sym (agrees_back pair_keys leg other))
-      ∙ ap (λ o. cond {A = Option LegState} (pair_eq leg other) (Some (state_of now x)) o) (states_at old now other)))
+      ∙ ap (λ b. cond {A = Option ScheduledLeg} b (Some (state_of now x)) (leg_at (states old now) other)) (sym (agrees_back pair_keys leg other))
+      ∙ ap (λ o. cond {A = Option ScheduledLeg} (pair_eq leg other) (Some (state_of now x)) o) (states_at old now other)))
 
   module _ (tick : ℕ) (le : now ≤ tick)
       (ticks : (name : LegName) (x : Leg) → leg_in old name ≡ Some x → x.count.tick ≤ now) where
@@ -113,11 +113,11 @@ module _ (old new : Legs) (now : ℕ) where
         ∙ ap (option_map (state_of tick)) (changed other)
         ∙ mapped_cond (state_of tick) (pair_eq leg other) (Some x) (leg_in old other)
         ∙ sym (finite.get-insert pair_keys.total s.legs leg (state_of tick x) other
-        ∙ ap (λ b. cond {A = Option LegState} b (Some (state_of tick x)) (leg_at s other)) (sym (agrees_back pair_keys leg other))
-        ∙ ap (λ o. cond {A = Option LegState} (pair_eq leg other) (Some (state_of tick x)) o) (later_at old now tick other le ticks)))
+        ∙ ap (λ b. cond {A = Option ScheduledLeg} b (Some (state_of tick x)) (leg_at s other)) (sym (agrees_back pair_keys leg other))
+        ∙ ap (λ o. cond {A = Option ScheduledLeg} (pair_eq leg other) (Some (state_of tick x)) o) (later_at old now tick other le ticks)))
 
 -- a leg that has a state is kept
-pub kept_leg : (tick : ℕ) (o : Option Leg) (y : LegState) → option_map (state_of tick) o ≡ Some y
+pub kept_leg : (tick : ℕ) (o : Option Leg) (y : ScheduledLeg) → option_map (state_of tick) o ≡ Some y
     → (x : Leg) × (o ≡ Some x) × (state_of tick x ≡ y)
 kept_leg tick None y is = absurd (let never : ⊥ = cc in never)
 kept_leg tick (Some x) y is = (x, refl, cc)

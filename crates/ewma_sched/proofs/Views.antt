@@ -7,7 +7,7 @@ use Rattle.hashed_maps.specs.Pairs.{pair_eq}
 use Rattle.hashed_maps.proofs.Keys.{pair_keys, same_key, eq-itself}
 use Rattle.ewma_sched.specs.declared.legs.Leg.{Leg}
 use Rattle.ewma_sched.specs.Counts.{halved}
-use Rattle.ewma_sched.specs.Legs.{LegName, LegState, SchedState, leg_at, with_leg, without_leg, at_tick, new_leg, with_leg_by, with_leg_as, charged_leg, queued_leg, IsNext, NoneWaits, IsServedFirst}
+use Rattle.ewma_sched.specs.Legs.{LegName, ScheduledLeg, SchedState, leg_at, with_leg, without_leg, at_tick, new_leg, with_leg_by, with_leg_as, charged_leg, queued_leg, IsNext, NoneWaits, IsServedFirst}
 use Rattle.ewma_sched.specs.Tables.{Legs, leg_in, state_of, states, queued_as, charged_at, Becomes, Changes, SameLegs, Charges, IsFirst, NoneWaitsOn}
 use Rattle.ewma_sched.proofs.Halving.{halved_none}
 use Rattle.ewma_sched.proofs.States.{states_at, later_at, same_states, leg_gone, leg_changed, same_later, changed_later, kept_leg}
@@ -113,7 +113,7 @@ module _ (old : Legs) (now tick : ℕ) (le : now ≤ tick) (ticks : CountedBy ol
   pub count_view : (leg : LegName) (x : Leg) → leg_in old leg ≡ Some x
       → option_map (λ y. y.count) (leg_at (at_tick (states old now) tick) leg)
       ≡ Some (halved x.count.value (tick - x.count.tick))
-  count_view leg x there = ap (option_map (λ (y : LegState). y.count)) (there_later leg x there)
+  count_view leg x there = ap (option_map (λ (y : ScheduledLeg). y.count)) (there_later leg x there)
 
   pub same_view : (new : Legs) → SameLegs old new → states new tick ≡ at_tick (states old now) tick
   same_view new same = same_later old new now tick le ticks same.legs

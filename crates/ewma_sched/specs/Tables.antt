@@ -9,7 +9,7 @@ use Rattle.ewma_sched.specs.declared.roster.Roster.{Roster}
 use Rattle.ewma_sched.specs.declared.roster.ReadyLeg.{ReadyLeg}
 use Rattle.ewma_sched.specs.declared.legs.Leg.{Leg}
 use Rattle.ewma_sched.specs.Counts.{halved, charged}
-use Rattle.ewma_sched.specs.Legs.{LegName, LegState, SchedState, IsServedFirst}
+use Rattle.ewma_sched.specs.Legs.{LegName, ScheduledLeg, SchedState, IsServedFirst}
 use Rattle.ewma_sched.specs.Order.{IsInOrder}
 
 abbrev pub Legs : Type 0
@@ -25,7 +25,7 @@ abbrev pub roster_in : Rosters → ℕ → Option Roster
 roster_in rosters chan = lookup (λ n. chan == n) rosters
 
 -- A leg's count at a tick: each tick since that of its count halves it.
-abbrev pub state_of : ℕ → Leg → LegState
+abbrev pub state_of : ℕ → Leg → ScheduledLeg
 state_of tick x =
     record { chan = x.chan; count = halved x.count.value (tick - x.count.tick); has_cells = x.has_cells }
 

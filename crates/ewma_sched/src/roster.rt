@@ -166,8 +166,10 @@ impl Roster {
     fn place_of(&self, leg: &ReadyLeg) -> usize
         requires { IsInOrder self.now.ready_queue.items }
         ensures within { result ≤ deque_len self.now.ready_queue }
-        ensures behind { (k : ℕ) (d : ReadyLeg) → k < result → is_before leg.now (slice_index_or self.now.ready_queue.items k d) ≡ false }
-        ensures ahead { (k : ℕ) (d : ReadyLeg) → result ≤ k → k < length self.now.ready_queue.items → is_before (slice_index_or self.now.ready_queue.items k d) leg.now ≡ false }
+        ensures behind { (k : ℕ) (d : ReadyLeg) → k < result →
+            is_before leg.now (slice_index_or self.now.ready_queue.items k d) ≡ false }
+        ensures ahead { (k : ℕ) (d : ReadyLeg) → result ≤ k → k < length self.now.ready_queue.items →
+            is_before (slice_index_or self.now.ready_queue.items k d) leg.now ≡ false }
     {
         // A leg of many cells goes to the end, and one of few stays in front.
         if let Some(last) = self.ready_queue.back()

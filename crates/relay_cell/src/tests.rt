@@ -166,7 +166,11 @@ fn writes_bodies(rt: HostRuntime) -> Result<(), Fail> {
             None => assert!(rt; false, "no head"),
         }
     }
+    Ok(())
+}
 
+#[test]
+fn a_length_past_498_has_no_head(rt: HostRuntime) -> Result<(), Fail> {
     let mut long = data_body(7, &[1; 498]);
     let opened = Opened {
         body: long,

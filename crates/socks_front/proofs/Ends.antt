@@ -116,7 +116,8 @@ known_end : (known : Option SocksCommand) (number : ℕ) (bytes more : List ℕ)
 known_end None number bytes more e = refl
 known_end (Some command) number bytes more e = address_end command bytes more e
 
-command_end : (bytes more : List ℕ) → is_end (command_outcome bytes) ≡ true → command_outcome (bytes ++ more) ≡ command_outcome bytes
+command_end : (bytes more : List ℕ) → is_end (command_outcome bytes) ≡ true
+    → command_outcome (bytes ++ more) ≡ command_outcome bytes
 command_end [] more e = absurd cc
 command_end (number ∷ bytes) more e = known_end (command_of number) number bytes more e
 
@@ -127,7 +128,8 @@ versioned_end : (is_right : Bool) (version : ℕ) (o after : Outcome)
 versioned_end true version o after same e = same e
 versioned_end false version o after same e = refl
 
-request_end : (bytes more : List ℕ) → is_end (request_outcome bytes) ≡ true → request_outcome (bytes ++ more) ≡ request_outcome bytes
+request_end : (bytes more : List ℕ) → is_end (request_outcome bytes) ≡ true
+    → request_outcome (bytes ++ more) ≡ request_outcome bytes
 request_end [] more e = absurd cc
 request_end (version ∷ bytes) more e =
     versioned_end (nat_eq version 5) version (command_outcome bytes) (command_outcome (bytes ++ more)) (command_end bytes more) e
@@ -142,7 +144,8 @@ methods_end : (count : ℕ) (bytes more : List ℕ) → is_end (methods_outcome 
 unfolding methods_outcome
 methods_end count bytes more e =
     let offers : List ℕ → Bool = λ l. list_any is_no_authentication l in
-    let parts = whole_end (leb count (length bytes)) (cond (offers (take count bytes)) (request_outcome (drop count bytes)) (Refuses NoMethod)) e in
+    let parts =
+    whole_end (leb count (length bytes)) (cond (offers (take count bytes)) (request_outcome (drop count bytes)) (Refuses NoMethod)) e in
     let same = same_front count bytes more parts.0 in
     ap (λ b. cond b (cond (offers (take count (bytes ++ more))) (request_outcome (drop count (bytes ++ more))) (Refuses NoMethod)) Unfinished) same.still
     ∙ ap (λ l. cond (offers l) (request_outcome (drop count (bytes ++ more))) (Refuses NoMethod)) same.front

@@ -8,10 +8,12 @@ pub asks_whole : (b : Bool) (o : Outcome) (wish : Wish) → cond b o Unfinished 
 asks_whole true o wish e = (refl, e)
 asks_whole false o wish e = absurd cc
 
-pub asks_right : (b : Bool) (o : Outcome) (fault : SocksFault) (wish : Wish) → cond b o (Refuses fault) ≡ Asks wish → (b ≡ true) × (o ≡ Asks wish)
+pub asks_right : (b : Bool) (o : Outcome) (fault : SocksFault) (wish : Wish) → cond b o (Refuses fault) ≡ Asks wish
+    → (b ≡ true) × (o ≡ Asks wish)
 asks_right true o fault wish e = (refl, e)
 asks_right false o fault wish e = absurd cc
 
-pub asks_unless : (b : Bool) (o : Outcome) (fault : SocksFault) (wish : Wish) → cond b (Refuses fault) o ≡ Asks wish → (b ≡ false) × (o ≡ Asks wish)
+pub asks_unless : (b : Bool) (o : Outcome) (fault : SocksFault) (wish : Wish) → cond b (Refuses fault) o ≡ Asks wish
+    → (b ≡ false) × (o ≡ Asks wish)
 asks_unless true o fault wish e = absurd cc
 asks_unless false o fault wish e = (refl, e)

@@ -50,7 +50,7 @@ wish_outcome Resolve host port = Asks (Resolves host)
 abbrev pub port_outcome : SocksCommand → List ℕ → List ℕ → Outcome
 port_outcome command host [] = Unfinished
 port_outcome command host (high ∷ []) = Unfinished
-port_outcome command host (high ∷ low ∷ behind) = wish_outcome command host (from_be_bytes w16 (high ∷ low ∷ []))
+port_outcome command host (high ∷ low ∷ rest) = wish_outcome command host (from_be_bytes w16 (high ∷ low ∷ []))
 
 -- DST.ADDR of ATYP X'01', 4 bytes.
 unfoldable pub ipv4_outcome : SocksCommand → List ℕ → Outcome

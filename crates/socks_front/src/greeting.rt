@@ -30,7 +30,7 @@ fn read_offer(bytes: &[u8]) -> Progress<'_>
 {
     match bytes {
         [] => Progress::Nothing,
-        [count, behind @ ..] => read_methods(*count, behind),
+        [count, rest @ ..] => read_methods(*count, rest),
     }
 }
 

@@ -19,7 +19,7 @@ pub fn read_request(bytes: &[u8]) -> Progress<'_>
 {
     match bytes {
         [] => Progress::Greeting,
-        [VERSION, behind @ ..] => read_command(behind),
+        [VERSION, rest @ ..] => read_command(rest),
         [version, ..] => Progress::Fault(SocksFault::Version(*version)),
     }
 }
@@ -31,8 +31,8 @@ fn read_command(bytes: &[u8]) -> Progress<'_>
 {
     match bytes {
         [] => Progress::Nothing,
-        [number, behind @ ..] => match SocksCommand::of(*number) {
-            Some(command) => read_address(command, behind),
+        [number, rest @ ..] => match SocksCommand::of(*number) {
+            Some(command) => read_address(command, rest),
             None => Progress::Fault(SocksFault::Command(*number)),
         },
     }
@@ -45,8 +45,8 @@ fn read_address(command: SocksCommand, bytes: &[u8]) -> Progress<'_>
 {
     match bytes {
         [] | [_] => Progress::Nothing,
-        [_, IPV4, behind @ ..] => read_ip(command, behind),
-        [_, NAME, behind @ ..] => read_name(command, behind),
+        [_, IPV4, rest @ ..] => read_ip(command, rest),
+        [_, NAME, rest @ ..] => read_name(command, rest),
         [_, kind, ..] => Progress::Fault(SocksFault::Kind(*kind)),
     }
 }
@@ -70,7 +70,7 @@ fn read_name(command: SocksCommand, bytes: &[u8]) -> Progress<'_>
 {
     match bytes {
         [] => Progress::Nothing,
-        [size, behind @ ..] => read_name_bytes(command, *size, behind),
+        [size, rest @ ..] => read_name_bytes(command, *size, rest),
     }
 }
 

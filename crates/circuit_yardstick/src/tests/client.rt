@@ -19,7 +19,7 @@ pub struct Client {
     data: u64,
     /// The proofs that it owes the relay: the backward running digest after each 100th DATA that isn't
     /// acknowledged, oldest first.
-    owed: VecDeque<[u8; 20]>,
+    owed_proofs: VecDeque<[u8; 20]>,
 }
 
 impl Client {
@@ -29,7 +29,7 @@ impl Client {
             forth: Running::seeded(&keys.df),
             back: Running::seeded(&keys.db),
             data: 0,
-            owed: VecDeque::new(alloc),
+            owed_proofs: VecDeque::new(alloc),
         }
     }
 
@@ -63,18 +63,18 @@ impl Client {
         }
         self.data = self.data.saturating_add(1);
         if self.data % 100 == 0 {
-            self.owed.push_back(self.back.digest())?;
+            self.owed_proofs.push_back(self.back.digest())?;
         }
         Ok(())
     }
 
     /// The next proof that is owed.
     pub fn next_proof(&self) -> Option<[u8; 20]> {
-        self.owed.front().copied()
+        self.owed_proofs.front().copied()
     }
 
     /// The next proof was sent.
     pub fn proof_sent(&mut self) {
-        let _sent = self.owed.pop_front();
+        let _sent = self.owed_proofs.pop_front();
     }
 }

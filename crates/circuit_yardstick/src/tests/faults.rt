@@ -125,26 +125,26 @@ impl History {
     }
 
     fn wrong_sendme(&mut self, fault: Fault) -> Option<[u8; 509]> {
-        let owed = self.client.next_proof();
+        let next_proof = self.client.next_proof();
         match fault {
             Fault::WrongProof => {
-                let mut proof = owed?;
+                let mut proof = next_proof?;
                 let byte = self.random.below(20) as usize;
                 proof[byte] ^= 1;
                 Some(circuit_sendme_body(&proof))
             }
-            Fault::ProofNotOwed => match owed {
+            Fault::ProofNotOwed => match next_proof {
                 Some(_) => None,
                 None => Some(circuit_sendme_body(&self.random.digest())),
             },
             Fault::NoProof => {
-                if self.settings.least == 0 && owed.is_some() {
+                if self.settings.least == 0 && next_proof.is_some() {
                     return None;
                 }
                 Some(write_body(command::SENDME, 0, &[]))
             }
             _ => {
-                let mut body = circuit_sendme_body(&owed?);
+                let mut body = circuit_sendme_body(&next_proof?);
                 body[11] = if self.settings.least == 0 {
                     self.random.one_of(&[2, 255])
                 } else {

@@ -10,6 +10,7 @@ mod history;
 mod kinds;
 mod making;
 mod outcomes;
+mod path;
 mod random;
 mod rules;
 mod running;

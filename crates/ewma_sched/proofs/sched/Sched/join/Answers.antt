@@ -36,7 +36,8 @@ returns-in-Some-clause-ok c =
     let leg : LegName = (c.args.circ.0, c.args.leg) in
     let last = c.put_in.new.self in
     let le : t.tick ≤ c.args.tick = omega (arith, c.requires, tick_of t.legs.entries t.tick _ c.self.view_is) in
-    let joins = joined_view t.legs.entries c.reserve.new.self.legs.entries c.take_out-before.new.self.legs.entries last.legs.entries
+    let joins =
+    joined_view t.legs.entries c.reserve.new.self.legs.entries c.take_out-before.new.self.legs.entries last.legs.entries
     t.tick c.args.tick c.args.chan.0 leg le c.self.invariant.ticks c.in_ok-reserve.ensures.legs c.take_out-before.ensures.leg
     c.put_in.ensures.leg in
     states_same last.legs.entries c.drop_if_empty.new.self.legs.entries c.args.tick c.drop_if_empty.new.self.tick
@@ -49,7 +50,8 @@ returns-in_default-clause-ok c =
     let leg : LegName = (c.args.circ.0, c.args.leg) in
     let last = c.put_in.new.self in
     let le : t.tick ≤ c.args.tick = omega (arith, c.requires, tick_of t.legs.entries t.tick _ c.self.view_is) in
-    let joins = joined_view t.legs.entries c.reserve.new.self.legs.entries c.take_out-before.new.self.legs.entries last.legs.entries
+    let joins =
+    joined_view t.legs.entries c.reserve.new.self.legs.entries c.take_out-before.new.self.legs.entries last.legs.entries
     t.tick c.args.tick c.args.chan.0 leg le c.self.invariant.ticks c.in_ok-reserve.ensures.legs c.take_out-before.ensures.leg
     c.put_in.ensures.leg in
     ap (states last.legs.entries) c.put_in.ensures.tick

@@ -29,10 +29,12 @@ returns-in_err-next c =
     let last = c.serve.new.self in
     let there = sym c.in_ok-roster.ensures.value in
     let e = c.go_on.ensures in
-    let went : WentOn roster next c.args.tick = record { legs = e.legs; order = e.order; idle = e.idle; ticked = e.tick; len = e.len; capacity = e.capacity } in
+    let went : WentOn roster next c.args.tick =
+    record { legs = e.legs; order = e.order; idle = e.idle; ticked = e.tick; len = e.len; capacity = e.capacity } in
     let is = gone_on (roster_table c.args.chan roster c.requires.table there) c.requires.tick went in
     let f = c.in_err-next.ensures in
-    let room : deque_len last.ready_queue + last.idle ≤ deque_capacity last.ready_queue = omega (arith, is.room, f.idle, f.len, f.capacity) in
+    let room : deque_len last.ready_queue + last.idle ≤ deque_capacity last.ready_queue =
+    omega (arith, is.room, f.idle, f.len, f.capacity) in
     record {
       table =
           table_roster s.legs.entries s.legs.entries s.rosters.entries _ c.args.chan s.tick c.args.tick _ c.requires.table
@@ -54,7 +56,8 @@ returns c =
     let last = c.serve.new.self in
     let there = sym c.in_ok-roster.ensures.value in
     let e = c.go_on.ensures in
-    let went : WentOn roster next c.args.tick = record { legs = e.legs; order = e.order; idle = e.idle; ticked = e.tick; len = e.len; capacity = e.capacity } in
+    let went : WentOn roster next c.args.tick =
+    record { legs = e.legs; order = e.order; idle = e.idle; ticked = e.tick; len = e.len; capacity = e.capacity } in
     let is = gone_on (roster_table c.args.chan roster c.requires.table there) c.requires.tick went in
     let f = c.in_ok-next.ensures in
     let one : ServedOne next last c.in_ok-next.next
@@ -65,7 +68,8 @@ returns c =
           e.tick one s.rosters.entries _ s.tick c.requires.table c.requires.tick c.set_count.ensures
           (roster_written s.rosters.entries _ c.args.chan roster last there (c.get_mut.follows.holds last).0);
       tick = search rules;
-      first = served_first s.legs.entries c.set_count.new.legs.entries c.args.chan c.args.tick next last c.in_ok-next.next is e.tick one;
+      first =
+          served_first s.legs.entries c.set_count.new.legs.entries c.args.chan c.args.tick next last c.in_ok-next.next is e.tick one;
       charged =
           served_charges s.legs.entries c.set_count.new.legs.entries c.args.chan c.args.tick next last c.in_ok-next.next is e.tick one
           c.set_count.ensures;

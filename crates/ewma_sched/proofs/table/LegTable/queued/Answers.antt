@@ -61,7 +61,8 @@ end-requires-clause-waits c =
     let is = roster_table x.chan roster c.requires (sym c.in-Some-get_mut.ensures.value) in
     let waited : x.has_cells ≡ true = c.in-Some.ensures.news ∙ ap not c.if-some.false in
     let entry : c.ready_leg-else-some.result ≡ ready_at c.args.name x roster.tick
-    = c.ready_leg-else-some.ensures ∙ ap (λ n. record { count = n; circ = c.args.name.0; number = c.args.name.1 }) c.at-else-some.ensures in
+    = c.ready_leg-else-some.ensures
+    ∙ ap (λ n. record { count = n; circ = c.args.name.0; number = c.args.name.1 }) c.at-else-some.ensures in
     subst (Contains roster.ready_queue.items) (sym entry)
     (stands_in roster c.args.name x (stands s.legs.entries x.chan s.tick roster c.args.name x is c.in-Some.ensures.some.before refl waited))
 
@@ -84,7 +85,8 @@ returns-then-some-clause-table c =
     let there = sym c.in-Some-get_mut.ensures.value in
     let e = c.go_on.ensures in
     let f = c.begin.ensures in
-    let went : WentOn roster next s.tick = record { legs = e.legs; order = e.order; idle = e.idle; ticked = e.tick; len = e.len; capacity = e.capacity } in
+    let went : WentOn roster next s.tick =
+    record { legs = e.legs; order = e.order; idle = e.idle; ticked = e.tick; len = e.len; capacity = e.capacity } in
     let rested : x.has_cells ≡ false = c.in-Some.ensures.news ∙ ap not c.if-some.true in
     let entry : c.ready_leg.result ≡ ready_at c.args.name x s.tick
     = c.ready_leg.ensures ∙ ap (λ n. record { count = n; circ = c.args.name.0; number = c.args.name.1 }) c.at.ensures in
@@ -120,7 +122,8 @@ returns-else-some-clause-table c =
     let f = c.end.ensures in
     let waited : x.has_cells ≡ true = c.in-Some.ensures.news ∙ ap not c.if-some.false in
     let entry : c.ready_leg-else-some.result ≡ ready_at c.args.name x roster.tick
-    = c.ready_leg-else-some.ensures ∙ ap (λ n. record { count = n; circ = c.args.name.0; number = c.args.name.1 }) c.at-else-some.ensures in
+    = c.ready_leg-else-some.ensures
+    ∙ ap (λ n. record { count = n; circ = c.args.name.0; number = c.args.name.1 }) c.at-else-some.ensures in
     ended_table s.legs.entries c.set_queued.new.legs.entries s.rosters.entries _ s.tick c.args.name x roster last c.requires there
     (roster_written s.rosters.entries _ x.chan roster last there (c.get_mut.follows.holds last).0) waited
     (subst (λ b. Changes s.legs.entries c.set_queued.new.legs.entries c.args.name (Some x) (Some (record x { has_cells = b })))

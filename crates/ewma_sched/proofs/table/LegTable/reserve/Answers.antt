@@ -16,7 +16,8 @@ returns-in-Some-clause-table c =
     let there = sym c.in-Some.ensures.value in
     let e = c.reserve-in-Some.ensures in
     let is = roster_table c.args.chan roster c.requires there in
-    let room : deque_len next.ready_queue + next.idle ≤ deque_capacity next.ready_queue = omega (arith, is.room, e.idle, e.len, e.capacity) in
+    let room : deque_len next.ready_queue + next.idle ≤ deque_capacity next.ready_queue =
+    omega (arith, is.room, e.idle, e.len, e.capacity) in
     table_roster s.legs.entries legs s.rosters.entries _ c.args.chan s.tick s.tick (Some next) c.requires same (omega arith)
     (roster_written s.rosters.entries _ c.args.chan roster next there (c.get_mut.follows.holds next).0)
     (roster_same same c.args.chan s.tick s.tick (omega arith) (Some next)
@@ -55,7 +56,8 @@ returns-clause-table c =
     let e = c.reserve-2.ensures in
     let none = c.in_default.ensures.value in
     let without = roster_missing c.args.chan c.requires (sym none) in
-    let room : deque_len next.ready_queue + next.idle ≤ deque_capacity next.ready_queue = omega (arith, e.idle, n.idle, next.ready_queue.small.1) in
+    let room : deque_len next.ready_queue + next.idle ≤ deque_capacity next.ready_queue =
+    omega (arith, e.idle, n.idle, next.ready_queue.small.1) in
     table_roster s.legs.entries legs s.rosters.entries _ c.args.chan s.tick s.tick (Some next) c.requires same (omega arith)
     (subst (λ m. RosterChanges m.entries c.insert.new.self.entries c.args.chan (Some next)) c.get_mut.follows.holds-at-none
     c.in_ok-insert.ensures.updates.0)
