@@ -17,13 +17,16 @@ pub record Running (worker : ℕ) (before now : List Step) : Type 0 where
   pub made : now ≡ before ++ flat_map (round_steps worker) rounds
 
 -- a job was claimed, and given back or not
-pub claimed : (worker : ℕ) (note : ClaimNote) (before steps middle after : List Step) (result : Option LoopEnd) → steps ≡ Claim worker (Some note) ∷ [] → Adds before steps middle
+pub claimed : (worker : ℕ) (note : ClaimNote) (before steps middle after : List Step) (result : Option LoopEnd)
+    → steps ≡ Claim worker (Some note) ∷ [] → Adds before steps middle
     → MatchOption result ((a : BackAnswer) × Adds middle (GiveBack note None a ∷ []) after) (λ end. (end ≡ LoopEnd.Spent) × (after ≡ middle))
     → MatchOption result ((r : Round) × Adds before (claim_steps worker r) after) (λ end. (steps : List Step) × (after ≡ before ++ steps) × IsLastClaim worker end steps)
 claimed worker note before steps middle after None is claim (a, back) = (
   Worked note a,
   record {
-    behind = back.behind ∙ ap (λ xs. xs ++ GiveBack note None a ∷ []) (claim.behind ∙ ap (λ xs. before ++ xs) is) ∙ append_assoc before (Claim worker (Some note) ∷ []) (GiveBack note None a ∷ []);
+    behind =
+        back.behind ∙ ap (λ xs. xs ++ GiveBack note None a ∷ []) (claim.behind ∙ ap (λ xs. before ++ xs) is)
+        ∙ append_assoc before (Claim worker (Some note) ∷ []) (GiveBack note None a ∷ []);
     few = back.few;
   },
 )
@@ -33,7 +36,8 @@ claimed worker note before steps middle after (Some end) is claim (spent, same) 
   subst (λ e. IsLastClaim worker e (Claim worker (Some note) ∷ [])) (sym spent) (inr (note, refl)),
 )
 
-pub goes_on : (worker : ℕ) (before now after : List Step) → Running worker before now → (r : Round) × Adds now (round_steps worker r) after → Running worker before after
+pub goes_on : (worker : ℕ) (before now after : List Step) → Running worker before now
+    → (r : Round) × Adds now (round_steps worker r) after → Running worker before after
 goes_on worker before now after was (r, adds) = record {
   rounds = was.rounds ++ r ∷ [];
   made = adds.behind ∙ ap (λ xs. xs ++ round_steps worker r) was.made ∙ flat_map_more (round_steps worker) before was.rounds r;

@@ -57,7 +57,8 @@ ends_by version c cells end false is later e = later e
 found_ends : (version : ℕ) (cells : List WireCell) (end : WireCell) → last_cell version cells ≡ Some end
     → ends_negotiation version end ≡ true
 found_ends version [] end e = absurd (none-some end e)
-found_ends version (c ∷ cells) end e = ends_by version c cells end (ends_negotiation version c) refl (found_ends version cells end) e
+found_ends version (c ∷ cells) end e =
+    ends_by version c cells end (ends_negotiation version c) refl (found_ends version cells end) e
 
 answered_awaiting : (opener : Bool) (version : ℕ) (end : Option WireCell) (c : WireCell)
     → ((d : WireCell) → end ≡ Some d → ends_negotiation version d ≡ true)

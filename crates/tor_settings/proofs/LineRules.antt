@@ -18,12 +18,14 @@ named host port = option_and_then (λ h. option_map (λ p. record { host = h; po
 abbrev allowed : Option Target → Option Address → Option Allow
 allowed name to = option_and_then (λ n. option_map (λ a. record { host = n.host; port = n.port; to = a }) to) name
 
-with_port : (host : List ℕ) (port : Option ℕ) (to : Option Address) → is_some port ≡ true → is_some (allowed (named (Some host) port) to) ≡ is_some to
+with_port : (host : List ℕ) (port : Option ℕ) (to : Option Address) → is_some port ≡ true
+    → is_some (allowed (named (Some host) port) to) ≡ is_some to
 with_port host (Some p) (Some a) there = refl
 with_port host (Some p) None there = refl
 with_port host None to there = cc
 
-with_name : (host : Option (List ℕ)) (port : Option Data) (rest : Bool) (to : Option Address) → port_is_in_range port ≡ true → is_name host && is_some port && rest ≡ true → is_some (allowed (named host (port_within port)) to) ≡ is_some to
+with_name : (host : Option (List ℕ)) (port : Option Data) (rest : Bool) (to : Option Address) → port_is_in_range port ≡ true
+    → is_name host && is_some port && rest ≡ true → is_some (allowed (named host (port_within port)) to) ≡ is_some to
 with_name (Some host) (Some d) rest to within whole = with_port host (number_within 1 65535 d) to within
 with_name (Some host) None rest to within whole =
     let parts = and_true (is_name (Some host) && false) rest whole in
@@ -32,7 +34,8 @@ with_name None port rest to within whole =
     let parts = and_true (false && is_some port) rest whole in
     let none : false ≡ true = (and_true false (is_some port) parts.0).0 in cc
 
-line_agrees : (line : Data) → has_port_in_range line ≡ true → is_whole_line line ≡ true → is_some (allow_of_line line) ≡ is_some (address_to line)
+line_agrees : (line : Data) → has_port_in_range line ≡ true → is_whole_line line ≡ true
+    → is_some (allow_of_line line) ≡ is_some (address_to line)
 unfolding has_port_in_range is_whole_line allow_of_line name_of port_of
 line_agrees line within whole =
     with_name (text_at (codes "host") line) (get (codes "port") line) (is_some (get (codes "to") line)) (address_to line) within whole
@@ -46,7 +49,8 @@ lines_agree (d ∷ ds) within whole =
     ap (λ b. b && list_all (λ e. is_some (allow_of_line e)) ds) (line_agrees d ports.0 names.0)
     ∙ ap (λ b. is_some (address_to d) && b) (lines_agree ds ports.1 names.1)
 
-pub all_allowed : (ds : List Data) (allow : List Allow) → map allow_of_line ds ≡ map Some allow → list_all (λ d. is_some (allow_of_line d)) ds ≡ true
+pub all_allowed : (ds : List Data) (allow : List Allow) → map allow_of_line ds ≡ map Some allow
+    → list_all (λ d. is_some (allow_of_line d)) ds ≡ true
 all_allowed [] allow same = refl
 all_allowed (d ∷ ds) [] same = cc
 all_allowed (d ∷ ds) (a ∷ allow) same =

@@ -15,7 +15,8 @@ use Rattle.tor_settings.specs.Rules.{first_broken, later_rules}
 use Rattle.tor_settings.specs.declared.number_values.Numbers.{Numbers}
 use Rattle.tor_settings.proofs.LineRules.{lines_agree}
 
-pub numbers_in_range : (ms : Members) (n : Numbers) → AreNumbers ms n → list_all has_port_in_range (lines ms) ≡ true → has_numbers_in_range ms ≡ true
+pub numbers_in_range : (ms : Members) (n : Numbers) → AreNumbers ms n → list_all has_port_in_range (lines ms) ≡ true
+    → has_numbers_in_range ms ≡ true
 unfolding has_numbers_in_range settings_are_in_range
 numbers_in_range ms n are ports =
     rw (are.accept_slots, are.dial_slots, are.edge_slots, are.workers, are.accepts, are.window, are.least, ports)
@@ -30,11 +31,13 @@ few_lines ms vs are few =
     let same : length (lines ms) ≡ length vs = ap length (sym are) ∙ length-map vs view in
     le-leb (length (lines ms)) 1000 (omega arith)
 
-whole_lines : (ms : Members) (vs : List Value) → map view vs ≡ lines ms → list_all is_whole_line (map view vs) ≡ true → has_whole_lines ms ≡ true
+whole_lines : (ms : Members) (vs : List Value) → map view vs ≡ lines ms → list_all is_whole_line (map view vs) ≡ true
+    → has_whole_lines ms ≡ true
 unfolding has_whole_lines
 whole_lines ms vs are whole = ap (list_all is_whole_line) (sym are) ∙ whole
 
-distinct_names : (ms : Members) (vs : List Value) → map view vs ≡ lines ms → have_distinct_names (map view vs) ≡ true → has_distinct_names ms ≡ true
+distinct_names : (ms : Members) (vs : List Value) → map view vs ≡ lines ms → have_distinct_names (map view vs) ≡ true
+    → has_distinct_names ms ≡ true
 unfolding has_distinct_names
 distinct_names ms vs are distinct = ap have_distinct_names (sym are) ∙ distinct
 

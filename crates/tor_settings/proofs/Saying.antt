@@ -9,7 +9,8 @@ use Rattle.tor_settings.specs.declared.settings.Settings.{Settings}
 use Rattle.tor_settings.specs.declared.fault.SettingsFault.{SettingsFault}
 use Rattle.tor_settings.specs.declared.fault.SettingsFault.TheVariants.{Rule, Memory}
 
-pub tells_of_document : (r : Result Settings SettingsFault) (text : List ℕ) (ms : Members) → length text ≤ most_bytes → IsDocument text ms
+pub tells_of_document : (r : Result Settings SettingsFault) (text : List ℕ) (ms : Members) → length text ≤ most_bytes
+    → IsDocument text ms
     → IfErr r (TellsRule (broken_rule ms)) → IfErr r (TellsFault text)
 tells_of_document (Ok s) text ms short reads is = tt
 tells_of_document (Err (Rule n)) text ms short reads is = in_document ms n short reads is

@@ -11,7 +11,8 @@ abbrev pub all_known : (List ℕ → Bool) → List (String Global) → Bool
 all_known known [] = true
 all_known known (key ∷ keys) = known (string_bytes key) && all_known known keys
 
-pub list_all-keys_of : (known : List ℕ → Bool) (es : List (String Global × Value)) → list_all known (keys_of (members_view es)) ≡ all_known known (map (λ e. e.0) es)
+pub list_all-keys_of : (known : List ℕ → Bool) (es : List (String Global × Value))
+    → list_all known (keys_of (members_view es)) ≡ all_known known (map (λ e. e.0) es)
 list_all-keys_of known [] = refl
 list_all-keys_of known (e ∷ es) = ap (λ b. known (string_bytes e.0) && b) (list_all-keys_of known es)
 
@@ -24,7 +25,8 @@ all_viewed p [] = refl
 all_viewed p (v ∷ vs) = ap (λ b. p (view v) && b) (all_viewed p vs)
 
 -- a value that fails, and values that pass so far
-pub all_fails : (p : Data → Bool) (vs : List Value) (i : ℕ) (v : Value) → i < length vs → v ≡ get_or vs i v → p (view v) ≡ false → list_all p (map view vs) ≡ false
+pub all_fails : (p : Data → Bool) (vs : List Value) (i : ℕ) (v : Value) → i < length vs → v ≡ get_or vs i v → p (view v) ≡ false
+    → list_all p (map view vs) ≡ false
 all_fails p vs i v within is fails =
     all_viewed p vs ∙ list_all_at (λ x. p (view x)) vs i v within (ap (λ x. p (view x)) (sym is) ∙ fails)
 

@@ -35,4 +35,5 @@ module _ {E : Type 0} where
   -- zs has the elements of xs and those of ys, each once, and both in their order
   abbrev pub Interleaves : List E → List E → List E → Type 0
   Interleaves xs ys [] = (xs ≡ []) × (ys ≡ [])
-  Interleaves xs ys (z ∷ zs) = ((rest : List E) × (xs ≡ z ∷ rest) × Interleaves rest ys zs) ⊎ ((rest : List E) × (ys ≡ z ∷ rest) × Interleaves xs rest zs)
+  Interleaves xs ys (z ∷ zs) =
+      ((rest : List E) × (xs ≡ z ∷ rest) × Interleaves rest ys zs) ⊎ ((rest : List E) × (ys ≡ z ∷ rest) × Interleaves xs rest zs)

@@ -49,7 +49,8 @@ module _ {T E : Type 0} where
 
   -- the first pass of a lock
   abbrev pub opening_view : T → ℕ → View T E
-  opening_view t seats = record { opening = Some t; seats = seats; seen = []; shorter = []; shares = [] ∷ []; parts = seats; has_turn = false; is_closed = false }
+  opening_view t seats =
+      record { opening = Some t; seats = seats; seen = []; shorter = []; shares = [] ∷ []; parts = seats; has_turn = false; is_closed = false }
 
   -- the history so far is seen
   abbrev pub caught_up : View T E → List E → View T E
@@ -69,25 +70,29 @@ module _ {T E : Type 0} where
   one_part_less v = record v { parts = v.parts - 1 }
 
   abbrev pub new_part : View T E → View T E
-  new_part v = record { opening = v.opening; seats = v.seats; seen = v.seen; shorter = []; shares = [] ∷ []; parts = 1; has_turn = false; is_closed = false }
+  new_part v =
+      record { opening = v.opening; seats = v.seats; seen = v.seen; shorter = []; shares = [] ∷ []; parts = 1; has_turn = false; is_closed = false }
 
   -- two passes become one
   abbrev pub joined : View T E → View T E → View T E
-  joined v w = record v { seen = longer v.seen w.seen; shorter = shorter v.seen w.seen; shares = v.shares ++ w.shares; parts = v.parts + w.parts }
+  joined v w =
+      record v { seen = longer v.seen w.seen; shorter = shorter v.seen w.seen; shares = v.shares ++ w.shares; parts = v.parts + w.parts }
 
   abbrev pub settled : View T E → View T E
   settled v = record v { shorter = [] }
 
   -- what is left of a pass that was joined to another
   abbrev pub spent_view : View T E
-  spent_view = record { opening = None; seats = 0; seen = []; shorter = []; shares = []; parts = 0; has_turn = false; is_closed = false }
+  spent_view =
+      record { opening = None; seats = 0; seen = []; shorter = []; shares = []; parts = 0; has_turn = false; is_closed = false }
 
   -- the lock is closed
   abbrev pub closed : View T E → View T E
   closed v = record v { is_closed = true }
 
   abbrev pub witness : View T E → View T E
-  witness v = record { opening = v.opening; seats = v.seats; seen = v.seen; shorter = []; shares = []; parts = 0; has_turn = false; is_closed = v.is_closed }
+  witness v =
+      record { opening = v.opening; seats = v.seats; seen = v.seen; shorter = []; shares = []; parts = 0; has_turn = false; is_closed = v.is_closed }
 
 module _ {T E B : Type 0} (stands : T → B → List E → Type 0) (legal : B → List E → Type 0) where
   -- the state that the lock began with stood for no step from the start b

@@ -5,4 +5,5 @@ use Rattle.counter_lock.specs.Counting.{answer_of}
 use Rattle.counter_lock.proofs.threads.count.Given as goal
 
 abbrev pub invariant-loop-made : goal.invariant-loop-made
-invariant-loop-made g l = IsSamePass l.initial.pass l.pass × (map answer_of (own_steps (known l.pass)) ≡ l.answers.items) × (length l.answers.items ≡ l._made)
+invariant-loop-made g l =
+    IsSamePass l.initial.pass l.pass × (map answer_of (own_steps (known l.pass)) ≡ l.answers.items) × (length l.answers.items ≡ l._made)

@@ -17,18 +17,25 @@ load-pass-requires g c = let v = c.args.pass.now in (
 )
 
 pub invariant_of-pass : goal.invariant_of-pass
-invariant_of-pass g c = let v = c.args.pass.now in let w = c.args.other in let x = c.load-pass.new.seat.me in let s = c.load-pass.ensures.2.after in
-    let is : x.0 ≡ settled (joined v.seat.me.0 w.seat.me.0) = ap (λ y. y.0) s ∙ ap (λ y. settled y.0) c.join_seat.ensures.2 in let n = length-longer v.seat.me.0.seen w.seat.me.0.seen in record {
-      rests = (ap (λ y. y.1) s ∙ (ap (λ y. y.1) c.join_seat.ensures.2 ∙ v.rests.0), ap (λ y. y.has_turn) is ∙ v.rests.1, let e : x.0.parts ≡ v.seat.me.0.parts + w.seat.me.0.parts = ap (λ y. y.parts) is in let p = v.rests.2 in omega arith);
-      counted = let a = v.counted in let b = w.counted in let r = c.max-pass.ensures in let e : length x.0.seen ≡ length (longer v.seat.me.0.seen w.seat.me.0.seen) = ap (λ y. length y.seen) is in let m = n.2 in omega arith;
+invariant_of-pass g c =
+    let v = c.args.pass.now in let w = c.args.other in let x = c.load-pass.new.seat.me in let s = c.load-pass.ensures.2.after in
+    let is : x.0 ≡ settled (joined v.seat.me.0 w.seat.me.0) =
+    ap (λ y. y.0) s
+    ∙ ap (λ y. settled y.0) c.join_seat.ensures.2 in let n = length-longer v.seat.me.0.seen w.seat.me.0.seen in record {
+      rests =
+          (ap (λ y. y.1) s ∙ (ap (λ y. y.1) c.join_seat.ensures.2 ∙ v.rests.0), ap (λ y. y.has_turn) is ∙ v.rests.1, let e : x.0.parts ≡ v.seat.me.0.parts + w.seat.me.0.parts = ap (λ y. y.parts) is in let p = v.rests.2 in omega arith);
+      counted =
+          let a = v.counted in let b = w.counted in let r = c.max-pass.ensures in let e : length x.0.seen ≡ length (longer v.seat.me.0.seen w.seat.me.0.seen) = ap (λ y. length y.seen) is in let m = n.2 in omega arith;
       low = let a = v.low in let b = w.low in let r = c.max-pass.ensures in omega arith;
       placed = subst IsPlaced (sym is) (joined_placed v.seat.me.0 w.seat.me.0 v.placed w.placed);
       rising = subst IsRising (sym is) (joined_rising v.seat.me.0 w.seat.me.0 v.rising w.rising);
     }
 
 pub returns : goal.returns
-returns g c = let v = c.args.pass.now in let w = c.args.other in let m = c.join_seat.new.seat.me in let s = c.load-pass.ensures.2 in
-    let j = joins_on v.seat.me.0 w.seat.me.0 m c.load-pass.new.seat.me v.placed w.placed (ap (λ y. y.0) c.join_seat.ensures.2) s in record {
+returns g c =
+    let v = c.args.pass.now in let w = c.args.other in let m = c.join_seat.new.seat.me in let s = c.load-pass.ensures.2 in
+    let j =
+    joins_on v.seat.me.0 w.seat.me.0 m c.load-pass.new.seat.me v.placed w.placed (ap (λ y. y.0) c.join_seat.ensures.2) s in record {
       own = search rules;
       joined = ap (λ y. y.0) s.after ∙ ap (λ y. settled y.0) c.join_seat.ensures.2;
       older = j.older;

@@ -12,4 +12,6 @@ store-requires g c = let m = c.args.seat.now.me in let h = c.requires.holding in
 )
 
 pub returns-clause-gave : goal.returns-clause-gave
-returns-clause-gave g c = let m = c.args.seat.now.me in c.store.ensures.2 ∙ ap (λ (x : List (ℕ × g.row.T.Denot)). (released m.0 g.J.Adding.step, rest x)) c.requires.holding.slot
+returns-clause-gave g c =
+    let m = c.args.seat.now.me in c.store.ensures.2
+    ∙ ap (λ (x : List (ℕ × g.row.T.Denot)). (released m.0 g.J.Adding.step, rest x)) c.requires.holding.slot

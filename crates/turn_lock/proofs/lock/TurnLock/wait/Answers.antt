@@ -15,15 +15,18 @@ pub returns-then-word-ge-FULL-clause-own : goal.returns-then-word-ge-FULL-clause
 returns-then-word-ge-FULL-clause-own g c = search rules
 
 pub returns-then-word-ge-FULL-clause-taken : goal.returns-then-word-ge-FULL-clause-taken
-returns-then-word-ge-FULL-clause-taken g c = full_on g.T.Kept.stands g.T.Kept.is_legal c.args.seat.now.me c.loop.seat.me c.load-word.new.seat.me _ c.loop.invariant.2 c.load-word.ensures.2 c.requires.rests.0 c.if-word-ge-FULL.true
+returns-then-word-ge-FULL-clause-taken g c =
+    full_on g.T.Kept.stands g.T.Kept.is_legal c.args.seat.now.me c.loop.seat.me c.load-word.new.seat.me _ c.loop.invariant.2 c.load-word.ensures.2 c.requires.rests.0 c.if-word-ge-FULL.true
 
 pub seize-requires-clause-rests : goal.seize-requires-clause-rests
 seize-requires-clause-rests g c = let m = c.args.seat.now.me in let o = c.load-word.new.seat.me in
-    let k : Looked m o = look_on g.T.Kept.stands g.T.Kept.is_legal m c.loop.seat.me o _ c.loop.invariant.2 c.load-word.ensures.2 in (look_bare m o k c.requires.rests.0, look_turn m o k c.requires.rests.1, look_parts m o k c.requires.rests.2)
+    let k : Looked m o =
+    look_on g.T.Kept.stands g.T.Kept.is_legal m c.loop.seat.me o _ c.loop.invariant.2 c.load-word.ensures.2 in (look_bare m o k c.requires.rests.0, look_turn m o k c.requires.rests.1, look_parts m o k c.requires.rests.2)
 
 pub returns-then-seize-clause-taken : goal.returns-then-seize-clause-taken
 returns-then-seize-clause-taken g c = let m = c.args.seat.now.me in let o = c.load-word.new.seat.me in
-    let k : Looked m o = look_on g.T.Kept.stands g.T.Kept.is_legal m c.loop.seat.me o _ c.loop.invariant.2 c.load-word.ensures.2 in
+    let k : Looked m o =
+    look_on g.T.Kept.stands g.T.Kept.is_legal m c.loop.seat.me o _ c.loop.invariant.2 c.load-word.ensures.2 in
     (search rules, took_on g.T.Kept.stands g.T.Kept.is_legal m o c.seize.new.seat.me _ k c.if-seize.ensures.taken)
 
 pub loop-preserved : goal.loop-preserved

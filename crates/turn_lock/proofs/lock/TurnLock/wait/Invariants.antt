@@ -3,4 +3,5 @@ use Rattle.turn_lock.specs.Plays.{Looked}
 use Rattle.turn_lock.proofs.lock.TurnLock.wait.Given as goal
 
 abbrev pub invariant-loop : goal.invariant-loop
-invariant-loop g l = (l.seat.table_id ≡ l.initial.seat.table_id) × (l.seat.id ≡ l.initial.seat.id) × Looked l.initial.seat.me l.seat.me
+invariant-loop g l =
+    (l.seat.table_id ≡ l.initial.seat.table_id) × (l.seat.id ≡ l.initial.seat.id) × Looked l.initial.seat.me l.seat.me
