@@ -45,10 +45,10 @@ with-up start h slot side a s legal st =
 with-opening : (start : Start) (h : List Step) (chan : ChanNo) (id : ℕ) (reply : Cell) (keys : Option LayerKeys) (pad : Option (List ℕ)) (a : OpenAnswer) (s : State) →
     IsLegal start (OpenCircuit chan id reply keys pad a ∷ h) → Stands start s h → StandsForSomeState start (OpenCircuit chan id reply keys pad a ∷ h)
 with-opening start h chan id reply keys pad a s legal st =
-    let kept : Stands start (open_state s chan.0 id reply keys) (OpenCircuit chan id reply keys pad (open_result s chan.0 id keys) ∷ h) = open_kept start s h chan.0 id reply keys pad legal.0.0 st in
+    let kept : Stands start (open_state start.circuits s chan.0 id reply keys) (OpenCircuit chan id reply keys pad (open_result start.circuits s chan.0 id keys) ∷ h) = open_kept start s h chan.0 id reply keys pad legal.0.0 st in
     record {
-      state = open_state s chan.0 id reply keys;
-      stands = subst (λ b. Stands start (open_state s chan.0 id reply keys) (OpenCircuit chan id reply keys pad b ∷ h)) (kept.steps.legal.0.1 ∙ sym legal.0.1) kept;
+      state = open_state start.circuits s chan.0 id reply keys;
+      stands = subst (λ b. Stands start (open_state start.circuits s chan.0 id reply keys) (OpenCircuit chan id reply keys pad b ∷ h)) (kept.steps.legal.0.1 ∙ sym legal.0.1) kept;
     }
 
 with-next : (start : Start) (h : List Step) (chan : ChanNo) (given : ℕ) (a : Option Cell) (s : State) → IsLegal start (NextCell chan given a ∷ h) → Stands start s h → StandsForSomeState start (NextCell chan given a ∷ h)

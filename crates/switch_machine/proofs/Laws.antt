@@ -88,11 +88,11 @@ channel_up_adds start old new slot side a e f = rw (e, f) (record {
   stands = λ h st. channel_up_kept start old h slot side st;
 })
 
-pub open_adds : (start : Start) (old new : State) (chan : ChanNo) (id : ℕ) (reply : Cell) (keys : Option LayerKeys) (pad : Option (List ℕ)) (a : OpenAnswer) → IsReply reply keys → new ≡ open_state old chan.0 id reply keys → a ≡ open_result old chan.0 id keys →
+pub open_adds : (start : Start) (old new : State) (chan : ChanNo) (id : ℕ) (reply : Cell) (keys : Option LayerKeys) (pad : Option (List ℕ)) (a : OpenAnswer) → IsReply reply keys → new ≡ open_state start.circuits old chan.0 id reply keys → a ≡ open_result start.circuits old chan.0 id keys →
     Adds start old new (OpenCircuit chan id reply keys pad a)
 unfolding Adds
 open_adds start old new chan id reply keys pad a asked e f = rw (e, f) (record {
-  steps = open-steps old chan.0 id reply keys (slot_at old.channels chan.0) (open_result old chan.0 id keys);
+  steps = open-steps old chan.0 id reply keys (slot_at old.channels chan.0) (open_result start.circuits old chan.0 id keys);
   stands = λ h st. open_kept start old h chan.0 id reply keys pad asked st;
 })
 

@@ -56,10 +56,10 @@ pub fn channel_up_is_one_step()
 #[tactic(auto, using(crate::proofs::Laws::open_adds, crate::proofs::OpenCircuit::Kept::open_said))]
 pub fn open_circuit_is_one_step()
     ensures adds { (start : Start) (s t : State) (chan : ChanNo) (id : ℕ) (reply : Cell) (keys : Option LayerKeys) (pad : Option (List ℕ)) →
-        IsReply reply keys → t ≡ open_state s chan.0 id reply keys →
-        Adds start s t (OpenCircuit chan id reply keys pad (open_result s chan.0 id keys)) }
+        IsReply reply keys → t ≡ open_state start.circuits s chan.0 id reply keys →
+        Adds start s t (OpenCircuit chan id reply keys pad (open_result start.circuits s chan.0 id keys)) }
     ensures answer { (start : Start) (s : State) (h : List Step) (chan id : ℕ) (keys : Option LayerKeys) → Stands start s h →
-        open_result s chan id keys ≡ open_answer start.rules h chan id keys }
+        open_result start.circuits s chan id keys ≡ open_answer start h chan id keys }
 {}
 
 /// A cell that leaves, or none, is one step.

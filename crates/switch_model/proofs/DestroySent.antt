@@ -64,5 +64,5 @@ destroy_was_sent start [] legal c k alive ended = absurd cc
 destroy_was_sent start (NextCell n tick (Some cell) ∷ h) legal c k alive ended =
     left-destroy (is_leg c k (at h n.0 cell.circ)) (cell.command == 4) (is_live_circuit start.rules h c) (sent start.rules h c k) (circuit_cell cell) (is_ended_by_us h c k) refl alive (destroy_was_sent start h legal.1 c k alive) ended
 destroy_was_sent start (OpenCircuit chan id reply keys pad (Opened n) ∷ h) legal c k alive ended =
-    opened-destroy start h n.0 c k _ refl (opened-number start.rules h chan.0 id keys n legal.0.1) legal.1 ended (λ was. destroy_was_sent start h legal.1 c k was ended) alive
+    opened-destroy start h n.0 c k _ refl (opened-number start h chan.0 id keys n legal.0.1) legal.1 ended (λ was. destroy_was_sent start h legal.1 c k was ended) alive
 destroy_was_sent start (s ∷ h) legal c k alive ended = destroy_was_sent start h legal.1 c k (was-live start.rules h s c refl alive) ended

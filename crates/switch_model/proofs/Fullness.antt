@@ -35,10 +35,12 @@ use Rattle.switch_model.specs.Answers.GiveBack.{give_back_answer}
 pub channels_full : (h : List Step) → live_channels h ≡ 64 → channel_up_answer h ≡ UpAnswer.Full 64
 channels_full h full = rw full refl
 
-pub circuits_full : (rules : Rules) (h : List Step) (chan id : ℕ) (keys : LayerKeys) → is_live_channel h chan ≡ true → (id == 0) ≡ false →
-    is_in_use rules h chan id ≡ false → is_peers_id (channel_at h chan) id ≡ true → live_circuits rules h ≡ 512 →
-    open_answer rules h chan id (Some keys) ≡ Refused (OpenRefusal.Full 512)
-circuits_full rules h chan id keys up some_id unused peers full = rw (up, some_id, unused, peers, full) refl
+pub circuits_full : (start : Start) (h : List Step) (chan id : ℕ) (keys : LayerKeys) → is_live_channel h chan ≡ true → (id == 0) ≡ false →
+    is_in_use start.rules h chan id ≡ false → is_peers_id (channel_at h chan) id ≡ true → start.circuits ≤ live_circuits start.rules h →
+    open_answer start h chan id (Some keys) ≡ Refused (OpenRefusal.Full start.circuits)
+circuits_full start h chan id keys up some_id unused peers full =
+    let none_left : nat_le start.circuits (live_circuits start.rules h) ≡ true = grind arith in
+    rw (up, some_id, unused, peers, none_left) refl
 
 pub foreign_claim : (start : Start) (h : List Step) (note : ClaimNote) (place : Option ℕ) → (note.switch == start.name) ≡ false →
     give_back_answer start h note place ≡ Stranger (Note None note)

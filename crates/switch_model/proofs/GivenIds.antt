@@ -17,7 +17,7 @@ use Rattle.tr_io.specs.declared.names.CircNo.{CircNo}
 use Rattle.tr_io.specs.declared.step.Step.{Step}
 use Rattle.tr_io.specs.declared.step.Step.TheVariants.{ChannelUp, ChannelDown, OpenCircuit, Take, NextCell, DialDone}
 use Rattle.switch_model.specs.Start.{Start}
-use Rattle.switch_model.specs.Limits.{channel_limit, circuit_limit, given_id_base}
+use Rattle.switch_model.specs.Limits.{channel_limit, given_id_base}
 use Rattle.switch_model.specs.Names.{Leg, circ_no, chan_no}
 use Rattle.switch_model.specs.History.Channels.{Channel, channels, channel_at, is_live_channel, live_channels, opened_by_us, given_ids, next_given_id}
 use Rattle.switch_model.specs.History.Legs.{circuits, at, is_destroy_for}
@@ -43,10 +43,10 @@ fitting-by true false true peers keyless full n m limit is = absurd cc
 fitting-by true false false false keyless full n m limit is = absurd cc
 fitting-by true false false true keyless full n m limit is = record { channel = refl; unused = refl; side = refl }
 
-pub opened-fits : (rules : Rules) (h : List Step) (chan id : ℕ) (keys : Option LayerKeys) (n : CircNo) → Opened n ≡ open_answer rules h chan id keys →
-    IsFitting (is_live_channel h chan) (is_in_use rules h chan id) (is_peers_id (channel_at h chan) id)
-opened-fits rules h chan id keys n is =
-    fitting-by (is_live_channel h chan) (id == 0) (is_in_use rules h chan id) (is_peers_id (channel_at h chan) id) (is_none keys) (nat_le circuit_limit (live_circuits rules h)) n (circ_no (circuits h)) circuit_limit is
+pub opened-fits : (start : Start) (h : List Step) (chan id : ℕ) (keys : Option LayerKeys) (n : CircNo) → Opened n ≡ open_answer start h chan id keys →
+    IsFitting (is_live_channel h chan) (is_in_use start.rules h chan id) (is_peers_id (channel_at h chan) id)
+opened-fits start h chan id keys n is =
+    fitting-by (is_live_channel h chan) (id == 0) (is_in_use start.rules h chan id) (is_peers_id (channel_at h chan) id) (is_none keys) (nat_le start.circuits (live_circuits start.rules h)) n (circ_no (circuits h)) start.circuits is
 
 -- channels have the numbers below the next one
 up-number : (b : Bool) (limit : ℕ) (n m : ChanNo) → UpAnswer.Up n ≡ (if b then UpAnswer.Full limit else UpAnswer.Up m) → n.0 ≡ m.0
@@ -224,7 +224,7 @@ linked-given start h order outcome n chan id legal both =
 pub at-given : (start : Start) (h : List Step) → IsLegal start h → (chan id : ℕ) → is_some (at h chan id) ≡ true → IsGiven h chan id
 at-given start [] legal chan id is = absurd cc
 at-given start (OpenCircuit n i reply keys pad (Opened c) ∷ h) legal chan id is =
-    let fits = opened-fits start.rules h n.0 i keys c legal.0.1 in
+    let fits = opened-fits start h n.0 i keys c legal.0.1 in
     given-stays start h (OpenCircuit n i reply keys pad (Opened c)) chan id legal
     (at-given-if (IsGiven h chan id) ((n.0 == chan) && (i == id)) _ (at h chan id) (opened-given start h n i chan id (peers-given start h legal.1 n.0 i fits.channel (λ ours. fits.side))) (at-given start h legal.1 chan id) is)
 at-given start (DialDone order outcome (DialAnswer.Up n) ∷ h) legal chan id is =

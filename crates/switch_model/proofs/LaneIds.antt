@@ -15,7 +15,6 @@ use Rattle.tr_io.specs.declared.names.Dir.TheVariants.{Forth}
 use Rattle.tr_io.specs.declared.step.Step.{Step}
 use Rattle.tr_io.specs.declared.step.Step.TheVariants.{ChannelDown, OpenCircuit, Take, NextCell, DialDone}
 use Rattle.switch_model.specs.Start.{Start}
-use Rattle.switch_model.specs.Limits.{circuit_limit}
 use Rattle.switch_model.specs.Names.{Leg, is_leg, circ_no}
 use Rattle.switch_model.specs.History.Channels.{channels, channel_at, is_live_channel, opened_by_us, next_given_id}
 use Rattle.switch_model.specs.History.Legs.{circuits, at, is_destroy_for}
@@ -56,15 +55,15 @@ owed-by true false false false keyless full ours id m limit OpenRefusal.BadId ze
 owed-by true false false false keyless full ours id m limit why zero_is owed is = absurd cc
 owed-by true false false true keyless full ours id m limit why zero_is owed is = record { channel = refl; unused = refl; side = λ own. refl }
 
-refused-owed : (rules : Rules) (h : List Step) (chan id : ℕ) (keys : Option LayerKeys) (why : OpenRefusal) → is_some (refusal_reason (opened_by_us (channel_at h chan)) id why) ≡ true → Refused why ≡ open_answer rules h chan id keys →
-    IsOwed (is_live_channel h chan) (is_in_use rules h chan id) (is_peers_id (channel_at h chan) id) (opened_by_us (channel_at h chan))
-refused-owed rules h chan id keys why owed is =
-    owed-by (is_live_channel h chan) (id == 0) (is_in_use rules h chan id) (is_peers_id (channel_at h chan) id) (is_none keys) (nat_le circuit_limit (live_circuits rules h)) (opened_by_us (channel_at h chan)) id (circ_no (circuits h)) circuit_limit why refl owed is
+refused-owed : (start : Start) (h : List Step) (chan id : ℕ) (keys : Option LayerKeys) (why : OpenRefusal) → is_some (refusal_reason (opened_by_us (channel_at h chan)) id why) ≡ true → Refused why ≡ open_answer start h chan id keys →
+    IsOwed (is_live_channel h chan) (is_in_use start.rules h chan id) (is_peers_id (channel_at h chan) id) (opened_by_us (channel_at h chan))
+refused-owed start h chan id keys why owed is =
+    owed-by (is_live_channel h chan) (id == 0) (is_in_use start.rules h chan id) (is_peers_id (channel_at h chan) id) (is_none keys) (nat_le start.circuits (live_circuits start.rules h)) (opened_by_us (channel_at h chan)) id (circ_no (circuits h)) start.circuits why refl owed is
 
 -- the CircIDs of a lane were given out
 refused-given : (start : Start) (h : List Step) (s : Step) (chan : ℕ) (d : Destroy) → IsLegal start (s ∷ h) → Refuses h s chan d → IsGiven (s ∷ h) chan d.id
 refused-given start h (OpenCircuit n id reply keys pad (Refused why)) chan d legal refused =
-    let owed = refused-owed start.rules h n.0 id keys why refused.owed legal.0.1 in
+    let owed = refused-owed start h n.0 id keys why refused.owed legal.0.1 in
     let given : IsGiven h n.0 id = peers-given start h legal.1 n.0 id owed.channel owed.side in
     given-stays start h (OpenCircuit n id reply keys pad (Refused why)) chan d.id legal (subst (λ x. IsGiven h chan x) (sym refused.same_id) (subst (λ x. IsGiven h x id) refused.channel given))
 refused-given start h s chan d legal refused = absurd refused
@@ -114,7 +113,7 @@ link-untaken h (DialOutcome.Over over) n chan id linked given = over-channel h (
 link-untaken h DialOutcome.Failed n chan id linked given = absurd linked
 
 lane-untaken : (start : Start) (h : List Step) (s : Step) (chan : ℕ) → IsLegal start (s ∷ h) → AllByRecursion (λ d. takes_id h s chan d.id ≡ false) (lane start.rules h chan)
-lane-untaken start h (OpenCircuit n i reply keys pad (Opened c)) chan legal = opened-untaken start h n.0 chan i (n.0 == chan) refl (opened-fits start.rules h n.0 i keys c legal.0.1).unused
+lane-untaken start h (OpenCircuit n i reply keys pad (Opened c)) chan legal = opened-untaken start h n.0 chan i (n.0 == chan) refl (opened-fits start h n.0 i keys c legal.0.1).unused
 lane-untaken start h (DialDone order outcome (DialAnswer.Up n)) chan legal =
     all-then (λ d. IsGiven h chan d.id) (λ d. ((n.0 == chan) && (next_given_id h chan == d.id)) ≡ false) (λ d given. link-untaken h outcome n.0 chan d.id (linked-over start h order outcome n legal) given)
     (lane start.rules h chan) (lane-given start h legal.1 chan)
@@ -144,7 +143,7 @@ live-opened start h c false legal is alive =
 pub leg-opened : (start : Start) (h : List Step) → IsLegal start h → (c k chan id : ℕ) → is_leg c k (at h chan id) ≡ true → c < circuits h
 leg-opened start [] legal c k chan id is = absurd cc
 leg-opened start (OpenCircuit n i reply keys pad (Opened m) ∷ h) legal c k chan id is =
-    let number = opened-number start.rules h n.0 i keys m legal.0.1 in
+    let number = opened-number start h n.0 i keys m legal.0.1 in
     opened-or c k m.0 (circuits h + 1) ((n.0 == chan) && (i == id)) 0 (at h chan id) (λ same. omega (arith, same, number)) (λ was. let before = leg-opened start h legal.1 c k chan id was in omega (arith, before)) is
 leg-opened start (DialDone order outcome (DialAnswer.Up n) ∷ h) legal c k chan id is =
     let alive = dial-live start h order outcome n legal in
@@ -170,7 +169,7 @@ none-some c k None none is = cc
 
 refused-apart : (start : Start) (h : List Step) (s : Step) (chan : ℕ) (d : Destroy) → IsLegal start (s ∷ h) → Refuses h s chan d → IsApart start.rules (s ∷ h) chan d
 refused-apart start h (OpenCircuit n id reply keys pad (Refused why)) chan d legal refused c k is =
-    let owed = refused-owed start.rules h n.0 id keys why refused.owed legal.0.1 in
+    let owed = refused-owed start h n.0 id keys why refused.owed legal.0.1 in
     let none : is_some (at h n.0 id) ≡ false = or-first (is_some (at h n.0 id)) _ owed.unused in
     absurd (none-some c k (at h chan d.id) (subst (λ x. is_some (at h chan x) ≡ false) (sym refused.same_id) (subst (λ x. is_some (at h x id) ≡ false) refused.channel none)) is)
 refused-apart start h s chan d legal refused c k is = absurd refused

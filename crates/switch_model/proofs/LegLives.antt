@@ -92,7 +92,7 @@ unused-id false n chan i id h is unused used = refl
 stays-at : (start : Start) (h : List Step) (s : Step) (c k : ℕ) (place : Port) → IsLegal start (s ∷ h) → port h c k ≡ Some place → is_leg c k (at h place.chan place.id) ≡ true → is_ended_by_us (s ∷ h) c k ≡ false → is_ended_outside (s ∷ h) c k ≡ false →
     is_leg c k (at (s ∷ h) place.chan place.id) ≡ true
 stays-at start h (OpenCircuit n i reply keys pad (Opened m)) c k place legal lies here ours outside =
-    let unused = or-first (is_some (at h n.0 i)) _ (opened-fits start.rules h n.0 i keys m legal.0.1).unused in
+    let unused = or-first (is_some (at h n.0 i)) _ (opened-fits start h n.0 i keys m legal.0.1).unused in
     rw (unused-id _ n.0 place.chan i place.id h refl unused (leg-some c k (at h place.chan place.id) here)) here
 stays-at start h (DialDone order outcome (DialAnswer.Up n)) c k place legal lies here ours outside =
     let given = at-given start h legal.1 place.chan place.id (leg-some c k (at h place.chan place.id) here) in
@@ -155,7 +155,7 @@ pub at_live_channel : (start : Start) (h : List Step) → IsLegal start h → (c
 at_live_channel start [] legal chan id is = absurd cc
 at_live_channel start (ChannelUp slot side (UpAnswer.Up n) ∷ h) legal chan id is = some-if (n.0 == chan) _ (channel_at h chan) (at_live_channel start h legal.1 chan id is)
 at_live_channel start (OpenCircuit n i reply keys pad (Opened m) ∷ h) legal chan id is =
-    opened-live (n.0 == chan) (i == id) n.0 chan _ (at h chan id) h refl (opened-fits start.rules h n.0 i keys m legal.0.1).channel (at_live_channel start h legal.1 chan id) is
+    opened-live (n.0 == chan) (i == id) n.0 chan _ (at h chan id) h refl (opened-fits start h n.0 i keys m legal.0.1).channel (at_live_channel start h legal.1 chan id) is
 at_live_channel start (DialDone order (DialOutcome.Opened slot) (DialAnswer.Up n) ∷ h) legal chan id is = linked-live (n.0 == chan) (next_given_id h chan == id) _ (at h chan id) _ (channel_at h chan) (at_live_channel start h legal.1 chan id) is
 at_live_channel start (DialDone order (DialOutcome.Over over) (DialAnswer.Up n) ∷ h) legal chan id is =
     opened-live (n.0 == chan) (next_given_id h chan == id) n.0 chan _ (at h chan id) h refl (some-live (channel_at h n.0) (linked-over start h order (DialOutcome.Over over) n legal)) (at_live_channel start h legal.1 chan id) is

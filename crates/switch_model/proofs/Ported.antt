@@ -26,7 +26,7 @@ other-by false n c is unlike = is
 pub no-client-leg : (start : Start) (h : List Step) → IsLegal start h → (c : ℕ) → circuits h ≤ c → port h c 0 ≡ None
 no-client-leg start [] legal c beyond = refl
 no-client-leg start (OpenCircuit chan id reply keys pad (Opened n) ∷ h) legal c beyond =
-    let number = opened-number start.rules h chan.0 id keys n legal.0.1 in
+    let number = opened-number start h chan.0 id keys n legal.0.1 in
     let other = other-by (n.0 == c) n.0 c refl (λ same. omega (arith, number, same, beyond)) in
     rw other (no-client-leg start h legal.1 c (omega (arith, beyond)))
 no-client-leg start (DialDone order outcome (DialAnswer.Up n) ∷ h) legal c beyond = rw (not-zero (hops h c), and-false (order.circ.0 == c)) (no-client-leg start h legal.1 c beyond)
@@ -59,7 +59,7 @@ makes_leg h c k s = false
 -- such a leg is new
 pub leg-new : (start : Start) (h : List Step) (s : Step) (c k : ℕ) → IsLegal start (s ∷ h) → makes_leg h c k s ≡ true → port h c k ≡ None
 leg-new start h (OpenCircuit chan id reply keys pad (Opened n)) c k legal makes =
-    let number = opened-number start.rules h chan.0 id keys n legal.0.1 in
+    let number = opened-number start h chan.0 id keys n legal.0.1 in
     let same = same-number n.0 c (and-first (n.0 == c) _ makes) in
     let zero_leg = same-number k 0 (and-second (n.0 == c) _ makes) in
     rw zero_leg (no-client-leg start h legal.1 c (omega (arith, number, same)))

@@ -135,7 +135,7 @@ pub sent-begins : (start : Start) (h : List Step) → IsLegal start h → (c k :
 sent-begins start [] legal c k = none-begins _ _ refl
 sent-begins start (NextCell chan tick (Some cell) ∷ h) legal c k = left-begins start h chan tick cell c k _ refl legal (sent-begins start h legal.1 c k)
 sent-begins start (OpenCircuit chan id reply keys pad (Opened n) ∷ h) legal c k =
-    opened-begins start h (OpenCircuit chan id reply keys pad (Opened n)) c k n.0 (n.0 == c) refl refl (opened-number start.rules h chan.0 id keys n legal.0.1) legal.1 refl (sent-begins start h legal.1 c k)
+    opened-begins start h (OpenCircuit chan id reply keys pad (Opened n)) c k n.0 (n.0 == c) refl refl (opened-number start h chan.0 id keys n legal.0.1) legal.1 refl (sent-begins start h legal.1 c k)
 sent-begins start (s ∷ h) legal c k = both-begin _ _ _ (sent-begins start h legal.1 c k) (sendable-grows start.rules h s c k refl)
 
 -- and so what the one-thread relay sends

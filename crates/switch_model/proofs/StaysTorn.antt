@@ -16,7 +16,7 @@ no-number false n c is above = is
 
 pub not-opened : (start : Start) (h : List Step) (s : Step) (c : ℕ) → IsLegal start (s ∷ h) → c < circuits h → opens c s ≡ false
 not-opened start h (OpenCircuit chan id reply keys pad (Opened n)) c legal was =
-    let number = opened-number start.rules h chan.0 id keys n legal.0.1 in
+    let number = opened-number start h chan.0 id keys n legal.0.1 in
     no-number (n.0 == c) n.0 c refl (omega (arith, number, was))
 not-opened start h s c legal was = refl
 

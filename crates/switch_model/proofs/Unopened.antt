@@ -12,7 +12,6 @@ use Rattle.tr_io.specs.declared.names.Dir.TheVariants.{Forth, Back}
 use Rattle.tr_io.specs.declared.step.Step.{Step}
 use Rattle.tr_io.specs.declared.step.Step.TheVariants.{OpenCircuit, Claim, GiveBack}
 use Rattle.switch_model.specs.Start.{Start}
-use Rattle.switch_model.specs.Limits.{circuit_limit}
 use Rattle.switch_model.specs.Names.{Way, same_way, way_of, circ_no}
 use Rattle.switch_model.specs.History.Channels.{channel_at, is_live_channel}
 use Rattle.switch_model.specs.History.Legs.{circuits}
@@ -67,9 +66,9 @@ number-by true false false true true full n m limit is = absurd cc
 number-by true false false true false true n m limit is = absurd cc
 number-by true false false true false false n m limit is = cc
 
-pub opened-number : (rules : Rules) (h : List Step) (chan id : ℕ) (keys : Option LayerKeys) (n : CircNo) → Opened n ≡ open_answer rules h chan id keys → n.0 ≡ circuits h
-opened-number rules h chan id keys n is =
-    ap (λ (m : CircNo). m.0) (number-by (is_live_channel h chan) (id == 0) (is_in_use rules h chan id) (is_peers_id (channel_at h chan) id) (is_none keys) (nat_le circuit_limit (live_circuits rules h)) n (circ_no (circuits h)) circuit_limit is)
+pub opened-number : (start : Start) (h : List Step) (chan id : ℕ) (keys : Option LayerKeys) (n : CircNo) → Opened n ≡ open_answer start h chan id keys → n.0 ≡ circuits h
+opened-number start h chan id keys n is =
+    ap (λ (m : CircNo). m.0) (number-by (is_live_channel h chan) (id == 0) (is_in_use start.rules h chan id) (is_peers_id (channel_at h chan) id) (is_none keys) (nat_le start.circuits (live_circuits start.rules h)) n (circ_no (circuits h)) start.circuits is)
 
 -- a return of this direction is of a live circuit
 pub home-passed : (start : Start) (h : List Step) (note : ClaimNote) (place : Option ℕ) (a : BackAnswer) → IsLegal start (GiveBack note place a ∷ h) → is_accepted_return a ≡ true →
@@ -104,7 +103,7 @@ open-none start h n c false is number beyond = is
 pub not-yet : (start : Start) (h : List Step) → IsLegal start h → (c : ℕ) (dir : Dir) → circuits h ≤ c → HasNone start.rules h c dir
 not-yet start [] legal c dir beyond = record { torn = refl; none_out = refl; none_claimed = refl; none_came = none-came start.rules c dir }
 not-yet start (OpenCircuit chan id reply keys pad (Opened n) ∷ h) legal c dir beyond =
-    let number = opened-number start.rules h chan.0 id keys n legal.0.1 in
+    let number = opened-number start h chan.0 id keys n legal.0.1 in
     stays-none start.rules h (OpenCircuit chan id reply keys pad (Opened n)) c dir (open-none start h n.0 c (n.0 == c) refl number beyond) refl refl refl (not-yet start h legal.1 c dir (omega (arith, beyond)))
 not-yet start (Claim worker (Some note) ∷ h) legal c dir beyond = claim-none start h worker note c dir _ refl (claimed-by start h worker note legal.0.1) (not-yet start h legal.1 c dir beyond)
 not-yet start (GiveBack note place a ∷ h) legal c dir beyond = return-none start h note place a c dir _ refl legal (not-yet start h legal.1 c dir beyond)

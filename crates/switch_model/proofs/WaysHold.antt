@@ -130,7 +130,7 @@ empty-way m out sum came given none none_claimed none_came = rw (none, none_clai
 opens-by : (start : Start) (h : List Step) (chan : ChanNo) (id : ℕ) (reply : Cell) (keys : Option LayerKeys) (pad : Option (List ℕ)) (n : CircNo) (c : ℕ) (dir : Dir) (b : Bool) → (n.0 == c) ≡ b →
     IsLegal start (OpenCircuit chan id reply keys pad (Opened n) ∷ h) → WayHas start.rules h c dir → WayHas start.rules (OpenCircuit chan id reply keys pad (Opened n) ∷ h) c dir
 opens-by start h chan id reply keys pad n c dir true is legal has =
-    let number = opened-number start.rules h chan.0 id keys n legal.0.1 in
+    let number = opened-number start h chan.0 id keys n legal.0.1 in
     let same = same-number n.0 c is in
     let none = not-yet start h legal.1 c dir (omega (arith, number, same)) in
     empty-way _ _ _ _ _ none.none_out none.none_claimed (came-same start.rules h (OpenCircuit chan id reply keys pad (Opened n)) c dir refl ∙ none.none_came)

@@ -42,7 +42,7 @@ IsDialOrder rules h (Some order) = (Some order ≡ dial_order_answer rules h) �
 abbrev pub IsAnswered : Start → List Step → Step → Type 0
 IsAnswered start h (ChannelUp slot side a) = a ≡ channel_up_answer h
 IsAnswered start h (ChannelDown chan a) = a ≡ channel_down_answer h chan.0
-IsAnswered start h (OpenCircuit chan id reply keys pad a) = a ≡ open_answer start.rules h chan.0 id keys
+IsAnswered start h (OpenCircuit chan id reply keys pad a) = a ≡ open_answer start h chan.0 id keys
 IsAnswered start h (Take chan cell a) = a ≡ take_answer start.rules h chan.0 cell
 IsAnswered start h (Claim worker a) = a ≡ claim_answer start h worker
 IsAnswered start h (GiveBack note place a) = a ≡ give_back_answer start h note place

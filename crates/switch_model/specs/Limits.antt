@@ -5,7 +5,7 @@ use Rattle.std.specs.Prelude.{ℕ, ◌-◌, ◌^◌}
 abbrev pub channel_limit : ℕ
 channel_limit = 64
 
--- So many circuits are live at most.
+-- So many circuits may be live where a switch isn't made for fewer.
 abbrev pub circuit_limit : ℕ
 circuit_limit = 512
 

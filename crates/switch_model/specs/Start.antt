@@ -6,3 +6,5 @@ pub record Start : Type 0 where
   -- the switch's name, which its claims carry
   pub name : ℕ
   pub rules : Rules
+  -- how many circuits may be live
+  pub circuits : ℕ

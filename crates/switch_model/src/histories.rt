@@ -95,7 +95,7 @@ pub fn first_steps_are_legal()
 
 /// A circuit is opened, and the answer to its opening is the first cell that leaves.
 pub fn answer_to_an_opening_leaves()
-    ensures { (start : Start) (keys : LayerKeys) (reply : List ℕ) → IsLegal start (one_circuit keys reply) }
+    ensures { (start : Start) (keys : LayerKeys) (reply : List ℕ) → 1 ≤ start.circuits → IsLegal start (one_circuit keys reply) }
 {}
 
 /// An opening at a CircID of the wrong side is refused, and DESTROY 1 leaves.
@@ -106,26 +106,26 @@ pub fn bad_id_is_answered_by_destroy()
 /// A circuit is torn down while its cipher is at a worker: the return finds it gone, one DESTROY 3
 /// leaves, and nothing else of the circuit.
 pub fn torn_circuit_sends_one_destroy()
-    ensures { (start : Start) (keys : LayerKeys) (reply body : List ℕ) → length body ≤ 65535 →
+    ensures { (start : Start) (keys : LayerKeys) (reply body : List ℕ) → length body ≤ 65535 → 1 ≤ start.circuits →
         IsLegal start (torn_while_claimed start keys reply body) }
 {}
 
 /// A claim takes what waits in its direction, up to 32 bodies: here two.
 pub fn a_claim_takes_what_waits()
     ensures { (start : Start) (keys : LayerKeys) (reply first second : List ℕ) → length first ≤ 65535 → length second ≤ 65535 →
-        IsLegal start (two_claimed start keys reply first second) }
+        1 ≤ start.circuits → IsLegal start (two_claimed start keys reply first second) }
 {}
 
 /// While our DESTROY waits its CircID is in use. The peer's DESTROY takes it away, and the CircID is free.
 pub fn crossing_destroy_frees_the_id()
     ensures { (start : Start) (keys : LayerKeys) (refused : Cell) (reply reason : List ℕ) → IsReply refused (Some keys) →
-        length reason ≤ 65535 → IsLegal start (crossing_destroys keys refused reply reason) }
+        length reason ≤ 65535 → 1 ≤ start.circuits → IsLegal start (crossing_destroys keys refused reply reason) }
 {}
 
 /// A channel that ends tears its circuits down, and nothing leaves on it any more.
 pub fn an_ended_channel_sends_nothing()
     ensures { (start : Start) (keys : LayerKeys) (reply : List ℕ) (late : Cell) → IsWellFormed late →
-        IsLegal start (ended_channel keys reply late) }
+        1 ≤ start.circuits → IsLegal start (ended_channel keys reply late) }
 {}
 
 /// A new switch has nothing to hand out. It halts once as many accepting slots have ended as there are.

@@ -14,7 +14,7 @@ ghost use Rattle.tr_io.specs.declared.names.Dir.TheVariants.{Forth};
 ghost use Rattle.tr_io.specs.declared.step.Step.{Step};
 ghost use Rattle.tor_spec.specs.CellCommands.{relay_command};
 ghost use Rattle.tor_spec.specs.Reasons.{destroy_resource_limit};
-ghost use Rattle.switch_model.specs.Limits.{channel_limit, circuit_limit, held_limit};
+ghost use Rattle.switch_model.specs.Limits.{channel_limit, held_limit};
 ghost use Rattle.switch_model.specs.Start.{Start};
 ghost use Rattle.switch_model.specs.Names.{circ_no};
 ghost use Rattle.switch_model.specs.History.Channels.{channel_at, is_live_channel, live_channels};
@@ -40,13 +40,13 @@ pub fn sixty_five_channels_are_too_many()
     ensures { (h : List Step) → live_channels h ≡ channel_limit → channel_up_answer h ≡ UpAnswer.Full channel_limit }
 {}
 
-/// With 512 live circuits a good opening is refused.
+/// A good opening is refused where as many circuits are live as may be.
 #[tactic(auto, using(crate::proofs::Fullness::circuits_full))]
-pub fn a_513th_circuit_is_refused()
-    ensures { (rules : Rules) (h : List Step) (chan id : ℕ) (keys : LayerKeys) →
-        is_live_channel h chan ≡ true → (id == 0) ≡ false → is_in_use rules h chan id ≡ false →
-        is_peers_id (channel_at h chan) id ≡ true → live_circuits rules h ≡ circuit_limit →
-        open_answer rules h chan id (Some keys) ≡ Refused (OpenRefusal.Full circuit_limit) }
+pub fn a_full_switch_opens_no_circuit()
+    ensures { (start : Start) (h : List Step) (chan id : ℕ) (keys : LayerKeys) →
+        is_live_channel h chan ≡ true → (id == 0) ≡ false → is_in_use start.rules h chan id ≡ false →
+        is_peers_id (channel_at h chan) id ≡ true → start.circuits ≤ live_circuits start.rules h →
+        open_answer start h chan id (Some keys) ≡ Refused (OpenRefusal.Full start.circuits) }
 {}
 
 /// A job of another switch is a stranger's, whatever it holds.

@@ -8,7 +8,6 @@ use Rattle.tr_io.specs.declared.answers.OpenAnswer.TheVariants.{Opened, Refused}
 use Rattle.tr_io.specs.declared.answers.OpenRefusal.{OpenRefusal}
 use Rattle.tr_io.specs.declared.step.Step.{Step}
 use Rattle.tr_io.specs.declared.step.Step.TheVariants.{OpenCircuit}
-use Rattle.switch_model.specs.Limits.{circuit_limit}
 use Rattle.switch_model.specs.Start.{Start}
 use Rattle.switch_model.specs.Conditions.{IsReply}
 use Rattle.switch_model.specs.Names.{Leg, chan_no, circ_no}
@@ -46,12 +45,12 @@ filled-circuits start s h st =
 
 -- the answer
 open_said_by : (start : Start) (s : State) (h : List Step) (chan id : ℕ) (keys : Option LayerKeys) (x : Option ChannelState) → Stands start s h → ChannelAt x (channel_past start.rules h chan) →
-    open_result_on s chan id keys x ≡ open_answer start.rules h chan id keys
+    open_result_on start.circuits s chan id keys x ≡ open_answer start h chan id keys
 open_said_by start s h chan id keys None st at = rw at.channel refl
 open_said_by start s h chan id keys (Some channel) st at =
     rw (at.channel, taken-said start s h st chan id channel at.lane, filled-circuits start s h st, st.numbers.circuits) refl
 
-pub open_said : (start : Start) (s : State) (h : List Step) (chan id : ℕ) (keys : Option LayerKeys) → Stands start s h → open_result s chan id keys ≡ open_answer start.rules h chan id keys
+pub open_said : (start : Start) (s : State) (h : List Step) (chan id : ℕ) (keys : Option LayerKeys) → Stands start s h → open_result start.circuits s chan id keys ≡ open_answer start h chan id keys
 open_said start s h chan id keys st = open_said_by start s h chan id keys (slot_at s.channels chan) st (st.channels.channel chan)
 
 -- a refusal that sends nothing
@@ -60,7 +59,7 @@ if-both true x = refl
 if-both false x = refl
 
 unknown-channel : (start : Start) (s : State) (h : List Step) (chan id : ℕ) (reply : Cell) (keys : Option LayerKeys) (pad : Option (List ℕ)) → Stands start s h → IsReply reply keys →
-    Refused OpenRefusal.NoChannel ≡ open_answer start.rules h chan id keys →
+    Refused OpenRefusal.NoChannel ≡ open_answer start h chan id keys →
     Stands start (counted s) (OpenCircuit (chan_no chan) id reply keys pad (Refused OpenRefusal.NoChannel) ∷ h)
 unknown-channel start s h chan id reply keys pad st asked said =
     let rules = start.rules in
@@ -82,20 +81,20 @@ unused : (x : Option Leg) → is_some x ≡ false → x ≡ None
 unused None e = refl
 unused (Some leg) e = cc
 
-judged : Bool → Bool → Bool → Option LayerKeys → Bool → ℕ → OpenAnswer
-judged zero taken peers keys full n =
+judged : ℕ → Bool → Bool → Bool → Option LayerKeys → Bool → ℕ → OpenAnswer
+judged most zero taken peers keys full n =
     if zero then Refused OpenRefusal.BadId
     else if taken then Refused OpenRefusal.InUse
     else if not peers then Refused OpenRefusal.BadId
     else if is_none keys then Refused OpenRefusal.BadHandshake
-    else if full then Refused (OpenRefusal.Full circuit_limit)
+    else if full then Refused (OpenRefusal.Full most)
     else Opened (circ_no n)
 
 open-by : (start : Start) (s : State) (h : List Step) (chan id : ℕ) (reply : Cell) (pad : Option (List ℕ)) (channel : ChannelState) (zero taken peers : Bool) (keys : Option LayerKeys) (full : Bool) →
     Stands start s h → IsReply reply keys → slot_at s.channels chan ≡ Some channel → is_in_use start.rules h chan id ≡ taken →
-    judged zero taken peers keys full (length s.circuits) ≡ open_answer start.rules h chan id keys →
-    Stands start (open_state_by s chan id reply keys (Some channel) (judged zero taken peers keys full (length s.circuits)))
-    (OpenCircuit (chan_no chan) id reply keys pad (judged zero taken peers keys full (length s.circuits)) ∷ h)
+    judged start.circuits zero taken peers keys full (length s.circuits) ≡ open_answer start h chan id keys →
+    Stands start (open_state_by s chan id reply keys (Some channel) (judged start.circuits zero taken peers keys full (length s.circuits)))
+    (OpenCircuit (chan_no chan) id reply keys pad (judged start.circuits zero taken peers keys full (length s.circuits)) ∷ h)
 unfolding judged
 open-by start s h chan id reply pad channel true taken peers keys full st asked found is_taken said =
     refused-kept start s h chan id reply keys pad OpenRefusal.BadId channel st found (asked, said)
@@ -106,20 +105,20 @@ open-by start s h chan id reply pad channel false false false keys full st asked
 open-by start s h chan id reply pad channel false false true None full st asked found is_taken said =
     refused-kept start s h chan id reply None pad OpenRefusal.BadHandshake channel st found (asked, said)
 open-by start s h chan id reply pad channel false false true (Some keys) true st asked found is_taken said =
-    refused-kept start s h chan id reply (Some keys) pad (OpenRefusal.Full circuit_limit) channel st found (asked, said)
+    refused-kept start s h chan id reply (Some keys) pad (OpenRefusal.Full start.circuits) channel st found (asked, said)
 open-by start s h chan id reply pad channel false false true (Some keys) false st asked found is_taken said =
     opened-kept start s h chan id reply keys pad st (asked, said) (rw found refl) (unused (at h chan id) (or-first _ _ is_taken))
 
 open-on : (start : Start) (s : State) (h : List Step) (chan id : ℕ) (reply : Cell) (keys : Option LayerKeys) (pad : Option (List ℕ)) (x : Option ChannelState) → Stands start s h → IsReply reply keys → slot_at s.channels chan ≡ x →
-    open_result_on s chan id keys x ≡ open_answer start.rules h chan id keys →
-    Stands start (open_state_by s chan id reply keys x (open_result_on s chan id keys x)) (OpenCircuit (chan_no chan) id reply keys pad (open_result_on s chan id keys x) ∷ h)
+    open_result_on start.circuits s chan id keys x ≡ open_answer start h chan id keys →
+    Stands start (open_state_by s chan id reply keys x (open_result_on start.circuits s chan id keys x)) (OpenCircuit (chan_no chan) id reply keys pad (open_result_on start.circuits s chan id keys x) ∷ h)
 unfolding judged
 open-on start s h chan id reply keys pad None st asked found said = unknown-channel start s h chan id reply keys pad st asked said
 open-on start s h chan id reply keys pad (Some channel) st asked found said =
     let own : ChannelStands channel (channel_past start.rules h chan) = subst (λ x. ChannelAt x (channel_past start.rules h chan)) found (st.channels.channel chan) in
-    open-by start s h chan id reply pad channel (id == 0) (is_id_taken s chan channel id) (has_peers_bit channel.side id) keys (nat_le circuit_limit (filled_slots s.circuits)) st asked found
+    open-by start s h chan id reply pad channel (id == 0) (is_id_taken s chan channel id) (has_peers_bit channel.side id) keys (nat_le start.circuits (filled_slots s.circuits)) st asked found
     (sym (taken-said start s h st chan id channel own.lane)) said
 
 pub open_kept : (start : Start) (s : State) (h : List Step) (chan id : ℕ) (reply : Cell) (keys : Option LayerKeys) (pad : Option (List ℕ)) → IsReply reply keys → Stands start s h →
-    Stands start (open_state s chan id reply keys) (OpenCircuit (chan_no chan) id reply keys pad (open_result s chan id keys) ∷ h)
+    Stands start (open_state start.circuits s chan id reply keys) (OpenCircuit (chan_no chan) id reply keys pad (open_result start.circuits s chan id keys) ∷ h)
 open_kept start s h chan id reply keys pad asked st = open-on start s h chan id reply keys pad (slot_at s.channels chan) st asked refl (open_said start s h chan id keys st)

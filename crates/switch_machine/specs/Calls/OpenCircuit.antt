@@ -7,7 +7,7 @@ use Rattle.tr_io.specs.declared.answers.OpenAnswer.{OpenAnswer}
 use Rattle.tr_io.specs.declared.answers.OpenAnswer.TheVariants.{Opened, Refused}
 use Rattle.tr_io.specs.declared.answers.OpenRefusal.{OpenRefusal}
 use Rattle.tr_io.specs.declared.names.Side.{Side}
-use Rattle.switch_model.specs.Limits.{circuit_limit, given_id_base}
+use Rattle.switch_model.specs.Limits.{given_id_base}
 use Rattle.switch_model.specs.Names.{circ_no, circuit_cell}
 use Rattle.switch_model.specs.History.Channels.{is_ours}
 use Rattle.switch_model.specs.Waiting.Lanes.{refusal_reason, with_refusal}
@@ -28,19 +28,20 @@ is_id_taken s chan channel id =
 abbrev pub has_peers_bit : Side → ℕ → Bool
 has_peers_bit side id = if is_ours side then not (nat_le given_id_base id) else nat_le given_id_base id
 
-abbrev pub open_result_on : State → ℕ → ℕ → Option LayerKeys → Option ChannelState → OpenAnswer
-open_result_on s chan id keys None = Refused OpenRefusal.NoChannel
-open_result_on s chan id keys (Some channel) =
+-- The answer on a channel, where so many circuits may be live.
+abbrev pub open_result_on : ℕ → State → ℕ → ℕ → Option LayerKeys → Option ChannelState → OpenAnswer
+open_result_on most s chan id keys None = Refused OpenRefusal.NoChannel
+open_result_on most s chan id keys (Some channel) =
     if id == 0 then Refused OpenRefusal.BadId
     else if is_id_taken s chan channel id then Refused OpenRefusal.InUse
     else if not (has_peers_bit channel.side id) then Refused OpenRefusal.BadId
     else if is_none keys then Refused OpenRefusal.BadHandshake
-    else if nat_le circuit_limit (filled_slots s.circuits) then Refused (OpenRefusal.Full circuit_limit)
+    else if nat_le most (filled_slots s.circuits) then Refused (OpenRefusal.Full most)
     else Opened (circ_no (length s.circuits))
 
 -- The answer, with its refusals in order.
-abbrev pub open_result : State → ℕ → ℕ → Option LayerKeys → OpenAnswer
-open_result s chan id keys = open_result_on s chan id keys (slot_at s.channels chan)
+abbrev pub open_result : ℕ → State → ℕ → ℕ → Option LayerKeys → OpenAnswer
+open_result most s chan id keys = open_result_on most s chan id keys (slot_at s.channels chan)
 
 -- A direction that was given no bodies.
 abbrev pub no_bodies : WayState
@@ -80,6 +81,6 @@ open_state_by s chan id reply keys (Some channel) (Opened n) = with_circuit s ch
 open_state_by s chan id reply keys channel answer = counted s
 
 -- The state behind an opening.
-abbrev pub open_state : State → ℕ → ℕ → Cell → Option LayerKeys → State
-open_state s chan id reply keys =
-    open_state_by s chan id reply keys (slot_at s.channels chan) (open_result s chan id keys)
+abbrev pub open_state : ℕ → State → ℕ → ℕ → Cell → Option LayerKeys → State
+open_state most s chan id reply keys =
+    open_state_by s chan id reply keys (slot_at s.channels chan) (open_result most s chan id keys)

@@ -7,7 +7,8 @@ use Rattle.tr_io.specs.declared.answers.OpenAnswer.{OpenAnswer}
 use Rattle.tr_io.specs.declared.answers.OpenAnswer.TheVariants.{Opened, Refused}
 use Rattle.tr_io.specs.declared.answers.OpenRefusal.{OpenRefusal}
 use Rattle.tr_io.specs.declared.step.Step.{Step}
-use Rattle.switch_model.specs.Limits.{circuit_limit, given_id_base}
+use Rattle.switch_model.specs.Start.{Start}
+use Rattle.switch_model.specs.Limits.{given_id_base}
 use Rattle.switch_model.specs.Names.{circ_no}
 use Rattle.switch_model.specs.History.Channels.{Channel, channel_at, is_live_channel, opened_by_us, count_below}
 use Rattle.switch_model.specs.History.Legs.{circuits, at}
@@ -29,12 +30,12 @@ is_peers_id channel id =
     if opened_by_us channel then not (nat_le given_id_base id) else nat_le given_id_base id
 
 -- An opening at a CircID, with the keys of its handshake where that was good.
-abbrev pub open_answer : Rules → List Step → ℕ → ℕ → Option LayerKeys → OpenAnswer
-open_answer rules h chan id keys =
+abbrev pub open_answer : Start → List Step → ℕ → ℕ → Option LayerKeys → OpenAnswer
+open_answer start h chan id keys =
     if not (is_live_channel h chan) then Refused OpenRefusal.NoChannel
     else if id == 0 then Refused OpenRefusal.BadId
-    else if is_in_use rules h chan id then Refused OpenRefusal.InUse
+    else if is_in_use start.rules h chan id then Refused OpenRefusal.InUse
     else if not (is_peers_id (channel_at h chan) id) then Refused OpenRefusal.BadId
     else if is_none keys then Refused OpenRefusal.BadHandshake
-    else if nat_le circuit_limit (live_circuits rules h) then Refused (OpenRefusal.Full circuit_limit)
+    else if nat_le start.circuits (live_circuits start.rules h) then Refused (OpenRefusal.Full start.circuits)
     else Opened (circ_no (circuits h))
