@@ -24,7 +24,7 @@ up_adds start old new slot side (UpAnswer.Up n) state answer = channel_up_adds s
 up_adds start old new slot side (UpAnswer.Full n) state answer = channel_up_adds start old new slot side (UpAnswer.Full n) state answer
 
 pub opening_adds : (start : Start) (old new : State) (chan : ChanNo) (id : ℕ) (reply : Cell) (keys : Option LayerKeys) (pad : Option (List ℕ)) (a : OpenAnswer) → is_var reply.body ≡ false → IfSome keys (λ _. IsTrue (opens_circuit reply.command)) →
-    OpenCase a (new ≡ old) (new ≡ open_state old chan.0 id reply keys) → OpenCase a ⊤ (a ≡ open_result old chan.0 id keys) →
+    OpenCase a (new ≡ old) (new ≡ open_state start.circuits old chan.0 id reply keys) → OpenCase a ⊤ (a ≡ open_result start.circuits old chan.0 id keys) →
     OpenCase a (new ≡ old) (Adds start old new (OpenCircuit chan id reply keys pad a))
 opening_adds start old new chan id reply keys pad OpenAnswer.Memory fixed command state answer = state
 opening_adds start old new chan id reply keys pad (OpenAnswer.Opened n) fixed command state answer =

@@ -41,6 +41,6 @@ pub refused_state : (s : State) (chan id : ℕ) (reply : Cell) (keys : Option La
 refused_state s chan id reply keys (Some channel) why = refl
 refused_state s chan id reply keys None why = refl
 
-pub opened_state : (s : State) (chan id : ℕ) (reply : Cell) (keys : Option LayerKeys) (x : Option ChannelState) (n : CircNo) → Opened n ≡ open_result_on s chan id keys x → open_state_by s chan id reply keys x (Opened n) ≡ with_circuit s chan id reply keys
-opened_state s chan id reply keys (Some channel) n answer = refl
-opened_state s chan id reply keys None n answer = cc
+pub opened_state : (most : ℕ) (s : State) (chan id : ℕ) (reply : Cell) (keys : Option LayerKeys) (x : Option ChannelState) (n : CircNo) → Opened n ≡ open_result_on most s chan id keys x → open_state_by s chan id reply keys x (Opened n) ≡ with_circuit s chan id reply keys
+opened_state most s chan id reply keys (Some channel) n answer = refl
+opened_state most s chan id reply keys None n answer = cc

@@ -16,7 +16,6 @@ use Rattle.tr_io.specs.declared.step.Step.TheVariants.{ChannelUp, OpenCircuit, N
 use Rattle.switch_model.specs.Start.{Start}
 use Rattle.switch_model.specs.History.Legs.{circuits}
 use Rattle.switch_model.specs.History.Past.{past}
-use Rattle.switch_model.specs.Limits.{circuit_limit}
 use Rattle.switch_model.specs.Names.{circ_no, circuit_cell}
 use Rattle.switch_machine.specs.State.{ChannelState, State, slot_at}
 use Rattle.switch_machine.specs.Machine.{new_state, filled_slots}
@@ -115,9 +114,9 @@ refused-anyway false true c x y z w n is = cc
 refused-anyway false false true x y z w n is = cc
 refused-anyway false false false x y z w n is = cc
 
-keyless : (s : State) (chan id : ℕ) (channel : Option ChannelState) (n : CircNo) → OpenAnswer.Opened n ≡ open_result_on s chan id None channel → ⊥
-keyless s chan id None n is = cc
-keyless s chan id (Some channel) n is =
+keyless : (most : ℕ) (s : State) (chan id : ℕ) (channel : Option ChannelState) (n : CircNo) → OpenAnswer.Opened n ≡ open_result_on most s chan id None channel → ⊥
+keyless most s chan id None n is = cc
+keyless most s chan id (Some channel) n is =
     refused-anyway (id == 0) (is_id_taken s chan channel id) (not (has_peers_bit channel.side id)) OpenRefusal.BadId OpenRefusal.InUse OpenRefusal.BadId OpenRefusal.BadHandshake n is
 
 opened-number-by : (a b c d : Bool) (x y z v : OpenRefusal) (m : CircNo) (n : CircNo) →
@@ -128,22 +127,22 @@ opened-number-by false false true d x y z v m n is = absurd cc
 opened-number-by false false false true x y z v m n is = absurd cc
 opened-number-by false false false false x y z v m n is = cc
 
-opened-number : (s : State) (chan id : ℕ) (keys : LayerKeys) (channel : Option ChannelState) (n : CircNo) → OpenAnswer.Opened n ≡ open_result_on s chan id (Some keys) channel → n.0 ≡ length s.circuits
-opened-number s chan id keys None n is = absurd cc
-opened-number s chan id keys (Some channel) n is =
+opened-number : (most : ℕ) (s : State) (chan id : ℕ) (keys : LayerKeys) (channel : Option ChannelState) (n : CircNo) → OpenAnswer.Opened n ≡ open_result_on most s chan id (Some keys) channel → n.0 ≡ length s.circuits
+opened-number most s chan id keys None n is = absurd cc
+opened-number most s chan id keys (Some channel) n is =
     ap (λ (m : CircNo). m.0)
-    (opened-number-by (id == 0) (is_id_taken s chan channel id) (not (has_peers_bit channel.side id)) (nat_le circuit_limit (filled_slots s.circuits))
-    OpenRefusal.BadId OpenRefusal.InUse OpenRefusal.BadId (OpenRefusal.Full circuit_limit) (circ_no (length s.circuits)) n is)
+    (opened-number-by (id == 0) (is_id_taken s chan channel id) (not (has_peers_bit channel.side id)) (nat_le most (filled_slots s.circuits))
+    OpenRefusal.BadId OpenRefusal.InUse OpenRefusal.BadId (OpenRefusal.Full most) (circ_no (length s.circuits)) n is)
 
 opened-adds : (start : Start) (old new : State) (relays after : List (Option Relay)) (chan : ChanNo) (id : ℕ) (reply : Cell) (keys : LayerKeys) (pad : Option (List ℕ)) (n : CircNo) →
-    OpenAnswer.Opened n ≡ open_result old chan.0 id (Some keys) → OneRelayMore keys pad start.rules relays after → Adds start old new (OpenCircuit chan id reply (Some keys) pad (OpenAnswer.Opened n)) →
+    OpenAnswer.Opened n ≡ open_result start.circuits old chan.0 id (Some keys) → OneRelayMore keys pad start.rules relays after → Adds start old new (OpenCircuit chan id reply (Some keys) pad (OpenAnswer.Opened n)) →
     SwitchAdds (started start old relays) (started start new after) (OpenCircuit chan id reply (Some keys) pad (OpenAnswer.Opened n))
 unfolding Adds SwitchAdds
 opened-adds start old new relays after chan id reply keys pad n answer more adds = record {
   start = refl;
   steps = adds.steps;
   stands = λ h st.
-      let number : n.0 ≡ length old.circuits = opened-number old chan.0 id keys (slot_at old.channels chan.0) n answer in
+      let number : n.0 ≡ length old.circuits = opened-number start.circuits old chan.0 id keys (slot_at old.channels chan.0) n answer in
       record {
         state = adds.stands h st.state;
         relays =
@@ -156,13 +155,13 @@ opened-adds start old new relays after chan id reply keys pad n answer more adds
 }
 
 by-keys : (start : Start) (old new : State) (relays after : List (Option Relay)) (chan : ChanNo) (id : ℕ) (reply : Cell) (keys : Option LayerKeys) (pad : Option (List ℕ)) (n : CircNo) →
-    OpenAnswer.Opened n ≡ open_result old chan.0 id keys → KeepsBy (OpenAnswer.Opened n) keys pad start.rules relays after → Adds start old new (OpenCircuit chan id reply keys pad (OpenAnswer.Opened n)) →
+    OpenAnswer.Opened n ≡ open_result start.circuits old chan.0 id keys → KeepsBy (OpenAnswer.Opened n) keys pad start.rules relays after → Adds start old new (OpenCircuit chan id reply keys pad (OpenAnswer.Opened n)) →
     SwitchAdds (started start old relays) (started start new after) (OpenCircuit chan id reply keys pad (OpenAnswer.Opened n))
-by-keys start old new relays after chan id reply None pad n answer more adds = absurd (keyless old chan.0 id (slot_at old.channels chan.0) n answer)
+by-keys start old new relays after chan id reply None pad n answer more adds = absurd (keyless start.circuits old chan.0 id (slot_at old.channels chan.0) n answer)
 by-keys start old new relays after chan id reply (Some keys) pad n answer more adds = opened-adds start old new relays after chan id reply keys pad n answer more adds
 
 pub opening_whole : (start : Start) (old new : State) (relays after : List (Option Relay)) (chan : ChanNo) (id : ℕ) (reply : Cell) (keys : Option LayerKeys) (pad : Option (List ℕ)) (a : OpenAnswer) → is_var reply.body ≡ false → IfSome keys (λ _. IsTrue (opens_circuit reply.command)) →
-    OpenCase a (new ≡ old) (new ≡ open_state old chan.0 id reply keys) → OpenCase a ⊤ (a ≡ open_result old chan.0 id keys) → KeepsBy a keys pad start.rules relays after →
+    OpenCase a (new ≡ old) (new ≡ open_state start.circuits old chan.0 id reply keys) → OpenCase a ⊤ (a ≡ open_result start.circuits old chan.0 id keys) → KeepsBy a keys pad start.rules relays after →
     OpenCase a (started start new after ≡ started start old relays) (SwitchAdds (started start old relays) (started start new after) (OpenCircuit chan id reply keys pad a))
 opening_whole start old new relays after chan id reply keys pad OpenAnswer.Memory fixed command state answer same = rw (state, same) refl
 opening_whole start old new relays after chan id reply keys pad (OpenAnswer.Refused why) fixed command state answer same =

@@ -21,8 +21,8 @@ use Rattle.switch_core.specs.Ordering.{OrdersState, RoomyOrders}
 use Rattle.switch_core.specs.declared.counters.Counters.{Counters}
 
 -- What a switch was made with.
-abbrev pub start_of : ℕ → RuleList → Start
-start_of name rules = record { name = name; rules = rules_of rules }
+abbrev pub start_of : ℕ → RuleList → ℕ → Start
+start_of name rules circuits = record { name = name; rules = rules_of rules; circuits = circuits }
 
 -- A channel that a peer's connection brought up, or one of ours by a slot's number: it leads to no
 -- known address, and no CircID was given out on it.

@@ -14,11 +14,13 @@ use hop_handshake::Opening;
 use tr_io::answers::{BackAnswer, OpenAnswer, TakeAnswer};
 use tr_io::names::{ChanNo, CircNo};
 
-/// Opens a circuit, or refuses to; an opened circuit's relay is kept under its number.
+/// Opens a circuit, or refuses to, where at most `most` may be live; an opened circuit's relay is kept under its
+/// number.
 pub fn open_with_relay(
     parts: &mut Parts,
     relays: &mut Vec<Option<Relay>>,
     rules: &Rules,
+    most: u32,
     chan: ChanNo,
     id: u32,
     opening: &Opening,
@@ -26,14 +28,14 @@ pub fn open_with_relay(
     requires steps { parts.old.steps < 2 ^ 62 }
     requires fixed { is_var opening.now.reply.body ≡ false }
     requires command { IfSome opening.now.keys (λ _. IsTrue (opens_circuit opening.now.reply.command)) }
-    ensures state { OpenCase result (parts.new ≡ parts.old) (parts.new ≡ open_state parts.old chan.0 id opening.now.reply opening.now.keys) }
-    ensures answer { OpenCase result ⊤ (result ≡ open_result parts.old chan.0 id opening.now.keys) }
+    ensures state { OpenCase result (parts.new ≡ parts.old) (parts.new ≡ open_state most parts.old chan.0 id opening.now.reply opening.now.keys) }
+    ensures answer { OpenCase result ⊤ (result ≡ open_result most parts.old chan.0 id opening.now.keys) }
     ensures relays { KeepsBy result opening.now.keys opening.now.pad (rules_of rules.now) relays.old.items relays.new.items }
 {
     if relays.reserve(1).is_err() {
         return OpenAnswer::Memory;
     }
-    let answer = parts.open_circuit(chan, id, opening);
+    let answer = parts.open_circuit(most, chan, id, opening);
     let OpenAnswer::Opened(number) = answer else {
         return answer;
     };

@@ -25,9 +25,6 @@ const MOST_CHANNELS: u32 = 64;
 /// How many cells a direction of a circuit holds at most.
 pub(crate) const MOST_BODIES: usize = 1500;
 
-/// How many circuits may be live.
-const MOST_CIRCUITS: u32 = 512;
-
 /// The channels and circuits of a switch, each list by number. No channel is gone yet.
 #[derive(Drop)]
 pub struct Parts {
@@ -50,15 +47,15 @@ impl Model for Parts {
 
 #[tactic(auto, using(crate::proofs::Plain::plain_lists))]
 impl Parts {
-    /// A switch without channels and circuits.
-    pub fn new(alloc: Global) -> Result<Parts, AllocError>
+    /// A switch without channels and circuits, with room for so many circuits.
+    pub fn new(alloc: Global, circuits: u32) -> Result<Parts, AllocError>
         ensures { IfOk result (λ p. p ≡ new_state) }
     {
         Ok(Parts {
             alloc,
             counters: Counters::new(),
             channels: Vec::with_capacity(alloc, MOST_CHANNELS as usize)?,
-            circuits: Vec::with_capacity(alloc, MOST_CIRCUITS as usize)?,
+            circuits: Vec::with_capacity(alloc, circuits as usize)?,
         })
     }
 

@@ -5,6 +5,7 @@ ghost use Rattle.circuit_model.specs.Events.{Event};
 ghost use Rattle.circuit_model.specs.Rules.{Rules as ModelRules};
 ghost use Rattle.tor_spec.specs.CellCommands.{opens_circuit};
 ghost use Rattle.tr_io.specs.declared.step.Step.TheVariants.{ChannelUp, OpenCircuit, NextCell, Take, TearDown};
+ghost use Rattle.switch_model.specs.Limits.{circuit_limit};
 ghost use Rattle.switch_machine.specs.Adds.{Adds, UpCase, OpenCase};
 ghost use Rattle.switch_machine.specs.Machine.{new_state};
 ghost use Rattle.switch_machine.specs.Calls.ChannelUp.{channel_up_result};
@@ -30,6 +31,9 @@ use std::marker::Model;
 use tr_io::answers::{BackAnswer, OpenAnswer, TakeAnswer, UpAnswer};
 use tr_io::names::{ChanNo, CircNo, Side};
 
+/// How many circuits may be live where no number is given.
+const MOST_CIRCUITS: u32 = 512;
+
 /// The switch of a relay.
 ///
 /// Contracts see what it was made with, the machine's state, and by circuit the one-thread relay and the
@@ -40,6 +44,8 @@ use tr_io::names::{ChanNo, CircNo, Side};
 pub struct Switch {
     name: u64,
     rules: Rules,
+    /// How many circuits may be live.
+    circuits: u32,
     parts: Parts,
     /// By circuit number.
     relays: Vec<Option<Relay>>,
@@ -51,27 +57,49 @@ impl Model for Switch {
 
     ghost Value = { Started };
 
-    ghost view = { λ s. record { start = start_of s.name s.rules; state = s.parts; relays = s.relays.items } };
+    ghost view = { λ s. record { start = start_of s.name s.rules s.circuits; state = s.parts; relays = s.relays.items } };
 
-    ghost invariant = { λ s. SwitchStandsForSome (record { start = start_of s.name s.rules; state = s.parts; relays = s.relays.items }) };
+    ghost invariant = { λ s. SwitchStandsForSome (record { start = start_of s.name s.rules s.circuits; state = s.parts; relays = s.relays.items }) };
 }
 
 #[tactic(auto, using(switch_machine::proofs::Laws::channel_up_adds, switch_machine::proofs::Laws::open_adds, switch_machine::proofs::Laws::next_cell_adds, crate::proofs::Whole::new_whole, crate::proofs::History::up_adds, crate::proofs::History::opening_adds, crate::proofs::History::up_steps, crate::proofs::History::opening_steps, crate::proofs::History::next_steps))]
 impl Switch {
-    /// A switch with no channel and no circuit. Its name tells its jobs from another switch's.
+    /// A switch with no channel and no circuit, for 512 live circuits at most. Its name tells its jobs
+    /// from another switch's.
     ///
     /// # Errors
     ///
     /// [`AllocError`] where memory is wanting.
     pub fn new(alloc: Global, name: u64, rules: Rules) -> Result<Switch, AllocError>
-        ensures start { IfOk result (λ s. s.start ≡ start_of name rules) }
+        ensures start { IfOk result (λ s. s.start ≡ start_of name rules circuit_limit) }
+        ensures state { IfOk result (λ s. s.state ≡ new_state) }
+        ensures relays { IfOk result (λ s. s.relays ≡ []) }
+    {
+        Switch::sized(alloc, name, rules, MOST_CIRCUITS)
+    }
+
+    /// The same with so many circuits that may be live, 1 to 512.
+    ///
+    /// # Errors
+    ///
+    /// [`AllocError`] where memory is wanting.
+    pub fn sized(
+        alloc: Global,
+        name: u64,
+        rules: Rules,
+        circuits: u32,
+    ) -> Result<Switch, AllocError>
+        requires some { 1 ≤ circuits }
+        requires within { circuits ≤ circuit_limit }
+        ensures start { IfOk result (λ s. s.start ≡ start_of name rules circuits) }
         ensures state { IfOk result (λ s. s.state ≡ new_state) }
         ensures relays { IfOk result (λ s. s.relays ≡ []) }
     {
         Ok(Switch {
             name,
             rules,
-            parts: Parts::new(alloc)?,
+            circuits,
+            parts: Parts::new(alloc, circuits)?,
             relays: Vec::new(alloc),
         })
     }
@@ -106,13 +134,14 @@ impl Switch {
         ensures start { self.new.start ≡ self.old.start }
         ensures history { OpenCase result (self.new.state ≡ self.old.state) (Adds self.old.start self.old.state self.new.state (OpenCircuit chan id opening.now.reply opening.now.keys opening.now.pad result)) }
         ensures steps { self.new.state.steps ≤ self.old.state.steps + 1 }
-        ensures answer { OpenCase result ⊤ (result ≡ open_result self.old.state chan.0 id opening.now.keys) }
+        ensures answer { OpenCase result ⊤ (result ≡ open_result self.old.start.circuits self.old.state chan.0 id opening.now.keys) }
         ensures whole { OpenCase result (self.new ≡ self.old) (SwitchAdds self.old self.new (OpenCircuit chan id opening.now.reply opening.now.keys opening.now.pad result)) }
     {
         open_with_relay(
             &mut self.parts,
             &mut self.relays,
             &self.rules,
+            self.circuits,
             chan,
             id,
             opening,

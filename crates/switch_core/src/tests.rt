@@ -4,6 +4,7 @@ ghost use Rattle.cell_codec.specs.Cells.{is_var};
 ghost use Rattle.tor_spec.specs.CellCommands.{asks_for_circuit, opens_circuit};
 
 mod claims;
+mod filling;
 mod homecoming;
 mod returns;
 mod taking;

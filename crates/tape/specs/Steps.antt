@@ -3,6 +3,7 @@ use Rattle.std.specs.Prelude.{◌≡◌, ℕ, List, [], ◌∷◌, ◌++◌}
 use Rattle.circuit_model.specs.Rules.{Rules}
 use Rattle.tr_io.specs.declared.step.Step.{Step}
 use Rattle.tr_io.specs.declared.step.Step.TheVariants as Steps
+use Rattle.switch_model.specs.Limits.{circuit_limit}
 use Rattle.switch_model.specs.Start.{Start}
 use Rattle.switch_model.specs.Answers.ChannelUp.{channel_up_answer}
 use Rattle.switch_model.specs.Answers.OpenCircuit.{open_answer}
@@ -21,14 +22,14 @@ use Rattle.tape.specs.Kinds.TearDown.{tear_down_bytes}
 
 -- The switch that a tape is played on: its name is 0.
 abbrev pub tape_start : Rules → Start
-tape_start rules = record { name = 0; rules = rules }
+tape_start rules = record { name = 0; rules = rules; circuits = circuit_limit }
 
 -- The step that a record makes behind these steps, newest first: its call with the right answer.
 abbrev pub step_of : Rules → List Step → Record → Step
 step_of rules h (ChannelUp slot side) = Steps.ChannelUp slot side (channel_up_answer h)
 step_of rules h (OpenCircuit chan y pad request) =
     Steps.OpenCircuit chan request.id (opening_for request y pad).reply (opening_for request y pad).keys (opening_for request y pad).pad
-    (open_answer rules h chan.0 request.id (opening_for request y pad).keys)
+    (open_answer (tape_start rules) h chan.0 request.id (opening_for request y pad).keys)
 step_of rules h (Take chan cell) = Steps.Take chan cell (take_answer rules h chan.0 cell)
 step_of rules h (NextCell chan tick) = Steps.NextCell chan tick (next_cell_answer rules h chan.0 tick)
 step_of rules h (TearDown circ reason) = Steps.TearDown circ reason (tear_down_answer rules h circ.0 reason)
@@ -37,7 +38,7 @@ step_of rules h (TearDown circ reason) = Steps.TearDown circ reason (tear_down_a
 abbrev pub answer_of : Rules → List Step → Record → List ℕ
 answer_of rules h (ChannelUp slot side) = up_bytes (channel_up_answer h)
 answer_of rules h (OpenCircuit chan y pad request) =
-    open_bytes (opening_kind pad) (open_answer rules h chan.0 request.id (opening_for request y pad).keys)
+    open_bytes (opening_kind pad) (open_answer (tape_start rules) h chan.0 request.id (opening_for request y pad).keys)
 answer_of rules h (Take chan cell) = take_bytes (take_answer rules h chan.0 cell)
 answer_of rules h (NextCell chan tick) = next_bytes (next_cell_answer rules h chan.0 tick)
 answer_of rules h (TearDown circ reason) = tear_down_bytes (tear_down_answer rules h circ.0 reason)

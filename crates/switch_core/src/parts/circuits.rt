@@ -12,7 +12,7 @@ ghost use Rattle.switch_core.specs.Meaning.{refused_on};
 use crate::channel::Channel;
 use crate::circuit::Circuit;
 use crate::leg::Leg;
-use crate::parts::{MOST_CIRCUITS, Parts};
+use crate::parts::Parts;
 use crate::slot::slot_has_port;
 use hop_handshake::Opening;
 use kdf_tor::LayerKeys;
@@ -22,15 +22,21 @@ use tr_io::names::{ChanNo, CircNo};
 
 #[tactic(auto, using(crate::proofs::Plain::plain_lists, crate::proofs::Plain::there, crate::proofs::Plain::beyond, crate::proofs::Plain::refused_state, crate::proofs::Plain::opened_state))]
 impl Parts {
-    /// Opens a circuit, or refuses to.
-    pub fn open_circuit(&mut self, chan: ChanNo, id: u32, opening: &Opening) -> OpenAnswer
+    /// Opens a circuit, or refuses to, where at most `most` may be live.
+    pub fn open_circuit(
+        &mut self,
+        most: u32,
+        chan: ChanNo,
+        id: u32,
+        opening: &Opening,
+    ) -> OpenAnswer
         requires steps { self.old.steps < 2 ^ 62 }
         requires fixed { is_var opening.now.reply.body ≡ false }
         requires command { IfSome opening.now.keys (λ _. IsTrue (opens_circuit opening.now.reply.command)) }
-        ensures state { OpenCase result (self.new ≡ self.old) (self.new ≡ open_state self.old chan.0 id opening.now.reply opening.now.keys) }
-        ensures answer { OpenCase result ⊤ (result ≡ open_result self.old chan.0 id opening.now.keys) }
+        ensures state { OpenCase result (self.new ≡ self.old) (self.new ≡ open_state most self.old chan.0 id opening.now.reply opening.now.keys) }
+        ensures answer { OpenCase result ⊤ (result ≡ open_result most self.old chan.0 id opening.now.keys) }
     {
-        let answer = self.open_answer(chan, id, &opening.keys);
+        let answer = self.open_answer(most, chan, id, &opening.keys);
         let made = match answer {
             OpenAnswer::Refused(why) => self.refuse(chan, id, why),
             OpenAnswer::Opened(_) => self.add_circuit(chan, id, opening),
@@ -43,11 +49,11 @@ impl Parts {
     }
 
     /// The answer to an opening.
-    fn open_answer(&self, chan: ChanNo, id: u32, keys: &Option<LayerKeys>) -> OpenAnswer
-        ensures { result ≡ open_result self.now chan.0 id keys.now }
+    fn open_answer(&self, most: u32, chan: ChanNo, id: u32, keys: &Option<LayerKeys>) -> OpenAnswer
+        ensures { result ≡ open_result most self.now chan.0 id keys.now }
     {
         match self.channel(chan) {
-            Some(channel) => self.open_answer_on(channel, chan, id, keys),
+            Some(channel) => self.open_answer_on(most, channel, chan, id, keys),
             None => OpenAnswer::Refused(OpenRefusal::NoChannel),
         }
     }
@@ -55,12 +61,13 @@ impl Parts {
     /// The answer to an opening on a live channel.
     fn open_answer_on(
         &self,
+        most: u32,
         channel: &Channel,
         chan: ChanNo,
         id: u32,
         keys: &Option<LayerKeys>,
     ) -> OpenAnswer
-        ensures { result ≡ open_result_on self.now chan.0 id keys.now (Some channel.now) }
+        ensures { result ≡ open_result_on most self.now chan.0 id keys.now (Some channel.now) }
     {
         if id == 0 {
             return OpenAnswer::Refused(OpenRefusal::BadId);
@@ -74,8 +81,8 @@ impl Parts {
         if keys.is_none() {
             return OpenAnswer::Refused(OpenRefusal::BadHandshake);
         }
-        if self.live_circuits() >= MOST_CIRCUITS as usize {
-            return OpenAnswer::Refused(OpenRefusal::Full(MOST_CIRCUITS));
+        if self.live_circuits() >= most as usize {
+            return OpenAnswer::Refused(OpenRefusal::Full(most));
         }
         OpenAnswer::Opened(CircNo(self.circuits.len() as u64))
     }

@@ -11,7 +11,7 @@ use Rattle.switch_core.proofs.switch.Switch.abandon.Goals as goal
 
 pub invariant_of-self : goal.invariant_of-self
 invariant_of-self c =
-    let start = start_of c.self.inside.name c.self.inside.rules in
+    let start = start_of c.self.inside.name c.self.inside.rules c.self.inside.circuits in
     let after = c.forget_torn.new.relays.items in
     let note = c.apart-cipher.result.note in
     let place = c.first_difference-place.result in
@@ -21,7 +21,7 @@ invariant_of-self c =
 
 pub returns-clause-whole : goal.returns-clause-whole
 returns-clause-whole c =
-    let start = start_of c.self.inside.name c.self.inside.rules in
+    let start = start_of c.self.inside.name c.self.inside.rules c.self.inside.circuits in
     let after = c.forget_torn.new.relays.items in
     let new : Started = started start c.abandon-answer.new.self after in
     let place = c.first_difference-place.result in
@@ -37,7 +37,7 @@ returns-clause-steps c = (returns-clause-whole c).fact.steps
 
 pub returns-clause-refused : goal.returns-clause-refused
 returns-clause-refused c =
-    let start = start_of c.self.inside.name c.self.inside.rules in
+    let start = start_of c.self.inside.name c.self.inside.rules c.self.inside.circuits in
     let after = c.forget_torn.new.relays.items in
     let new : Started = started start c.abandon-answer.new.self after in
     subst (λ (old : Started). RefusedCase c.abandon-answer.result (new ≡ record old { state = counted old.state })) c.self.view_is

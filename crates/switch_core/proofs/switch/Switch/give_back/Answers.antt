@@ -10,7 +10,7 @@ use Rattle.switch_core.proofs.switch.Switch.give_back.Goals as goal
 
 pub invariant_of-self : goal.invariant_of-self
 invariant_of-self c =
-    let start = start_of c.self.inside.name c.self.inside.rules in
+    let start = start_of c.self.inside.name c.self.inside.rules c.self.inside.circuits in
     let note = c.apart-start.result.note in
     let place = c.first_difference-place.result in
     whole_stays (started start c.self.inside.parts c.self.inside.relays.items) (started start c.refuse_return.new.self c.self.inside.relays.items) (GiveBack note place c.in-Some.answer)
@@ -18,7 +18,7 @@ invariant_of-self c =
 
 pub returns-in-Some-clause-whole : goal.returns-in-Some-clause-whole
 returns-in-Some-clause-whole c =
-    let start = start_of c.self.inside.name c.self.inside.rules in
+    let start = start_of c.self.inside.name c.self.inside.rules c.self.inside.circuits in
     let old : Started = started start c.self.inside.parts c.self.inside.relays.items in
     let new : Started = started start c.refuse_return.new.self c.self.inside.relays.items in
     let a = c.in-Some.answer in
@@ -29,7 +29,7 @@ returns-in-Some-clause-whole c =
 
 pub invariant_of-self-in-Forth : goal.invariant_of-self-in-Forth
 invariant_of-self-in-Forth c =
-    let start = start_of c.self.inside.name c.self.inside.rules in
+    let start = start_of c.self.inside.name c.self.inside.rules c.self.inside.circuits in
     let done = c.apart-start.result in
     let place = c.first_difference-place.result in
     let a = c.settle_home.result in
@@ -40,7 +40,7 @@ invariant_of-self-in-Forth c =
 
 pub returns-in-Forth-clause-whole : goal.returns-in-Forth-clause-whole
 returns-in-Forth-clause-whole c =
-    let start = start_of c.self.inside.name c.self.inside.rules in
+    let start = start_of c.self.inside.name c.self.inside.rules c.self.inside.circuits in
     let old : Started = started start c.self.inside.parts c.self.inside.relays.items in
     let new : Started = started start c.settle_home.new.parts c.settle_home.new.relays.items in
     let done = c.apart-start.result in
@@ -53,13 +53,13 @@ returns-in-Forth-clause-whole c =
 
 pub returns-in-Forth-clause-refused : goal.returns-in-Forth-clause-refused
 returns-in-Forth-clause-refused c =
-    let start = start_of c.self.inside.name c.self.inside.rules in
+    let start = start_of c.self.inside.name c.self.inside.rules c.self.inside.circuits in
     forth_case start c.self.inside.parts c.refuse_return.new.self c.settle_home.new.parts c.self.inside.relays.items c.settle_home.new.relays.items c.apart-start.result c.as_slice.result.now c.as_slice-in-Forth.result.now c.first_difference-place.result c.settle_home.result _
     c.self.invariant c.apart-start.ensures.done c.apart-start.ensures.many c.as_slice.ensures c.first_difference-place.ensures (sym c.in_default.ensures.answer) c.in_default.ensures.state c.in-Forth.is c.as_slice-in-Forth.ensures c.settle_home.ensures.home
 
 pub invariant_of-self-in-Back : goal.invariant_of-self-in-Back
 invariant_of-self-in-Back c =
-    let start = start_of c.self.inside.name c.self.inside.rules in
+    let start = start_of c.self.inside.name c.self.inside.rules c.self.inside.circuits in
     let done = c.apart-start.result in
     let place = c.first_difference-place.result in
     whole_stays (started start c.self.inside.parts c.self.inside.relays.items) (started start c.seal_home.new.parts c.seal_home.new.relays.items) (GiveBack done.note place BackAnswer.Settled)
@@ -69,7 +69,7 @@ invariant_of-self-in-Back c =
 
 pub returns-clause-whole : goal.returns-clause-whole
 returns-clause-whole c =
-    let start = start_of c.self.inside.name c.self.inside.rules in
+    let start = start_of c.self.inside.name c.self.inside.rules c.self.inside.circuits in
     let old : Started = started start c.self.inside.parts c.self.inside.relays.items in
     let new : Started = started start c.seal_home.new.parts c.seal_home.new.relays.items in
     let done = c.apart-start.result in

@@ -9,7 +9,7 @@ use Rattle.switch_core.proofs.switch.Switch.take.Goals as goal
 
 pub invariant_of-self : goal.invariant_of-self
 invariant_of-self c =
-    let start = start_of c.self.inside.name c.self.inside.rules in
+    let start = start_of c.self.inside.name c.self.inside.rules c.self.inside.circuits in
     let after = c.forget_taken.new.relays.items in
     take_goes_on (started start c.self.inside.parts c.self.inside.relays.items) (started start c.take-answer.new.self after) c.args.chan c.args.cell.now c.take-answer.result
     (take_case start c.self.inside.parts c.take-answer.new.self c.self.inside.relays.items after c.args.chan c.args.cell.now c.take-answer.result c.requires.formed c.take-answer.ensures.state c.take-answer.ensures.answer c.take-answer.ensures.leg c.forget_taken.ensures)
@@ -17,7 +17,7 @@ invariant_of-self c =
 
 pub returns-clause-whole : goal.returns-clause-whole
 returns-clause-whole c =
-    let start = start_of c.self.inside.name c.self.inside.rules in
+    let start = start_of c.self.inside.name c.self.inside.rules c.self.inside.circuits in
     let after = c.forget_taken.new.relays.items in
     let new : Started = started start c.take-answer.new.self after in
     subst (λ (old : Started). TakeCase c.take-answer.result (new ≡ old) (SwitchAdds old new (Take c.args.chan c.args.cell.now c.take-answer.result))) c.self.view_is
