@@ -28,7 +28,7 @@ use Rattle.switch_model.proofs.Common.{self_eq, or-first, or-second, and-first, 
 
 -- The dial orders that were made are numbered in turn.
 
-abbrev NumberedFrom : ℕ → List Dial → Type 0
+abbrev pub NumberedFrom : ℕ → List Dial → Type 0
 NumberedFrom n [] = ⊤
 NumberedFrom n (dial ∷ dials) = (dial.order ≡ n) × NumberedFrom (n + 1) dials
 
@@ -40,7 +40,7 @@ numbered-new : (n c : ℕ) (to : List Address) → NumberedFrom n (numbered n c 
 numbered-new n c [] = tt
 numbered-new n c (first ∷ more) = (refl, numbered-new (n + 1) c more)
 
-made-numbered : (rules : Rules) (h : List Step) → NumberedFrom 0 (dials_made rules h)
+pub made-numbered : (rules : Rules) (h : List Step) → NumberedFrom 0 (dials_made rules h)
 made-numbered rules [] = tt
 made-numbered rules (GiveBack note place answer ∷ h) =
     numbered-both 0 (length (dials_made rules h)) (dials_made rules h) _ (omega arith) (made-numbered rules h) (numbered-new (length (dials_made rules h)) note.circ.0 _)
@@ -48,11 +48,11 @@ made-numbered rules (s ∷ h) = made-numbered rules h
 
 -- So an order that is a circuit's last is the last of the circuit's.
 
-abbrev IsIn : Dial → List Dial → Type 0
+abbrev pub IsIn : Dial → List Dial → Type 0
 IsIn dial [] = ⊥
 IsIn dial (first ∷ dials) = (first ≡ dial) ⊎ IsIn dial dials
 
-behind : (n : ℕ) (dials : List Dial) (dial : Dial) → NumberedFrom n dials → IsIn dial dials → n ≤ dial.order
+pub behind : (n : ℕ) (dials : List Dial) (dial : Dial) → NumberedFrom n dials → IsIn dial dials → n ≤ dial.order
 behind n (first ∷ dials) dial numbers (inl same) = let e : dial.order ≡ n = ap (λ (d : Dial). d.order) (sym same) ∙ numbers.0 in omega (arith, e)
 behind n (first ∷ dials) dial numbers (inr inside) = let later = behind (n + 1) dials dial numbers.1 inside in omega (arith, later)
 behind n [] dial numbers inside = absurd inside
@@ -83,7 +83,7 @@ last-by n first dials dial false is number numbers (inl same) later last =
 last-by n first dials dial false is number numbers (inr inside) later last =
     last-if (is_from dial.circ first) first dial (filter (is_from dial.circ) dials) (later inside last)
 
-last-of-circuit : (n : ℕ) (dials : List Dial) (dial : Dial) → NumberedFrom n dials → IsIn dial dials → is_last dials dial ≡ true → last_of (filter (is_from dial.circ) dials) ≡ Some dial
+pub last-of-circuit : (n : ℕ) (dials : List Dial) (dial : Dial) → NumberedFrom n dials → IsIn dial dials → is_last dials dial ≡ true → last_of (filter (is_from dial.circ) dials) ≡ Some dial
 last-of-circuit n [] dial numbers inside last = absurd inside
 last-of-circuit n (first ∷ dials) dial numbers inside last = last-by n first dials dial (first.order == dial.order) refl numbers.0 numbers.1 inside (last-of-circuit (n + 1) dials dial numbers.1) last
 

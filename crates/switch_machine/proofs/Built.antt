@@ -10,7 +10,7 @@ use Rattle.tr_io.specs.declared.names.CircNo.{CircNo}
 use Rattle.tr_io.specs.declared.names.ClaimNote.{ClaimNote}
 use Rattle.tr_io.specs.declared.names.Side.{Side}
 use Rattle.tr_io.specs.declared.step.Step.{Step}
-use Rattle.tr_io.specs.declared.step.Step.TheVariants.{ChannelUp, OpenCircuit, NextCell, TearDown, GiveBack, Abandon, Claim, Take}
+use Rattle.tr_io.specs.declared.step.Step.TheVariants.{ChannelUp, OpenCircuit, NextCell, TearDown, GiveBack, Abandon, Claim, Take, DialOrder}
 use Rattle.switch_model.specs.Start.{Start}
 use Rattle.switch_model.specs.History.Circuit.{events}
 use Rattle.switch_model.specs.Legal.{IsLegal}
@@ -35,6 +35,10 @@ use Rattle.switch_machine.proofs.Claim.Kept.{claim_kept}
 use Rattle.tr_io.specs.declared.answers.TakeAnswer.{TakeAnswer}
 use Rattle.switch_machine.specs.Calls.Take.{take_result, take_state}
 use Rattle.switch_machine.proofs.Take.Kept.{take_kept}
+use Rattle.tr_io.specs.declared.dials.DialStep.{DialStep}
+use Rattle.switch_machine.specs.Calls.DialOrder.{dial_order_state}
+use Rattle.switch_machine.proofs.DialOrder.Kept.{dial_order_kept}
+use Rattle.switch_machine.proofs.DialOrder.Each.{order-each}
 
 -- a step is known by its answer, and the state's answer is that of the history
 with-up : (start : Start) (h : List Step) (slot : ℕ) (side : Side) (a : UpAnswer) (s : State) → IsLegal start (ChannelUp slot side a ∷ h) → Stands start s h → StandsForSomeState start (ChannelUp slot side a ∷ h)
@@ -87,6 +91,16 @@ with-taken start h chan cell a s legal st =
       stands = subst (λ b. Stands start (take_state start.rules (events start.rules h) s chan.0 cell) (Take chan cell b ∷ h)) (kept.steps.legal.0.1 ∙ sym legal.0.1) kept;
     }
 
+with-order : (start : Start) (h : List Step) (a : Option DialStep) (s : State) → IsLegal start (DialOrder a ∷ h) →
+    Stands start s h → StandsForSomeState start (DialOrder a ∷ h)
+with-order start h a s legal st =
+    let each = order-each start s h a st legal.0.1 in
+    record {
+      state = dial_order_state each.state;
+      stands = subst (λ b. Stands start (dial_order_state each.state) (DialOrder b ∷ h)) each.answer
+          (dial_order_kept start each.state h each.stands);
+    }
+
 pub built_stands : (start : Start) (h : List Step) → HasMachine h → IsLegal start h → StandsForSomeState start h
 built_stands start [] built legal = record { state = _; stands = stands_empty start }
 built_stands start (ChannelUp slot side a ∷ h) built legal =
@@ -113,4 +127,7 @@ built_stands start (Claim worker a ∷ h) built legal =
 built_stands start (Take chan cell a ∷ h) built legal =
     let some = built_stands start h built legal.1 in
     with-taken start h chan cell a some.state legal some.stands
+built_stands start (DialOrder a ∷ h) built legal =
+    let some = built_stands start h built legal.1 in
+    with-order start h a some.state legal some.stands
 built_stands start (s ∷ h) built legal = absurd built

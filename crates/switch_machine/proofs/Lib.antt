@@ -22,5 +22,6 @@ pub mod Counting
 pub mod NextCell
 pub mod Laws
 pub mod Again
+pub mod DialOrder
 pub mod Built
 pub mod PlainLists

@@ -4,7 +4,7 @@ use Rattle.circuit_model.specs.Words.{in_order}
 use Rattle.tr_io.specs.declared.answers.OpenAnswer.{OpenAnswer}
 use Rattle.tr_io.specs.declared.answers.UpAnswer.{UpAnswer}
 use Rattle.tr_io.specs.declared.step.Step.{Step}
-use Rattle.tr_io.specs.declared.step.Step.TheVariants.{ChannelUp, OpenCircuit, NextCell, TearDown, GiveBack, Abandon, Claim, Take}
+use Rattle.tr_io.specs.declared.step.Step.TheVariants.{ChannelUp, OpenCircuit, NextCell, TearDown, GiveBack, Abandon, Claim, Take, DialOrder}
 use Rattle.switch_model.specs.Start.{Start}
 use Rattle.switch_machine.specs.State.{State}
 use Rattle.switch_machine.specs.Stands.{Stands}
@@ -47,6 +47,7 @@ HasMachine (GiveBack note place a ∷ h) = HasMachine h
 HasMachine (Abandon note place a ∷ h) = HasMachine h
 HasMachine (Claim worker a ∷ h) = HasMachine h
 HasMachine (Take chan cell a ∷ h) = HasMachine h
+HasMachine (DialOrder a ∷ h) = HasMachine h
 HasMachine (s ∷ h) = ⊥
 
 -- That the state stands for a history which is listed oldest first.

@@ -3,6 +3,7 @@
 pub mod ChannelUp
 pub mod OpenCircuit
 pub mod NextCell
+pub mod DialOrder
 pub mod DialMemory
 -- a circuit behind one more event
 pub mod Settling

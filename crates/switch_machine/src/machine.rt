@@ -8,7 +8,7 @@ ghost use Rattle.tr_io.specs.declared.names.CircNo.{CircNo};
 ghost use Rattle.tr_io.specs.declared.names.ClaimNote.{ClaimNote};
 ghost use Rattle.tr_io.specs.declared.names.Side.{Side};
 ghost use Rattle.tr_io.specs.declared.step.Step.{Step};
-ghost use Rattle.tr_io.specs.declared.step.Step.TheVariants.{ChannelUp, OpenCircuit, NextCell, TearDown, GiveBack, Abandon, Claim, Take};
+ghost use Rattle.tr_io.specs.declared.step.Step.TheVariants.{ChannelUp, OpenCircuit, NextCell, TearDown, GiveBack, Abandon, Claim, Take, DialOrder};
 ghost use Rattle.switch_model.specs.History.Circuit.{events};
 ghost use Rattle.switch_model.specs.Answers.ChannelUp.{channel_up_answer};
 ghost use Rattle.switch_model.specs.Answers.OpenCircuit.{open_answer};
@@ -29,8 +29,8 @@ ghost use Rattle.switch_machine.specs.Calls.Abandon.{abandon_result, abandon_sta
 ghost use Rattle.switch_machine.specs.Stands.{Stands};
 ghost use Rattle.switch_machine.specs.Adds.{Adds, AddsTo, HasMachine, StandsForSomeState};
 ghost use Rattle.switch_model.specs.Answers.DialDone.{is_out};
-ghost use Rattle.switch_machine.specs.Calls.DialMemory.{dial_memory_state};
-ghost use Rattle.switch_model.specs.Legal.{IsLegal};
+ghost use Rattle.switch_machine.specs.Calls.DialMemory.{dial_memory_state, dial_order_by};
+ghost use Rattle.switch_model.specs.Legal.{IsDialOrder, IsLegal};
 ghost use Rattle.tr_io.specs.declared.dials.DialStep.{DialStep};
 ghost use Rattle.switch_model.specs.Limits.{worker_limit};
 ghost use Rattle.switch_model.specs.Answers.Claim.{claim_answer};
@@ -38,6 +38,7 @@ ghost use Rattle.switch_machine.specs.Calls.Claim.{claim_result, claim_state};
 ghost use Rattle.cell_codec.specs.Cells.{IsWellFormed};
 ghost use Rattle.switch_model.specs.Answers.Take.{take_answer};
 ghost use Rattle.switch_machine.specs.Calls.Take.{take_result, take_state};
+ghost use Rattle.switch_machine.specs.Calls.DialOrder.{dial_order_result, dial_order_state};
 
 /// A new switch stands for the history without steps.
 pub fn a_new_switch_has_no_history()
@@ -122,6 +123,16 @@ pub fn take_is_one_step()
         AddsTo start h s t (Take chan cell (take_result start.rules (events start.rules h) s chan.0 cell)) }
     ensures answer { (start : Start) (s : State) (h : List Step) (chan : ℕ) (cell : Cell) → Stands start s h →
         take_result start.rules (events start.rules h) s chan cell ≡ take_answer start.rules h chan cell }
+{}
+
+/// A dial order that is handed out, or none, is one step. The order is a right one: the oldest that waits, or one
+/// that is out. Which of them it is depends on those that want of memory hands out again.
+#[tactic(auto, using(crate::proofs::DialOrder::Law::dial_order_adds, crate::proofs::DialOrder::Right::dial_order_right, crate::proofs::DialOrder::Said::dial_order_said))]
+pub fn dial_order_is_one_step()
+    ensures adds { (start : Start) (s t : State) → t ≡ dial_order_state s → Adds start s t (DialOrder (dial_order_result s)) }
+    ensures right { (start : Start) (s : State) (h : List Step) → Stands start s h → IsDialOrder start.rules h (dial_order_result s) }
+    ensures answer { (start : Start) (s : State) (h : List Step) → Stands start s h →
+        dial_order_result s ≡ dial_order_by start.rules h s.again }
 {}
 
 /// dial_done of an order that is out, where memory is wanting, is no step: the switch stands for the same

@@ -15,9 +15,9 @@ dial_memory_state s c =
     if is_among c s.again then s
     else record s { again = s.again ++ c ∷ [] }
 
--- What dial_order answers: the order of the first circuit whose order is handed out again, else the oldest
--- that waits.
-abbrev pub dial_order_result : Rules → List Step → List ℕ → Option DialStep
-dial_order_result rules h [] = dial_order_answer rules h
-dial_order_result rules h (c ∷ again) =
+-- What dial_order answers, by the history and the circuits whose order is handed out again: the order of the
+-- first of them, else the oldest that waits.
+abbrev pub dial_order_by : Rules → List Step → List ℕ → Option DialStep
+dial_order_by rules h [] = dial_order_answer rules h
+dial_order_by rules h (c ∷ again) =
     option_map (dial_step h) (find (λ dial. dial.circ == c) (dials_out rules h))
