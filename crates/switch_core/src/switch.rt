@@ -64,8 +64,7 @@ impl Model for Switch {
 
 #[tactic(auto, using(switch_machine::proofs::Laws::channel_up_adds, switch_machine::proofs::Laws::open_adds, switch_machine::proofs::Laws::next_cell_adds, crate::proofs::Whole::new_whole, crate::proofs::History::up_adds, crate::proofs::History::opening_adds, crate::proofs::History::up_steps, crate::proofs::History::opening_steps, crate::proofs::History::next_steps))]
 impl Switch {
-    /// A switch with no channel and no circuit, for 512 live circuits at most. Its name tells its jobs
-    /// from another switch's.
+    /// A switch for 512 live circuits at most, made as by [`Switch::sized`].
     ///
     /// # Errors
     ///
@@ -78,7 +77,9 @@ impl Switch {
         Switch::sized(alloc, name, rules, MOST_CIRCUITS)
     }
 
-    /// The same with so many circuits that may be live, 1 to 512.
+    /// A switch with no channel and no circuit, for so many live circuits at most, 1 to 512: where as
+    /// many are live, an opening is refused with `Full` of that number. Its name tells its jobs from
+    /// another switch's.
     ///
     /// # Errors
     ///

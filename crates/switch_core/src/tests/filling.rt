@@ -3,15 +3,14 @@ ghost use Rattle.std.specs.Prelude.{◌≡◌, ◌≤◌, IfOk};
 ghost use Rattle.switch_model.specs.Limits.{circuit_limit};
 
 use super::opening_at;
+use super::taking::CHANNEL;
 use crate::Switch;
 use cell_codec::List;
 use circ_relay::Rules;
 use std::alloc::{AllocError, Global};
 use std::test::Fail;
 use tr_io::answers::{BackAnswer, OpenAnswer, OpenRefusal};
-use tr_io::names::{ChanNo, CircNo, Side};
-
-const CHANNEL: ChanNo = ChanNo(0);
+use tr_io::names::{CircNo, Side};
 
 /// A switch for so many circuits.
 fn switch_for(alloc: Global, circuits: u32) -> Result<Switch, AllocError>
