@@ -1,5 +1,4 @@
 pub mod Bools
-pub mod Digests
 pub mod DataBodies
 pub mod EventKinds
 pub mod Hundredths

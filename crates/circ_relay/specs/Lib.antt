@@ -1,5 +1,4 @@
 pub mod Values
-pub mod PaddingState
 pub mod Packaging
 pub mod WindowOfLog
 pub mod PlacesOfLog

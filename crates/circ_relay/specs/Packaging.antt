@@ -4,7 +4,7 @@ use Rattle.run_digest.specs.HashState.{HashState, HasAbsorbed}
 use Rattle.circuit_model.specs.Log.{Log, pushed}
 use Rattle.circuit_model.specs.Opened.{born_keys, born_pad}
 use Rattle.circuit_model.specs.Packaged.{own, finished}
-use Rattle.circ_relay.specs.PaddingState.{PaddingState}
+use Rattle.relay_padding.specs.PaddingState.{PaddingState}
 
 -- What contracts see of a `Packager`.
 pub record PackagerState : Type 0 where

@@ -20,7 +20,6 @@ mod forward;
 pub mod going_on;
 mod message;
 mod packager;
-mod padding;
 pub mod places_of_a_log;
 pub mod reads;
 mod resolve;

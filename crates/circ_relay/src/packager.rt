@@ -7,8 +7,8 @@ ghost use Rattle.circuit_model.specs.Opened.{born_keys, born_pad};
 ghost use Rattle.circuit_model.specs.Packaged.{back_digest, finished, own};
 ghost use Rattle.circ_relay.specs.Packaging.{IsPackager, IsPackagedNext};
 
-use crate::padding::Padding;
 use relay_cell::put_digest;
+use relay_padding::Padding;
 use run_digest::Running;
 use std::marker::Model;
 

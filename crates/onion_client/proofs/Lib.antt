@@ -1,5 +1,6 @@
-pub mod Digests
+pub mod Sealing
 pub mod Layering
+pub mod Places
 pub mod Peeling
 pub mod Paths
 pub mod Room

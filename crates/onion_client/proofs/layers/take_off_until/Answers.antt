@@ -1,5 +1,6 @@
 use Rattle.std.proofs.Common.{◌≡◌, ℕ, suc, ◌+◌, subst, arith}
-use Rattle.onion_client.proofs.Peeling.{AreOff, keystream_at, hop_of_path_at, found_from, found_digest, found_state, more_off, with_back}
+use Rattle.onion_client.proofs.Peeling.{AreOff, found_from, found_digest, found_state, more_off, with_back}
+use Rattle.onion_client.proofs.Places.{keystream_at, hop_of_path_at}
 use Rattle.onion_client.proofs.layers.take_off_until.Goals as goal
 
 pub take_off-requires : goal.take_off-requires

@@ -3,7 +3,7 @@ use Rattle.run_digest.specs.HashState.{HasAbsorbed}
 use Rattle.circuit_model.specs.Opened.{born_keys}
 use Rattle.circuit_model.specs.Packaged.{own}
 use Rattle.circ_relay.specs.Packaging.{PackagerState}
-use Rattle.circ_relay.proofs.Digests.{stands_with_digest, digest_with_digest}
+use Rattle.relay_padding.proofs.Digests.{stands_with_digest, digest_with_digest}
 use Rattle.circ_relay.proofs.packager.Packager.package.Goals as goal
 
 pub returns-clause-digest : goal.returns-clause-digest

@@ -1,6 +1,7 @@
 use Rattle.std.proofs.Common.{[], ◌∷◌, ◌++◌, ◌∙◌, ap}
 use Rattle.hop_crypto.specs.OpenerState.{OpenerState}
-use Rattle.onion_client.proofs.Digests.{stands_with_digest, digest_with_digest, sealing_by_parts}
+use Rattle.relay_padding.proofs.Digests.{stands_with_digest, digest_with_digest}
+use Rattle.onion_client.proofs.Sealing.{sealing_by_parts}
 use Rattle.onion_client.proofs.layer.Layer.give_digest.Goals as goal
 
 pub returns-clause-digest : goal.returns-clause-digest

@@ -1,4 +1,4 @@
-// The padding of the bodies that the relay packages.
+// What pads the bodies of one side.
 
 ghost use Rattle.std.specs.Prelude.{◌≡◌, ◌+◌, ◌^◌, ◌<◌, IsTrue};
 ghost use Rattle.tor_spec.specs.RelayCell.{fits_length};
@@ -8,7 +8,7 @@ use aes_ctr::Stream;
 use relay_cell::put_padding;
 use std::marker::Model;
 
-/// Pads the bodies that a relay packages, one behind the other (tor-spec, "Relay cells"): where there is a
+/// Pads the bodies that one side packages, one behind the other (tor-spec, "Relay cells"): where there is a
 /// key, by its keystream.
 ///
 /// Contracts see the key and the number of bodies so far.
@@ -19,7 +19,7 @@ pub struct Padding {
 }
 
 impl Model for Padding {
-    ghost use Rattle.circ_relay.specs.PaddingState.{PaddingState, state_of, IsAtBody};
+    ghost use Rattle.relay_padding.specs.PaddingState.{PaddingState, state_of, IsAtBody};
 
     ghost Value = { PaddingState };
 
