@@ -2,6 +2,7 @@ pub mod Slots
 pub mod Ids
 pub mod Lying
 pub mod OneStep
+pub mod StepAlone
 pub mod Dials
 pub mod OneChannel
 pub mod OneCircuit

@@ -21,6 +21,7 @@ use Rattle.switch_model.proofs.Common.{self_eq, not_equal}
 use Rattle.switch_machine.proofs.OneStep.{step-added, channel-count}
 use Rattle.switch_machine.proofs.Lying.{lies-push}
 use Rattle.switch_machine.proofs.Slots.{slot_at-push, slot_at-past, count_below-same}
+use Rattle.switch_machine.proofs.StepAlone.{step-alone}
 
 -- what the state has of a channel says whether it is live
 pub live-at : (p : ChannelPast) (x : Option ChannelState) → ChannelAt x p → is_some x ≡ is_some p.channel
@@ -47,18 +48,8 @@ channel_up_said start s h st = rw (filled-channels start s h st, st.numbers.chan
 up-by : (start : Start) (s : State) (h : List Step) (slot : ℕ) (side : Side) (b : Bool) → (if b then UpAnswer.Full channel_limit else UpAnswer.Up (chan_no (length s.channels))) ≡ channel_up_answer h → Stands start s h →
     Stands start (if b then counted s else record (counted s) { channels = s.channels ++ Some (new_channel side) ∷ [] })
     (ChannelUp slot side (if b then UpAnswer.Full channel_limit else UpAnswer.Up (chan_no (length s.channels))) ∷ h)
-up-by start s h slot side true said st = record {
-  steps = step-added start s.steps h _ st.steps (tt, said);
-  numbers = st.numbers;
-  channels = st.channels;
-  circuits = st.circuits;
-  ids = st.ids;
-  legs = st.legs;
-  dials = st.dials;
-  counts = st.counts;
-  slots = st.slots;
-  not_yet = st.not_yet;
-}
+up-by start s h slot side true said st =
+    step-alone start s h (ChannelUp slot side (UpAnswer.Full channel_limit)) refl (tt, said) st
 up-by start s h slot side false said st =
     let n = length s.channels in
     let step = ChannelUp slot side (UpAnswer.Up (chan_no n)) in

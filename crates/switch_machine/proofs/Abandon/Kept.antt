@@ -5,9 +5,9 @@ use Rattle.circuit_model.specs.Rules.{Rules}
 use Rattle.switch_machine.proofs.Abandon.Said.{abandon_said}
 use Rattle.switch_machine.proofs.GiveBack.Accepts.{accepts}
 use Rattle.switch_machine.proofs.OneCircuit.{circuit-own}
-use Rattle.switch_machine.proofs.OneStep.{step-added}
 use Rattle.switch_machine.proofs.OtherEdges.{other_edges}
 use Rattle.switch_machine.proofs.Slots.{slot_at-inside}
+use Rattle.switch_machine.proofs.StepAlone.{step-alone}
 use Rattle.switch_machine.proofs.TearDown.By.{torn-by}
 use Rattle.switch_machine.specs.Calls.Abandon.{abandon_result, abandon_state, abandon_state_of}
 use Rattle.switch_machine.specs.Calls.TearDown.{torn_state}
@@ -69,30 +69,10 @@ torn-kept start s h n place reason x st found said =
 refused-kept : (start : Start) (s : State) (h : List Step) (n : ClaimNote) (place : Option ℕ) (a : BackAnswer) → is_accepted_return a ≡ false → Stands start s h → a ≡ abandon_answer start h n place → Stands start (counted s) (Abandon n place a ∷ h)
 refused-kept start s h n place BackAnswer.Settled refused st said = absurd cc
 refused-kept start s h n place (BackAnswer.Down reason) refused st said = absurd cc
-refused-kept start s h n place BackAnswer.Gone refused st said = record {
-  steps = step-added start s.steps h (Abandon n place BackAnswer.Gone) st.steps (tt, said);
-  numbers = st.numbers;
-  channels = st.channels;
-  circuits = st.circuits;
-  ids = st.ids;
-  legs = st.legs;
-  dials = st.dials;
-  counts = st.counts;
-  slots = st.slots;
-  not_yet = st.not_yet;
-}
-refused-kept start s h n place (BackAnswer.Stranger why) refused st said = record {
-  steps = step-added start s.steps h (Abandon n place (BackAnswer.Stranger why)) st.steps (tt, said);
-  numbers = st.numbers;
-  channels = st.channels;
-  circuits = st.circuits;
-  ids = st.ids;
-  legs = st.legs;
-  dials = st.dials;
-  counts = st.counts;
-  slots = st.slots;
-  not_yet = st.not_yet;
-}
+refused-kept start s h n place BackAnswer.Gone refused st said =
+    step-alone start s h (Abandon n place BackAnswer.Gone) refl (tt, said) st
+refused-kept start s h n place (BackAnswer.Stranger why) refused st said =
+    step-alone start s h (Abandon n place (BackAnswer.Stranger why)) refl (tt, said) st
 
 refused-state : (rules : Rules) (ev : List Event) (s : State) (n : ClaimNote) (x : Option CircuitState) (a : BackAnswer) → is_accepted_return a ≡ false → abandon_state_of rules ev s n x a ≡ counted s
 refused-state rules ev s n None a refused = refl

@@ -35,6 +35,7 @@ use Rattle.switch_machine.proofs.OneCircuit.{circuit-changed, circuit-own}
 use Rattle.switch_machine.proofs.OneStep.{step-added}
 use Rattle.switch_machine.proofs.SameLegs.{legs-kept, all-dials-kept, counts-same, dials-same, ids-same, legs-same}
 use Rattle.switch_machine.proofs.Slots.{length-with}
+use Rattle.switch_machine.proofs.StepAlone.{step-alone}
 
 map-cut : {A B : Type 0} (f : A → B) (k : ℕ) (xs : List A) → map f (take k xs) ++ map f (drop k xs) ≡ map f xs
 map-cut f zero xs = refl
@@ -188,18 +189,7 @@ claim-out start s h worker n st of right =
 claim-by : (start : Start) (s : State) (h : List Step) (worker : ℕ) (o : Option ClaimNote) → claim_result start.name s worker ≡ o → IsRightStep start h (Claim worker o) → Stands start s h →
     Stands start (claim_state_by s o) (Claim worker o ∷ h)
 claim-by start s h worker (Some n) is right st = claim-out start s h worker n st (claim-of start s worker (soonest s) n (soonest-best s (length s.circuits)) is) right
-claim-by start s h worker None is right st = record {
-  steps = step-added start s.steps h (Claim worker None) st.steps right;
-  numbers = st.numbers;
-  channels = st.channels;
-  circuits = st.circuits;
-  ids = st.ids;
-  legs = st.legs;
-  dials = st.dials;
-  counts = st.counts;
-  slots = st.slots;
-  not_yet = st.not_yet;
-}
+claim-by start s h worker None is right st = step-alone start s h (Claim worker None) refl right st
 
 pub claim_kept : (start : Start) (s : State) (h : List Step) (worker : ℕ) → worker < worker_limit → Stands start s h → Stands start (claim_state start.name s worker) (Claim worker (claim_result start.name s worker) ∷ h)
 claim_kept start s h worker known st = claim-by start s h worker (claim_result start.name s worker) refl (known, claim_said start s h worker st) st

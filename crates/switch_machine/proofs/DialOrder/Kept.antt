@@ -29,6 +29,7 @@ use Rattle.switch_machine.proofs.OneCircuit.{circuit-changed, circuit-own}
 use Rattle.switch_machine.proofs.OneStep.{step-added}
 use Rattle.switch_machine.proofs.SameLegs.{counts-same, ids-same, legs-kept, legs-same}
 use Rattle.switch_machine.proofs.Slots.{length-with}
+use Rattle.switch_machine.proofs.StepAlone.{step-alone}
 
 abbrev giving : State → OpenDial → Step
 giving s given = DialOrder (Some (order_step s given))
@@ -142,18 +143,7 @@ given-kept start s h given x st none found has never right =
 
 none-kept : (start : Start) (s : State) (h : List Step) → Stands start s h → IsDialOrder start.rules h None →
     Stands start (counted s) (DialOrder None ∷ h)
-none-kept start s h st right = record {
-  steps = step-added start s.steps h (DialOrder None) st.steps (tt, right);
-  numbers = st.numbers;
-  channels = st.channels;
-  circuits = st.circuits;
-  ids = st.ids;
-  legs = st.legs;
-  dials = st.dials;
-  counts = st.counts;
-  slots = st.slots;
-  not_yet = st.not_yet;
-}
+none-kept start s h st right = step-alone start s h (DialOrder None) refl (tt, right) st
 
 with-dial : (slots : List (Option CircuitState)) (c : ℕ) (o : Option CircuitState) (dial : DialState) → slot_at slots c ≡ o →
     dial_at o ≡ Some dial → (x : CircuitState) × ((slot_at slots c ≡ Some x) × (x.dial ≡ Some dial))

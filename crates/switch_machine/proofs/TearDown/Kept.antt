@@ -1,9 +1,9 @@
 -- tear_down keeps what a state stands for.
 use Rattle.std.proofs.Common.{◌≡◌, ℕ, true, List, ◌∷◌, Option, Some, None, refl, ◌∙◌, subst, arith}
 use Rattle.switch_machine.proofs.OneCircuit.{circuit-own}
-use Rattle.switch_machine.proofs.OneStep.{step-added}
 use Rattle.switch_machine.proofs.OtherEdges.{other_edges}
 use Rattle.switch_machine.proofs.Slots.{slot_at-inside}
+use Rattle.switch_machine.proofs.StepAlone.{step-alone}
 use Rattle.switch_machine.proofs.TearDown.By.{torn-by}
 use Rattle.switch_machine.specs.Calls.TearDown.{tear_down_result, tear_down_result_of, tear_down_state, tear_down_state_of, torn_state}
 use Rattle.switch_machine.specs.Machine.{counted}
@@ -60,18 +60,7 @@ torn-kept start s h c reason x st found =
 gone-kept : (start : Start) (s : State) (h : List Step) (c reason : ℕ) → Stands start s h → slot_at s.circuits c ≡ None → Stands start (counted s) (TearDown (circ_no c) reason BackAnswer.Gone ∷ h)
 gone-kept start s h c reason st none =
     let gone = subst (λ x. CircuitAt start.rules s.last_closes x c (past start.rules h c) (λ k. holds_id h c k) (edge_past start.rules h c)) none (st.circuits.circuit c) in
-    record {
-      steps = step-added start s.steps h (TearDown (circ_no c) reason BackAnswer.Gone) st.steps (tt, rw gone.live refl);
-      numbers = st.numbers;
-      channels = st.channels;
-      circuits = st.circuits;
-      ids = st.ids;
-      legs = st.legs;
-      dials = st.dials;
-      counts = st.counts;
-      slots = st.slots;
-      not_yet = st.not_yet;
-    }
+    step-alone start s h (TearDown (circ_no c) reason BackAnswer.Gone) refl (tt, rw gone.live refl) st
 
 by-circuit : (start : Start) (s : State) (h : List Step) (c reason : ℕ) (x : Option CircuitState) → Stands start s h → slot_at s.circuits c ≡ x →
     Stands start (tear_down_state_of start.rules (events start.rules h c) s c reason x) (TearDown (circ_no c) reason (tear_down_result_of x reason) ∷ h)
