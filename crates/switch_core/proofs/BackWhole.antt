@@ -51,7 +51,7 @@ use Rattle.switch_core.specs.declared.relay.Relay.{Relay}
 use Rattle.switch_core.proofs.ForthHome.{circuit_stands, relay_of}
 use Rattle.switch_core.specs.Homecoming.{PutsRelay}
 use Rattle.switch_core.proofs.ForthWhole.{home_at, relays_put, stays_live}
-use Rattle.switch_core.proofs.Settles.{kept_count}
+use Rattle.switch_machine.proofs.Take.CellCounts.{kept-count}
 use Rattle.switch_core.proofs.Whole.{started}
 
 -- A job that the switch gave out back, worked, and the relay of its circuit.
@@ -72,7 +72,7 @@ pub record IsHomeBack (name : ℕ) (s : State) (relays : List (Option Relay)) (d
 pub back_out : (start : Start) (s : State) (h : List Step) (c : ℕ) (x : CircuitState) → Stands start s h → slot_at s.circuits c ≡ Some x → kept_length x.back.kept ≤ x.back.claimed
 back_out start s h c x st live =
     let own = circuit_stands start s h c x st live in
-    omega (arith, own.back.out, kept_count x.back.kept)
+    omega (arith, own.back.out, kept-count x.back.kept)
 
 -- the answer
 

@@ -46,7 +46,7 @@ use Rattle.switch_core.specs.Meaning.{home_count}
 use Rattle.switch_core.specs.Relays.{RelayAt, RelayStands}
 use Rattle.switch_core.specs.Settling.{AreOpened, CallsFit, HasCallsFor, RelayIs}
 use Rattle.switch_core.specs.declared.relay.Relay.{Relay}
-use Rattle.switch_core.proofs.Settles.{kept_count}
+use Rattle.switch_machine.proofs.Take.CellCounts.{kept-count}
 use Rattle.switch_core.proofs.Taken.{taken_count}
 
 -- the circuit at a place of the list, by the history
@@ -66,7 +66,7 @@ relay_of true (Some other) relay rules ev sealed at up is = let same : other ≡
 
 -- how many of a direction's bodies came home
 pub home_is : (c : ℕ) (dir : Dir) (way : WayState) (home given : List CircuitCell) (count : ℕ) (known : Option ClaimNote) (all : List ℕ) → WayStands c dir way home given count known all → home_count way ≡ length home
-home_is c dir way home given count known all stands = omega (arith, stands.out, kept_count way.kept)
+home_is c dir way home given count known all stands = omega (arith, stands.out, kept-count way.kept)
 
 given-count : (c : ℕ) (dir : Dir) (way : WayState) (home given : List CircuitCell) (count : ℕ) (known : Option ClaimNote) (all : List ℕ) → WayStands c dir way home given count known all → length given ≡ way.claimed + length way.waiting
 given-count c dir way home given count known all stands =
@@ -86,7 +86,7 @@ relay_is rules closes x c p has_id e relay own none stands =
       circuit = stands.circuit;
       unlinked = own.linked ∙ none;
       behind_is = omega (arith, given, length-map {B = CircuitCell} (behind (log rules p.events)) (λ body. record { command = 3; body = body }));
-      out = omega (arith, own.back.out, kept_count x.back.kept);
+      out = omega (arith, own.back.out, kept-count x.back.kept);
     }
 
 -- what came out of the cipher

@@ -1,10 +1,7 @@
 -- The ciphers of a switch that stands for a history serve its circuits' directions.
-use Rattle.std.proofs.Common.{◌≡◌, ℕ, ◌+◌, ◌*◌, ◌<◌, ◌≤◌, ◌^◌, Bool, true, if◌then◌else◌, List, [], ◌∷◌, length, take, Option, Some, None, refl, sym, ap, subst, ◌∙◌, length-append, arith}
+use Rattle.std.proofs.Common.{◌≡◌, ℕ, ◌+◌, ◌*◌, ◌<◌, ◌≤◌, ◌^◌, Bool, true, List, length, take, Option, Some, None, refl, sym, ap, subst, ◌∙◌, arith}
 use Rattle.std.proofs.lemmas.List.{length-take-le, length-map}
-use Rattle.circuit_model.specs.Events.{CircuitCell, Event}
-use Rattle.circuit_model.specs.declared.event.Event.TheVariants.{Born, Forward, Backward, Connected, Data, Ended, Drained, Freed, Linked, Answered, Failed}
-use Rattle.circuit_model.specs.Log.{Log, pushed}
-use Rattle.circuit_model.specs.Opened.{forward_count, is_forward}
+use Rattle.circuit_model.specs.Opened.{forward_count}
 use Rattle.circuit_model.specs.Packaged.{behind}
 use Rattle.circuit_model.specs.Rules.{Rules}
 use Rattle.circuit_model.specs.Words.{log}
@@ -21,12 +18,11 @@ use Rattle.switch_model.specs.Answers.EdgeOut.{Ordered}
 use Rattle.switch_model.specs.History.EdgePast.{EdgePast, edge_past}
 use Rattle.switch_model.specs.History.Legs.{holds_id}
 use Rattle.switch_model.specs.History.Past.{Past, past}
-use Rattle.switch_model.specs.History.Relayed.{forward_cell, settled_forth}
-use Rattle.switch_machine.specs.Calls.Take.{kept_length}
-use Rattle.switch_machine.specs.Machine.{kept_cells, way_of_circuit}
+use Rattle.switch_machine.specs.Machine.{way_of_circuit}
 use Rattle.switch_machine.specs.Stands.OneCircuit.{CircuitAt, CircuitStands, relay_cells}
 use Rattle.switch_machine.specs.Calls.Claim.{waiting_cells}
-use Rattle.switch_machine.specs.State.{KeptClaim, WaitingCell, CircuitState, slot_at}
+use Rattle.switch_machine.specs.State.{WaitingCell, CircuitState, slot_at}
+use Rattle.switch_machine.proofs.Take.CellCounts.{forward-count, kept-count}
 use Rattle.switch_core.proofs.Leaves.{inside}
 use Rattle.switch_core.specs.Claiming.{CarriesFirst, CipherServes, HasCipher, HasRelay, MayClaim, RelaysServe, cipher_at, first_bodies, note_bodies}
 use Rattle.switch_core.specs.Meaning.{home_count}
@@ -34,28 +30,7 @@ use Rattle.switch_core.specs.Relays.{RelayAt, RelayOfPast, RelayStands}
 use Rattle.switch_core.specs.Started.{Started, SwitchStandsForSome}
 use Rattle.switch_core.specs.declared.relay.Relay.{Relay}
 
--- the forward cells that came home, by how many
-
-one-more : (event : Event) (n : ℕ) (xs : List CircuitCell) → n ≡ length xs → (if is_forward event then n + 1 else n) ≡ length (pushed xs (forward_cell event))
-one-more (Forward command body) n xs same = rw same (sym (length-append xs _))
-one-more (Born reply keys pad) n xs same = same
-one-more (Backward body) n xs same = same
-one-more (Connected serial) n xs same = same
-one-more (Data serial bytes) n xs same = same
-one-more (Ended serial reason) n xs same = same
-one-more (Drained serial) n xs same = same
-one-more (Freed serial) n xs same = same
-one-more Linked n xs same = same
-one-more (Answered payload) n xs same = same
-one-more Failed n xs same = same
-
-forth-home : (l : Log) → forward_count l ≡ length (settled_forth l)
-forth-home [] = refl
-forth-home (entry ∷ l) = one-more entry.event (forward_count l) (settled_forth l) (forth-home l)
-
-out-count : (k : Option KeptClaim) → kept_length k ≡ length (kept_cells k)
-out-count None = refl
-out-count (Some k) = refl
+-- the cells that came home, by how many
 
 back-home : (n : ℕ) (bodies : List (List ℕ)) → n ≤ length bodies → length (take n (relay_cells bodies)) ≡ n
 back-home n bodies le = length-take-le n (relay_cells bodies) (let same : length (relay_cells bodies) ≡ length bodies = length-map bodies _ in omega (arith, same, le))
@@ -67,13 +42,13 @@ serves : (rules : Rules) (closes : List Ordered) (x : CircuitState) (c : ℕ) (p
 serves rules closes x c p has_id e relay st rel Forth = record {
   direction = ap direction_of rel.forth;
   position =
-      let home : home_count x.forth ≡ forward_count (log rules p.events) = omega (arith, st.forth.out, out-count x.forth.kept, forth-home (log rules p.events)) in
+      let home : home_count x.forth ≡ forward_count (log rules p.events) = omega (arith, st.forth.out, kept-count x.forth.kept, forward-count (log rules p.events)) in
       ap position_of rel.forth ∙ ap (λ n. 509 * n) (sym home);
 }
 serves rules closes x c p has_id e relay st rel Back = record {
   direction = ap direction_of rel.back;
   position =
-      let home : home_count x.back ≡ p.sealed_count = omega (arith, st.back.out, out-count x.back.kept, back-home p.sealed_count (behind (log rules p.events)) st.sealed) in
+      let home : home_count x.back ≡ p.sealed_count = omega (arith, st.back.out, kept-count x.back.kept, back-home p.sealed_count (behind (log rules p.events)) st.sealed) in
       ap position_of rel.back ∙ ap (λ n. 509 * n) (sym home);
 }
 

@@ -20,6 +20,7 @@ use Rattle.switch_machine.specs.Calls.GiveBack.{home_way, settle_all, settle_one
 use Rattle.switch_machine.specs.Calls.Settling.{Settling, back_waits, bodies_with, dials_after}
 use Rattle.switch_machine.specs.Calls.Take.{kept_length}
 use Rattle.switch_machine.specs.Machine.{kept_cells}
+use Rattle.switch_machine.proofs.Take.CellCounts.{kept-count}
 use Rattle.switch_machine.specs.State.{LegState, KeptClaim, CircuitState, WayState}
 use Rattle.switch_core.specs.Meaning.{circuit_of, home_count}
 use Rattle.switch_core.specs.Ordering.{OrdersState, ordered}
@@ -56,10 +57,6 @@ one-is : (rules : Rules) (events : List Event) (leg : LegState) (forth back : Wa
     (forward_of cell ∷ events)
 one-is rules events leg forth back orders k cell unlinked =
     rw (unlinked, home-same k.bodies (effects rules events (forward_of cell)).back back) refl
-
-pub kept_count : (kept : Option KeptClaim) → kept_length kept ≡ length (kept_cells kept)
-kept_count None = refl
-kept_count (Some kept) = refl
 
 -- one after another
 
@@ -279,7 +276,7 @@ no_reason (Some reason) is = cc
 
 -- what a claimed direction and its room allow
 pub fewer_than_kept : (n : ℕ) (outputs : List Opened) (kept : Option KeptClaim) → length outputs ≡ kept_length kept → n < length outputs → n < length (kept_cells kept)
-fewer_than_kept n outputs kept count inside = omega (arith, count, inside, kept_count kept)
+fewer_than_kept n outputs kept count inside = omega (arith, count, inside, kept-count kept)
 
 -- what is known of the effects by what the code did
 

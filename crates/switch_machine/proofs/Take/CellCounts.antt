@@ -37,7 +37,7 @@ forward-one Linked n xs same = same
 forward-one (Answered payload) n xs same = same
 forward-one Failed n xs same = same
 
-forward-count : (l : Log) → forward_count l ≡ length (settled_forth l)
+pub forward-count : (l : Log) → forward_count l ≡ length (settled_forth l)
 forward-count [] = refl
 forward-count (entry ∷ l) = forward-one entry.event (forward_count l) (settled_forth l) (forward-count l)
 
@@ -45,7 +45,7 @@ queue-count : (y : Option LegState) → queue_length y ≡ length (queue_of y)
 queue-count None = refl
 queue-count (Some leg) = refl
 
-kept-count : (k : Option KeptClaim) → kept_length k ≡ length (kept_cells k)
+pub kept-count : (k : Option KeptClaim) → kept_length k ≡ length (kept_cells k)
 kept-count None = refl
 kept-count (Some k) = refl
 

@@ -8,9 +8,10 @@ use Rattle.circuit_model.specs.Words.{effects}
 use Rattle.switch_machine.specs.Calls.Take.{kept_length}
 use Rattle.switch_machine.specs.Machine.{kept_cells}
 use Rattle.switch_machine.specs.State.{CircuitState, LegState, WayState}
+use Rattle.switch_machine.proofs.Take.CellCounts.{kept-count}
 use Rattle.switch_core.specs.Meaning.{WithRoom, circuit_of, home_count}
 use Rattle.switch_core.specs.Settling.{AreOpened, RelayIs, SettlesForth, command_at}
-use Rattle.switch_core.proofs.Settles.{next_cell, goes, goes_unclosed, all_went, applied_as, closes_circuit, counts_more, counts_on, kept_count, one_more_back, queued_still, some_reason, no_reason, fewer_than_kept}
+use Rattle.switch_core.proofs.Settles.{next_cell, goes, goes_unclosed, all_went, applied_as, closes_circuit, counts_more, counts_on, one_more_back, queued_still, some_reason, no_reason, fewer_than_kept}
 use Rattle.switch_core.proofs.circuit.Circuit.settle_forth.Goals as goal
 
 pub returns-clause-settles : goal.returns-clause-settles
@@ -21,7 +22,7 @@ returns-clause-settles c =
     subst (λ (x : CircuitState). (events : List Event) → RelayIs c.args.relay.now rules events x.back → AreOpened c.args.opened.now rules events x → SettlesForth rules events x new c.args.counters.now c.loop-number.counters c.loop-number.relay None) c.self.view_is
     (λ events is outputs.
     all_went rules events _ new c.args.counters.now c.loop-number.counters c.loop-number.number c.loop-number.relay c.loop-number.self-inside.leg.state c.loop-number.self-inside.forth.state c.loop-number.self-inside.back.state c.loop-number.self-inside.orders.state c.args.opened.now
-    (c.loop-number.invariant.goes_on events is outputs) (omega (arith, count, kept_count c.self.inside.forth.state.kept, c.loop-number-test.false)) (ap (λ w. w.state) c.loop-number.invariant.forth)
+    (c.loop-number.invariant.goes_on events is outputs) (omega (arith, count, kept-count c.self.inside.forth.state.kept, c.loop-number-test.false)) (ap (λ w. w.state) c.loop-number.invariant.forth)
     (ap (λ (w : WayState). circuit_of c.loop-number.self-inside.leg.state w c.loop-number.self-inside.back.state c.loop-number.self-inside.orders.state) c.bring_home-2.ensures.state))
 
 pub loop-number-preserved : goal.loop-number-preserved
