@@ -42,7 +42,7 @@ use Rattle.switch_core.proofs.BackWhole.{back_out, back_whole, IsHomeBack}
 use Rattle.switch_core.proofs.ForthHome.{calls_fit, circuit_stands, relay_of}
 use Rattle.switch_core.proofs.ForthWhole.{forth_whole, IsHomeForth, settles_of}
 use Rattle.switch_core.proofs.Homes.{IsThere}
-use Rattle.switch_core.proofs.Returns.{IsRefusal, out_bodies, passed_by, refused_by}
+use Rattle.switch_core.proofs.Returns.{IsRefusal, of_parts, out_bodies, passed_by, refused_by}
 use Rattle.switch_core.proofs.Whole.{started}
 
 -- a return that is refused
@@ -206,13 +206,8 @@ home_back start s relays done back home = record {
 pub of_done : (s : Started) (done parts : DoneParts) (relays : List (Option Relay)) (bodies : List (List ℕ)) (place : Option ℕ) (P : ClaimNote → Option ℕ → Type 0) → parts ≡ done → relays ≡ s.relays → bodies ≡ parts.input.items →
     IsPlace relays s.state parts.note parts.start bodies place → P parts.note place → OfPlace s done.note done.start done.input.items (λ p. P done.note p)
 of_done s done parts relays bodies place P same there all first fact =
-    subst (λ (d : DoneParts). OfPlace s d.note d.start d.input.items (λ p. P d.note p)) same (record {
-      place = place;
-      first =
-          subst (λ l. IsPlace l s.state parts.note parts.start parts.input.items place) there
-          (subst (λ l. IsPlace relays s.state parts.note parts.start l place) all first);
-      fact = fact;
-    })
+    subst (λ (d : DoneParts). OfPlace s d.note d.start d.input.items (λ p. P d.note p)) same
+    (of_parts s relays parts.note parts.start bodies parts.input.items place (λ p. P parts.note p) there all first fact)
 
 -- the steps
 

@@ -220,16 +220,22 @@ torn_state_is name rules ev s note place is =
 
 -- the place of a job
 
+pub of_parts : (s : Started) (relays : List (Option Relay)) (note : ClaimNote) (start : Cipher)
+    (bodies input : List (List ℕ)) (place : Option ℕ) (P : Option ℕ → Type 0) → relays ≡ s.relays → bodies ≡ input →
+    IsPlace relays s.state note start bodies place → P place → OfPlace s note start input P
+of_parts s relays note start bodies input place P there all first fact = record {
+  place = place;
+  first =
+      subst (λ l. IsPlace l s.state note start input place) there
+      (subst (λ l. IsPlace relays s.state note start l place) all first);
+  fact = fact;
+}
+
 pub of_place : (s : Started) (job parts : JobParts) (relays : List (Option Relay)) (bodies : List (List ℕ)) (place : Option ℕ) (P : ClaimNote → Option ℕ → Type 0) → parts ≡ job → relays ≡ s.relays → bodies ≡ parts.bodies.items →
     IsPlace relays s.state parts.note parts.cipher bodies place → P parts.note place → OfPlace s job.note job.cipher job.bodies.items (λ p. P job.note p)
 of_place s job parts relays bodies place P same kept all first fact =
-    subst (λ (j : JobParts). OfPlace s j.note j.cipher j.bodies.items (λ p. P j.note p)) same (record {
-      place = place;
-      first =
-          subst (λ l. IsPlace l s.state parts.note parts.cipher parts.bodies.items place) kept
-          (subst (λ l. IsPlace relays s.state parts.note parts.cipher l place) all first);
-      fact = fact;
-    })
+    subst (λ (j : JobParts). OfPlace s j.note j.cipher j.bodies.items (λ p. P j.note p)) same
+    (of_parts s relays parts.note parts.cipher bodies parts.bodies.items place (λ p. P parts.note p) kept all first fact)
 
 -- how many are out, and their bodies
 out-by : (kept : Option KeptClaim) → kept_length kept ≡ length (map body_of (kept_cells kept))
