@@ -25,7 +25,7 @@ use Rattle.switch_machine.specs.Calls.OpenCircuit.{is_id_taken, has_peers_bit, o
 use Rattle.switch_machine.specs.Adds.{Adds, UpCase, OpenCase}
 use Rattle.switch_machine.proofs.Laws.{stands_new, channel_up_adds, open_adds, next_cell_adds}
 use Rattle.switch_core.specs.Opened.{OneRelayMore, KeepsBy}
-use Rattle.switch_core.specs.Relays.{RelaysStand}
+use Rattle.switch_core.specs.Relays.{RelayOfPast, RelaysStand}
 use Rattle.switch_core.specs.Started.{Started, SwitchStandsForSome, SwitchAdds}
 use Rattle.switch_core.specs.declared.relay.Relay.{Relay}
 use Rattle.switch_core.proofs.Relays.{opened_relays}
@@ -49,19 +49,31 @@ pub whole_stays : (old new : Started) (step : Step) → SwitchAdds old new step 
 unfolding SwitchAdds
 whole_stays old new step adds some = record { history = step ∷ some.history; stands = adds.stands some.history some.stands }
 
--- channel_up
-
-up-adds : (start : Start) (old new : State) (relays : List (Option Relay)) (slot : ℕ) (side : Side) (a : UpAnswer) → Adds start old new (ChannelUp slot side a) →
-    SwitchAdds (started start old relays) (started start new relays) (ChannelUp slot side a)
+-- A step behind which the history says the same of what is kept of the circuits.
+same-relays : (start : Start) (old new : State) (relays : List (Option Relay)) (step : Step) →
+    ((h : List Step) → circuits (step ∷ h) ≡ circuits h) →
+    ((relay : Option Relay) (h : List Step) (c : ℕ) → RelayOfPast relay start.rules (past start.rules h c) →
+    RelayOfPast relay start.rules (past start.rules (step ∷ h) c)) →
+    Adds start old new step → SwitchAdds (started start old relays) (started start new relays) step
 unfolding Adds SwitchAdds
-up-adds start old new relays slot side a adds = record {
+same-relays start old new relays step count leaves adds = record {
   start = refl;
   steps = adds.steps;
   stands = λ h st. record {
     state = adds.stands h st.state;
-    relays = record { count_is = st.relays.count_is; relay = λ c. st.relays.relay c };
+    relays = record {
+      count_is = st.relays.count_is ∙ sym (count h);
+      relay = λ c. leaves (slot_at relays c) h c (st.relays.relay c);
+    };
   };
 }
+
+-- channel_up
+
+up-adds : (start : Start) (old new : State) (relays : List (Option Relay)) (slot : ℕ) (side : Side) (a : UpAnswer) → Adds start old new (ChannelUp slot side a) →
+    SwitchAdds (started start old relays) (started start new relays) (ChannelUp slot side a)
+up-adds start old new relays slot side a adds =
+    same-relays start old new relays (ChannelUp slot side a) (λ h. refl) (λ relay h c own. own) adds
 
 pub up_whole : (start : Start) (old new : State) (relays : List (Option Relay)) (slot : ℕ) (side : Side) (a : UpAnswer) → UpCase a (new ≡ old) (new ≡ channel_up_state old side) → UpCase a ⊤ (a ≡ channel_up_result old) →
     UpCase a (started start new relays ≡ started start old relays) (SwitchAdds (started start old relays) (started start new relays) (ChannelUp slot side a))
@@ -78,15 +90,8 @@ up_goes_on old new slot side (UpAnswer.Full n) adds some = whole_stays old new (
 
 next-adds : (start : Start) (old new : State) (relays : List (Option Relay)) (chan : ChanNo) (tick : ℕ) (a : Option Cell) → Adds start old new (NextCell chan tick a) →
     SwitchAdds (started start old relays) (started start new relays) (NextCell chan tick a)
-unfolding Adds SwitchAdds
-next-adds start old new relays chan tick a adds = record {
-  start = refl;
-  steps = adds.steps;
-  stands = λ h st. record {
-    state = adds.stands h st.state;
-    relays = record { count_is = st.relays.count_is; relay = λ c. st.relays.relay c };
-  };
-}
+next-adds start old new relays chan tick a adds =
+    same-relays start old new relays (NextCell chan tick a) (λ h. refl) (λ relay h c own. own) adds
 
 pub next_whole : (start : Start) (old new : State) (relays : List (Option Relay)) (chan : ChanNo) (tick : ℕ) (a : Option Cell) → new ≡ next_cell_state old chan.0 tick → a ≡ next_cell_result old chan.0 tick →
     SwitchAdds (started start old relays) (started start new relays) (NextCell chan tick a)
@@ -96,15 +101,8 @@ next_whole start old new relays chan tick a state answer = next-adds start old n
 
 refused-adds : (start : Start) (old new : State) (relays : List (Option Relay)) (chan : ChanNo) (id : ℕ) (reply : Cell) (keys : Option LayerKeys) (pad : Option (List ℕ)) (why : OpenRefusal) → Adds start old new (OpenCircuit chan id reply keys pad (OpenAnswer.Refused why)) →
     SwitchAdds (started start old relays) (started start new relays) (OpenCircuit chan id reply keys pad (OpenAnswer.Refused why))
-unfolding Adds SwitchAdds
-refused-adds start old new relays chan id reply keys pad why adds = record {
-  start = refl;
-  steps = adds.steps;
-  stands = λ h st. record {
-    state = adds.stands h st.state;
-    relays = record { count_is = st.relays.count_is; relay = λ c. st.relays.relay c };
-  };
-}
+refused-adds start old new relays chan id reply keys pad why adds =
+    same-relays start old new relays (OpenCircuit chan id reply keys pad (OpenAnswer.Refused why)) (λ h. refl) (λ relay h c own. own) adds
 
 -- an opening without keys is refused
 refused-anyway : (a b c : Bool) (x y z w : OpenRefusal) (n : CircNo) →
