@@ -32,6 +32,13 @@ circuit_at k channels circuits s n d is below =
     ap (λ (x : State). slot_at x.circuits n) (sym is)
     ∙ slot-get circuits n d (subst (λ (x : State). n < length x.circuits) (sym is) below)
 
+-- the same, as it was read from the list
+pub circuit_read : (k : Counters) (channels : List ChannelState) (circuits : List (Option CircuitState)) (s : State) (n : ℕ)
+    (x : Option CircuitState) → state_of k channels circuits ≡ s → n < length circuits → x ≡ get_or circuits n x →
+    slot_at s.circuits n ≡ x
+circuit_read k channels circuits s n x is below at =
+    ap (λ (y : State). slot_at y.circuits n) (sym is) ∙ slot-get circuits n x below ∙ sym at
+
 pub channel_put : (k : Counters) (channels : List ChannelState) (circuits : List (Option CircuitState)) (s : State) (n : ℕ) (new : ChannelState) → state_of k channels circuits ≡ s →
     state_of k (slice_set channels n new) circuits ≡ record s { channels = with_slot s.channels n (Some new) }
 channel_put k channels circuits s n new is =

@@ -31,8 +31,8 @@ use Rattle.switch_core.specs.declared.relay.Relay.{Relay}
 use Rattle.switch_core.proofs.Relays.{relays_torn}
 use Rattle.switch_machine.proofs.PlainLists.{with_slot-all_there}
 use Rattle.switch_machine.proofs.Slots.{slot_at-past}
-use Rattle.switch_core.proofs.Gone.{slot-get, with-same}
-use Rattle.switch_core.proofs.Leaves.{circuit_put}
+use Rattle.switch_core.proofs.Gone.{with-same}
+use Rattle.switch_core.proofs.Leaves.{circuit_put, circuit_read}
 use Rattle.switch_core.proofs.Whole.{started}
 
 -- the DESTROY of one leg enters the lane of its channel
@@ -114,7 +114,7 @@ out_far k channels circuits s c is far = ap (λ (x : State). slot_at x.circuits 
 
 found-at : (k : Counters) (channels : List ChannelState) (circuits : List (Option CircuitState)) (s : State) (c : ℕ) (old o : Option CircuitState) → state_of k channels circuits ≡ s → c < length circuits →
     old ≡ get_or circuits c old → o ≡ old → slot_at s.circuits c ≡ o
-found-at k channels circuits s c old o is below at same = ap (λ (x : State). slot_at x.circuits c) (sym is) ∙ slot-get circuits c old below ∙ sym at ∙ sym same
+found-at k channels circuits s c old o is below at same = circuit_read k channels circuits s c old is below at ∙ sym same
 
 pub out_some : (k : Counters) (channels : List ChannelState) (circuits : List (Option CircuitState)) (s : State) (c : ℕ) (old o new : Option CircuitState) → state_of k channels circuits ≡ s → c < length circuits →
     old ≡ get_or circuits c old → o ≡ old → new ≡ None → IfSome o (λ x. TakenOut s (state_of k channels (slice_set circuits c new)) c x)

@@ -5,7 +5,7 @@ use Rattle.switch_machine.specs.Machine.{leg_at}
 use Rattle.switch_machine.specs.Calls.NextCell.{waits_on, count_of_found, cell_count_in, waiting_before}
 use Rattle.switch_core.specs.declared.pick.Waiting.{Waiting}
 use Rattle.switch_core.specs.Picking.{first_leg_of, HasOneLeg, Picks}
-use Rattle.switch_core.proofs.Gone.{slot-get}
+use Rattle.switch_core.proofs.Leaves.{circuit_read}
 use Rattle.switch_core.proofs.Picks.{one_quiet, one_waits}
 use Rattle.switch_core.proofs.parts.Parts.picked.Goals as goal
 use Rattle.switch_core.proofs.parts.Parts.picked.Goals.{then-slot_waits_on, else-slot_waits_on}
@@ -15,9 +15,8 @@ loop-number-preserved c =
     let slot : Option CircuitState = c.index-slot.result.now in
     let below : c.loop-number.number < length c.self.inside.circuits.items = omega (arith, c.len-number-end.ensures, c.loop-number-test.true, c.self.inside.circuits.ok) in
     let live : slot_at c.args.self.now.circuits c.loop-number.number ≡ slot =
-    ap (λ s. slot_at s.circuits c.loop-number.number) (sym c.self.view_is)
-    ∙ slot-get c.self.inside.circuits.items c.loop-number.number slot below
-    ∙ sym c.index-slot.ensures in
+    circuit_read _ _ c.self.inside.circuits.items c.args.self.now c.loop-number.number slot c.self.view_is below
+    c.index-slot.ensures in
     let one : HasOneLeg (slot_at c.args.self.now.circuits c.loop-number.number) = subst HasOneLeg (sym live) c.slot_waits_on.ensures.one_leg in
     let waits : waits_on c.args.chan.0 (leg_at (slot_at c.args.self.now.circuits c.loop-number.number) 0) ≡ c.slot_waits_on.result =
     ap (λ x. waits_on c.args.chan.0 (leg_at x 0)) live ∙ sym c.slot_waits_on.ensures.waits in (

@@ -4,8 +4,7 @@ use Rattle.switch_model.specs.Names.{circuit_cell}
 use Rattle.switch_machine.specs.Machine.{counted}
 use Rattle.switch_machine.specs.State.{CircuitState, slot_at}
 use Rattle.switch_core.specs.Taking.{queued_answer, slot_with_body}
-use Rattle.switch_core.proofs.Gone.{slot-get}
-use Rattle.switch_core.proofs.Leaves.{circuit_put}
+use Rattle.switch_core.proofs.Leaves.{circuit_put, circuit_read}
 use Rattle.switch_core.proofs.Takes.{case_by, case_of, fact_of, differ, gone_forth, gone_forth_said, queued_put, passed_put}
 use Rattle.switch_core.proofs.Taken.{fits_taken, taken_at, waits_fits}
 use Rattle.switch_core.proofs.TearDown.{out_far}
@@ -33,7 +32,8 @@ returns-in-Queued-clause-state c =
     let old : Option CircuitState = c.index_mut-slot.result.now in
     let below : c.args.number < length c.self.inside.circuits.items = omega (arith, c.len.ensures, c.if-number-len.false, c.self.inside.circuits.ok) in
     let live : slot_at c.args.self.now.circuits c.args.number ≡ old =
-    sym (ap (λ s. slot_at s.circuits c.args.number) c.self.view_is) ∙ slot-get c.self.inside.circuits.items c.args.number old below ∙ sym c.index_mut-slot.ensures.value in
+    circuit_read _ _ c.self.inside.circuits.items c.args.self.now c.args.number old c.self.view_is below
+    c.index_mut-slot.ensures.value in
     let first : c.self.inside.counters.bodies ≡ c.args.self.now.bodies = ap (λ s. s.bodies) c.self.view_is in
     case_of c.push_forth_of-answer.result _ _ (λ is. differ (sym c.in-Queued.is ∙ is))
     (queued_put c.args.self.now _ c.args.number (circuit_cell c.args.cell.now) old c.push_forth_of-answer.new.slot live
@@ -46,7 +46,8 @@ returns-in-Queued-clause-answer c =
     let old : Option CircuitState = c.index_mut-slot.result.now in
     let below : c.args.number < length c.self.inside.circuits.items = omega (arith, c.len.ensures, c.if-number-len.false, c.self.inside.circuits.ok) in
     let live : slot_at c.args.self.now.circuits c.args.number ≡ old =
-    sym (ap (λ s. slot_at s.circuits c.args.number) c.self.view_is) ∙ slot-get c.self.inside.circuits.items c.args.number old below ∙ sym c.index_mut-slot.ensures.value in
+    circuit_read _ _ c.self.inside.circuits.items c.args.self.now c.args.number old c.self.view_is below
+    c.index_mut-slot.ensures.value in
     case_by c.push_forth_of-answer.result _ _ _ (λ said. said ∙ ap queued_answer (sym live)) c.push_forth_of-answer.ensures.answer
 
 pub returns-in_default-answer-clause-state : goal.returns-in_default-answer-clause-state
@@ -54,7 +55,8 @@ returns-in_default-answer-clause-state c =
     let old : Option CircuitState = c.index_mut-slot.result.now in
     let below : c.args.number < length c.self.inside.circuits.items = omega (arith, c.len.ensures, c.if-number-len.false, c.self.inside.circuits.ok) in
     let live : slot_at c.args.self.now.circuits c.args.number ≡ old =
-    sym (ap (λ s. slot_at s.circuits c.args.number) c.self.view_is) ∙ slot-get c.self.inside.circuits.items c.args.number old below ∙ sym c.index_mut-slot.ensures.value in
+    circuit_read _ _ c.self.inside.circuits.items c.args.self.now c.args.number old c.self.view_is below
+    c.index_mut-slot.ensures.value in
     let first : c.self.inside.counters.bodies ≡ c.args.self.now.bodies = ap (λ s. s.bodies) c.self.view_is in
     let put = fact_of c.push_forth_of-answer.result _ _ c.in_default-answer.not-Memory c.push_forth_of-answer.ensures.state in
     let said = fact_of c.push_forth_of-answer.result _ _ c.in_default-answer.not-Memory c.push_forth_of-answer.ensures.answer in
@@ -69,5 +71,6 @@ returns-in_default-answer-clause-answer c =
     let old : Option CircuitState = c.index_mut-slot.result.now in
     let below : c.args.number < length c.self.inside.circuits.items = omega (arith, c.len.ensures, c.if-number-len.false, c.self.inside.circuits.ok) in
     let live : slot_at c.args.self.now.circuits c.args.number ≡ old =
-    sym (ap (λ s. slot_at s.circuits c.args.number) c.self.view_is) ∙ slot-get c.self.inside.circuits.items c.args.number old below ∙ sym c.index_mut-slot.ensures.value in
+    circuit_read _ _ c.self.inside.circuits.items c.args.self.now c.args.number old c.self.view_is below
+    c.index_mut-slot.ensures.value in
     case_by c.push_forth_of-answer.result _ _ _ (λ said. said ∙ ap queued_answer (sym live)) c.push_forth_of-answer.ensures.answer

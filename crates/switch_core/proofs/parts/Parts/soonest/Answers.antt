@@ -1,8 +1,8 @@
-use Rattle.std.proofs.Common.{◌≡◌, ◌<◌, length, Option, option_map, ap, sym, subst, ◌∙◌, arith}
+use Rattle.std.proofs.Common.{◌≡◌, ◌<◌, length, Option, option_map, ap, subst, arith}
 use Rattle.switch_machine.specs.Calls.Claim.{soonest_below}
 use Rattle.switch_machine.specs.State.{CircuitState, State, slot_at}
 use Rattle.switch_core.specs.Claiming.{offer_of}
-use Rattle.switch_core.proofs.Gone.{slot-get}
+use Rattle.switch_core.proofs.Leaves.{circuit_read}
 use Rattle.switch_core.proofs.Offers.{circuit_more, offer_inside}
 use Rattle.switch_core.proofs.parts.Parts.soonest.Goals as goal
 
@@ -11,9 +11,8 @@ loop-number-preserved c =
     let slot : Option CircuitState = c.index-slot.result.now in
     let below : c.loop-number.number < length c.self.inside.circuits.items = omega (arith, c.len-number-end.ensures, c.loop-number-test.true, c.self.inside.circuits.ok) in
     let live : slot_at c.args.self.now.circuits c.loop-number.number ≡ slot =
-    ap (λ s. slot_at s.circuits c.loop-number.number) (sym c.self.view_is)
-    ∙ slot-get c.self.inside.circuits.items c.loop-number.number slot below
-    ∙ sym c.index-slot.ensures in
+    circuit_read _ _ c.self.inside.circuits.items c.args.self.now c.loop-number.number slot c.self.view_is below
+    c.index-slot.ensures in
     circuit_more c.args.self.now c.loop-number.number slot c.loop-number.best c.sooner-with_forth.result c.sooner-best.result c.slot_offer-forth.result c.slot_offer-back.result
     live c.slot_offer-forth.ensures c.slot_offer-back.ensures c.sooner-with_forth.ensures c.sooner-best.ensures c.loop-number.invariant
 
