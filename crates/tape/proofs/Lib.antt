@@ -1,5 +1,7 @@
 pub mod Fields
 pub mod Teardowns
+pub mod JobSpellings
+pub mod JobsKept
 pub mod Takes
 pub mod SpareRoom
 pub mod Openings
@@ -8,6 +10,17 @@ pub mod Words
 pub mod Replies
 pub mod Tapes
 pub mod Readings
+pub mod Ciphers
+pub mod JobBodies
+pub mod JobsStay
+pub mod JobsClaimed
+pub mod JobsReturned
+pub mod JobPlaces
+pub mod Placeless
+pub mod ClaimCalls
+pub mod ReturnCalls
+pub mod GiveBackCalls
+pub mod AbandonCalls
 pub mod Plays
 pub mod Turns
 pub mod Spellings

@@ -16,8 +16,10 @@ use Rattle.tape.specs.Fronts.{bare_body, bare_cell}
 abbrev cell_with : ℕ → ℕ → Body → Cell
 cell_with circ command body = record { circ = circ; command = command; body = body }
 
-bare_stands : (start : Start) (s : State) (chan : ChanNo) (circ command : ℕ) (body : Body) (a : TakeAnswer) (h : List Step) →
-    Stands start s (Steps.Take chan (cell_with circ command body) a ∷ h) → Stands start s (Steps.Take chan (cell_with circ command (bare_body body)) a ∷ h)
+bare_stands : (start : Start) (s : State) (chan : ChanNo) (circ command : ℕ) (body : Body) (a : TakeAnswer)
+    (h : List Step) →
+    Stands start s (Steps.Take chan (cell_with circ command body) a ∷ h) →
+    Stands start s (Steps.Take chan (cell_with circ command (bare_body body)) a ∷ h)
 bare_stands start s chan circ command (Fixed payload) a h st = st
 bare_stands start s chan circ command (Var list) a h st = record {
   steps = record {
@@ -43,7 +45,8 @@ bare_stands start s chan circ command (Var list) a h st = record {
 }
 
 bare_switch : (s : Started) (chan : ChanNo) (circ command : ℕ) (body : Body) (a : TakeAnswer) (h : List Step) →
-    SwitchStands s (Steps.Take chan (cell_with circ command body) a ∷ h) → SwitchStands s (Steps.Take chan (cell_with circ command (bare_body body)) a ∷ h)
+    SwitchStands s (Steps.Take chan (cell_with circ command body) a ∷ h) →
+    SwitchStands s (Steps.Take chan (cell_with circ command (bare_body body)) a ∷ h)
 bare_switch s chan circ command (Fixed payload) a h st = st
 bare_switch s chan circ command (Var list) a h st = record {
   state = bare_stands s.start s.state chan circ command (Var list) a h st.state;
@@ -51,7 +54,8 @@ bare_switch s chan circ command (Var list) a h st = record {
 }
 
 -- A call that takes a cell makes the step of the same cell without spare places.
-pub bare_adds : (old new : Started) (chan : ChanNo) (cell : Cell) (a : TakeAnswer) → SwitchAdds old new (Steps.Take chan cell a) → SwitchAdds old new (Steps.Take chan (bare_cell cell) a)
+pub bare_adds : (old new : Started) (chan : ChanNo) (cell : Cell) (a : TakeAnswer) →
+    SwitchAdds old new (Steps.Take chan cell a) → SwitchAdds old new (Steps.Take chan (bare_cell cell) a)
 unfolding SwitchAdds
 bare_adds old new chan cell a adds = record {
   start = adds.start;

@@ -8,7 +8,7 @@ use Rattle.std.specs.Int.{w32, w64, from_be_bytes, to_be_bytes}
 use Rattle.tr_io.specs.declared.names.Side.{Side}
 use Rattle.tr_io.specs.declared.names.Side.TheVariants.{PeerOpened, WeOpened}
 use Rattle.tape.specs.declared.record.Record.{Record}
-use Rattle.tape.specs.declared.record.Record.TheVariants.{ChannelUp, OpenCircuit, Take, NextCell, TearDown}
+use Rattle.tape.specs.declared.record.Record.TheVariants.{ChannelUp, OpenCircuit, Take, Claim, GiveBack, Abandon, NextCell, TearDown}
 use Rattle.tape.specs.Fronts.{FrontOf, FrontIs, record_and, field}
 use Rattle.tape.specs.Records.{front_of}
 use Rattle.tape.specs.Kinds.ChannelUp.{channel_up_front}
@@ -26,6 +26,7 @@ use Rattle.tape.specs.Kinds.ChannelUp.{side_byte}
 use Rattle.tape.specs.Kinds.OpenCircuit.{command_byte}
 use Rattle.tape.specs.Spelling.{spelling, FitsFields}
 use Rattle.tape.proofs.Fields.{field_of, behind_of, byte_of, four, eight}
+use Rattle.tape.proofs.JobSpellings.{claim_read, return_read}
 use Rattle.tape.proofs.Takes.{take_read}
 use Rattle.tape.proofs.Teardowns.{tear_down_read}
 use Rattle.tape.proofs.Openings.{opened}
@@ -158,6 +159,9 @@ spelled_is_read (OpenCircuit chan y (Some pad) request) rest fits =
     ∙ read_at fields (Some pad) 44 chan.0 y pad request rest fits.0 fits.3 fits.4 parts (ap (λ n. 28 + n) fits.2)
 spelled_is_read (Take chan cell) rest fits =
     ap take_front (append_assoc (to_be_bytes w64 chan.0) (encoding (wire_cell cell)) rest) ∙ take_read chan.0 cell rest fits
+spelled_is_read (Claim worker) rest fits = claim_read worker rest fits
+spelled_is_read (GiveBack claim) rest fits = return_read GiveBack claim rest fits
+spelled_is_read (Abandon claim) rest fits = return_read Abandon claim rest fits
 spelled_is_read (NextCell chan tick) rest fits =
     ap next_cell_front (append_assoc (to_be_bytes w64 chan.0) (to_be_bytes w64 tick) rest) ∙ next_read chan.0 tick rest fits.0 fits.1
 spelled_is_read (TearDown circ reason) rest fits =

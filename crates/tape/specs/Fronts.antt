@@ -5,7 +5,8 @@ use Rattle.cell_codec.specs.declared.cell.Body.TheVariants.{Fixed, Var}
 use Rattle.cell_codec.specs.declared.cell.Cell.{Cell}
 use Rattle.cell_codec.specs.Cells.{IsWellFormed}
 use Rattle.tape.specs.declared.record.Record.{Record}
-use Rattle.tape.specs.declared.record.Record.TheVariants.{ChannelUp, OpenCircuit, Take, NextCell, TearDown}
+use Rattle.switch_model.specs.Limits.{worker_limit}
+use Rattle.tape.specs.declared.record.Record.TheVariants.{ChannelUp, OpenCircuit, Take, Claim, GiveBack, Abandon, NextCell, TearDown}
 use Rattle.tape.specs.declared.record.Front.{Front}
 use Rattle.tape.specs.declared.record.Front.TheVariants.{Whole, Cut, Bad, NotBuilt}
 
@@ -33,6 +34,9 @@ abbrev pub bare : Record → Record
 bare (ChannelUp slot side) = ChannelUp slot side
 bare (OpenCircuit chan y pad request) = OpenCircuit chan y pad request
 bare (Take chan cell) = Take chan (bare_cell cell)
+bare (Claim worker) = Claim worker
+bare (GiveBack claim) = GiveBack claim
+bare (Abandon claim) = Abandon claim
 bare (NextCell chan tick) = NextCell chan tick
 bare (TearDown circ reason) = TearDown circ reason
 
@@ -41,6 +45,9 @@ abbrev pub MeetsCall : Record → Type 0
 MeetsCall (ChannelUp slot side) = Unit {0}
 MeetsCall (OpenCircuit chan y pad request) = Unit {0}
 MeetsCall (Take chan cell) = IsWellFormed cell
+MeetsCall (Claim worker) = worker < worker_limit
+MeetsCall (GiveBack claim) = Unit {0}
+MeetsCall (Abandon claim) = Unit {0}
 MeetsCall (NextCell chan tick) = Unit {0}
 MeetsCall (TearDown circ reason) = Unit {0}
 

@@ -4,4 +4,6 @@ pub mod ChannelUp
 pub mod OpenCircuit
 pub mod NextCell
 pub mod Take
+pub mod Claim
+pub mod Return
 pub mod TearDown

@@ -4,6 +4,9 @@ pub mod Records
 pub mod TapeRules
 pub mod Input
 pub mod Causes
+pub mod KeptJobs
+pub mod Jobs
+pub mod JobsStand
 pub mod Steps
 pub mod Runs
 pub mod Playing

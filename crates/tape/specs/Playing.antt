@@ -1,6 +1,7 @@
 -- What holds while the records of a tape, from its first one on, are played under its rules.
-use Rattle.std.specs.Prelude.{◌≡◌, ◌⊎◌, ℕ, ◌-◌, List, ◌∷◌, ◌++◌, length, Option, Some}
+use Rattle.std.specs.Prelude.{◌≡◌, ◌⊎◌, ℕ, ◌-◌, List, ◌++◌, length, Option, Some}
 use Rattle.circuit_model.specs.Rules.{Rules}
+use Rattle.hop_crypto.specs.declared.parts.JobParts.{JobParts}
 use Rattle.tr_io.specs.declared.status.Status.{Status}
 use Rattle.tr_io.specs.declared.status.Status.TheVariants.{Memory}
 use Rattle.tr_io.specs.Faults.{Rose}
@@ -8,15 +9,38 @@ use Rattle.tr_io.specs.declared.step.Step.{Step}
 use Rattle.switch_core.specs.Started.{Started, SwitchStands}
 use Rattle.tape.specs.declared.input.Ending.{Ending}
 use Rattle.tape.specs.declared.record.Record.{Record}
-use Rattle.tape.specs.Steps.{step_of, answer_of, output, IsRecords}
+use Rattle.tape.specs.Jobs.{job_at}
+use Rattle.tape.specs.KeptJobs.{HasNoStranger}
+use Rattle.tape.specs.JobsStand.{JobsStand}
+use Rattle.tape.specs.Steps.{step_of, answer_of, with_step, output, IsRecords}
+use Rattle.tape.specs.declared.jobs.Jobs.{Jobs}
 use Rattle.tr_io.specs.Output.{IsWritten, IsPartWritten}
 use Rattle.tape.specs.Runs.{status_at, SwitchBehind}
 
--- Whatever history the switch stood for, it stands for it with the record's step, whose answer is
--- behind the others.
-pub record PlaysOn (rules : Rules) (r : Record) (old new : Started) (answers more : List ℕ) : Type 0 where
-  pub stands : (h : List Step) → SwitchStands old h → SwitchStands new (step_of rules h r ∷ h)
-  pub answer : (h : List Step) → SwitchStands old h → more ≡ answers ++ answer_of rules h r
+-- What contracts see of a player: its switch, and by claim number the jobs that it keeps.
+pub record PlayerState : Type 0 where
+  pub switch : Started
+  pub jobs : ℕ → Option JobParts
+
+abbrev pub player_state : Started → Jobs → PlayerState
+player_state switch jobs = record { switch = switch; jobs = λ claim. job_at jobs claim }
+
+-- The player stands for a history: its switch does, it keeps the jobs that the history tells, each as it was given
+-- out, and none of their returns was refused as a stranger's.
+pub record PlayerStands (rules : Rules) (p : PlayerState) (h : List Step) : Type 0 where
+  pub switch : SwitchStands p.switch h
+  pub jobs : JobsStand rules h p.jobs
+  pub own : HasNoStranger h
+
+-- Whatever history the player stood for, it stands for it with the record's step, and this answer is right.
+pub record Makes {A : Type 0} (rules : Rules) (r : Record) (old new : PlayerState) (answer : A) (right : List Step → A) : Type 0 where
+  pub stands : (h : List Step) → PlayerStands rules old h → PlayerStands rules new (with_step (step_of rules h r) h)
+  pub right_is : (h : List Step) → PlayerStands rules old h → answer ≡ right h
+
+-- The same where the answer is written behind the others.
+pub record PlaysOn (rules : Rules) (r : Record) (old new : PlayerState) (answers more : List ℕ) : Type 0 where
+  pub stands : (h : List Step) → PlayerStands rules old h → PlayerStands rules new (with_step (step_of rules h r) h)
+  pub answer : (h : List Step) → PlayerStands rules old h → more ≡ answers ++ answer_of rules h r
 
 -- The front of the answers was written, and the others are left.
 pub record HandedOn (answers left : List ℕ) (contents now : Option (List ℕ)) : Type 0 where

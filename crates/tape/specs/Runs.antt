@@ -18,6 +18,7 @@ use Rattle.switch_model.specs.Legal.{IsLegal}
 use Rattle.switch_model.specs.Start.{Start}
 use Rattle.switch_core.specs.Started.{Started, SwitchStands}
 use Rattle.tape.specs.TapeRules.{RulesFrontOf, rules_and, less_than_rules, no_rules, rules_ahead}
+use Rattle.tape.specs.KeptJobs.{HasNoStranger}
 use Rattle.tape.specs.Steps.{tape_start, steps_of, IsRecords, output}
 use Rattle.tape.specs.Input.{tape_limit, EndCause, IsRead, IsTape}
 use Rattle.tr_io.specs.Output.{IsWritten, IsPartWritten}
@@ -97,11 +98,13 @@ abbrev pub BeginsOnLeg : Start → List Step → ℕ → ℕ → Type 0
 BeginsOnLeg start h c k =
     (rest : List CircuitCell) × (sent start.rules h c k ++ rest ≡ one (circuit_log start.rules h c) k)
 
--- A switch with these rules that stands for the steps of these records, its relays and ciphers among it.
+-- A switch with these rules that stands for the steps of these records, its relays and ciphers among it. None of
+-- the returns is refused as one of a job that the switch didn't give out.
 pub record SwitchBehind (rules : Rules) (records : List Record) : Type 0 where
   pub switch : Started
   pub start : switch.start ≡ tape_start rules
   pub stands : SwitchStands switch (steps_of rules records)
+  pub own : HasNoStranger (steps_of rules records)
 
 -- Behind its rules the tape has these records. Their steps, each with its answer, are a legal history
 -- of a switch with these rules, and some such switch stands for them. What they send on any leg of any

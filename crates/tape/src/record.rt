@@ -1,10 +1,11 @@
 //! The records of a tape.
 ghost use Rattle.std.specs.Prelude.{◌≡◌, IsTrue};
+ghost use Rattle.hop_handshake.specs.Opening.{cell_with};
 ghost use Rattle.tor_spec.specs.CellCommands.{asks_for_circuit};
 ghost use Rattle.tape.specs.Kinds.OpenCircuit.{command_byte};
 
-use cell_codec::Cell;
 use cell_codec::command::{CREATE, CREATE_FAST, CREATE2};
+use cell_codec::{Body, Cell};
 use tr_io::names::{ChanNo, CircNo, Side};
 
 /// The commands that ask for a circuit (tor-spec, "Cell format").
@@ -40,6 +41,20 @@ pub struct CircuitRequest {
     pub payload: [u8; 509],
 }
 
+impl CircuitRequest {
+    /// The cell.
+    pub fn cell(self) -> Cell
+        ensures cell { result ≡ cell_with self.id (command_byte self.command) self.payload }
+        ensures asks { IsTrue (asks_for_circuit result.command) }
+    {
+        Cell {
+            circ: self.id,
+            command: self.command.byte(),
+            body: Body::Fixed(self.payload),
+        }
+    }
+}
+
 /// A record: a call of the switch, with its arguments.
 #[derive(Drop)]
 pub enum Record {
@@ -50,6 +65,12 @@ pub enum Record {
     OpenCircuit(ChanNo, [u8; 20], Option<[u8; 16]>, CircuitRequest),
     /// `take`: the channel, the cell that it brings.
     Take(ChanNo, Cell),
+    /// `claim`: the worker, below 64.
+    Claim(u32),
+    /// `give_back` of the job of the claim with this number, once it is worked.
+    GiveBack(u64),
+    /// `abandon` of the job of the claim with this number.
+    Abandon(u64),
     /// `next_cell`: the channel, the tick.
     NextCell(ChanNo, u64),
     /// `tear_down`: the circuit, the reason.

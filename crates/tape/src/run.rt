@@ -1,5 +1,5 @@
 //! Plays a tape from its source to its sink.
-ghost use Rattle.std.specs.Prelude.{◌≡◌, ◌-◌, ◌≤◌, ℕ, [], List, Some, true, false, IfOk, OnOk, OnErr, map, length, string_bytes};
+ghost use Rattle.std.specs.Prelude.{◌≡◌, ◌-◌, ◌≤◌, ℕ, [], List, Some, None, true, false, IfOk, OnOk, OnErr, map, length, string_bytes};
 ghost use Rattle.circuit_model.specs.Rules.{Rules};
 ghost use Rattle.switch_machine.specs.Machine.{new_state};
 ghost use Rattle.tr_io.specs.Faults.{Rose};
@@ -7,6 +7,7 @@ ghost use Rattle.tape.specs.declared.record.Record.{Record};
 ghost use Rattle.tape.specs.Causes.{is_tape_line, IsRunStatus};
 ghost use Rattle.tape.specs.Input.{EndCause, IsTape};
 ghost use Rattle.tr_io.specs.Output.{IsWritten, IsPartWritten};
+ghost use Rattle.tape.specs.Jobs.{job_at};
 ghost use Rattle.tape.specs.Playing.{HandedOn, Stopped, Broken};
 ghost use Rattle.tape.specs.Runs.{cut_status, source_run, sink_run, EndsPlay, IsRun, IsGood, IsDone};
 ghost use Rattle.tape.specs.Steps.{tape_start};
@@ -124,6 +125,7 @@ fn play_records<K: Sink>(
     requires within { length first.now ≤ length input.now.bytes.items }
     requires state { player.old.switch.state ≡ new_state }
     requires relays { player.old.switch.relays ≡ [] }
+    requires jobs { (claim : ℕ) → job_at player.old.jobs claim ≡ None }
     requires answers { player.old.answers.items ≡ [] }
     ensures status { IfOk result IsRunStatus }
     ensures read { IfOk result (λ status. status ≡ Status.ReadFault → input.now.ending ≡ Ending.Fault) }
@@ -169,6 +171,7 @@ fn cut_status(ending: Ending, place: u64, rest: &[u8]) -> Status
 /// Writes the gathered answers once they are many.
 fn hand_on<K: Sink>(player: &mut Player, sink: &mut K) -> Result<(), WriteFault>
     ensures switch { player.new.switch ≡ player.old.switch }
+    ensures jobs { player.new.jobs ≡ player.old.jobs }
     ensures counted { K.faults sink.old ≤ K.faults sink.new }
     ensures ok { OnOk result (HandedOn player.old.answers.items player.new.answers.items (K.written sink.old) (K.written sink.new)) }
     ensures err { OnErr result (IsPartWritten (K.written sink.old) player.old.answers.items (K.written sink.new)) }

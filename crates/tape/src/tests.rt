@@ -2,6 +2,8 @@
 //! is SHA-1 of 41 zero bytes, computed elsewhere.
 ghost use Rattle.std.specs.Prelude.{◌≤◌};
 
+mod jobs;
+mod round_trip;
 mod take;
 mod tear_down;
 
@@ -294,15 +296,15 @@ fn a_cut_tape_is_bad_at_its_last_record(rt: HostRuntime) -> Result<(), Fail> {
 #[test]
 fn bytes_that_begin_no_built_record_end_the_tape(rt: HostRuntime) -> Result<(), Fail> {
     for (record, status) in [
-        // No kind, a side that is none, kinds that aren't built.
+        // No kind, a side and a worker that are none, records that are cut, kinds that aren't built.
         ([0x00, 0, 0, 0, 0, 0], Status::BadTape(6)),
         ([0x11, 0, 0, 0, 0, 0], Status::BadTape(6)),
         ([0xff, 0, 0, 0, 0, 0], Status::BadTape(6)),
         ([0x01, 0, 0, 0, 0, 2], Status::BadTape(6)),
         ([0x02, 0, 0, 0, 0, 0], Status::NotBuilt(2)),
         ([0x04, 0, 0, 0, 0, 0], Status::BadTape(6)),
-        ([0x05, 0, 0, 0, 0, 0], Status::NotBuilt(5)),
-        ([0x07, 0, 0, 0, 0, 0], Status::NotBuilt(7)),
+        ([0x05, 0, 0, 0, 64, 0], Status::BadTape(6)),
+        ([0x07, 0, 0, 0, 0, 0], Status::BadTape(6)),
         ([0x09, 0, 0, 0, 0, 0], Status::NotBuilt(9)),
         ([0x0d, 0, 0, 0, 0, 0], Status::NotBuilt(13)),
         ([0x0e, 0, 0, 0, 0, 0], Status::BadTape(6)),

@@ -1,8 +1,10 @@
 //! The kinds of records, a file a kind: how the fields are read, and how the answer is spelled.
 mod back;
 pub mod channel_up;
+pub mod claim;
 pub mod next_cell;
 pub mod open_circuit;
+pub mod returns;
 pub mod take;
 pub mod tear_down;
 

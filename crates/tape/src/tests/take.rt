@@ -1,6 +1,6 @@
 //! Tapes on which channels bring cells.
 use super::tear_down::{NEXT, one_circuit, put_destroy, tear_down};
-use super::{OPENED, UP, behind, front, play_tape, put, put_zeros};
+use super::{OPENED, UP, behind, front, play_tape, put};
 use crate::kinds::take::write_take;
 use std::alloc::{AllocError, Global};
 use std::test::Fail;
@@ -9,11 +9,28 @@ use tr_io::names::CircNo;
 use tr_io::status::Status;
 
 /// A record by which channel 0 brings a cell of fixed length, whose payload begins with this byte.
-fn put_cell(bytes: &mut Vec<u8>, id: [u8; 4], command: u8, first: u8) -> Result<(), AllocError> {
+pub fn put_cell(
+    bytes: &mut Vec<u8>,
+    id: [u8; 4],
+    command: u8,
+    first: u8,
+) -> Result<(), AllocError> {
+    let mut payload = [0; 509];
+    payload[0] = first;
+    put_cell_of(bytes, id, command, &payload)
+}
+
+/// The same by the whole payload.
+pub fn put_cell_of(
+    bytes: &mut Vec<u8>,
+    id: [u8; 4],
+    command: u8,
+    payload: &[u8; 509],
+) -> Result<(), AllocError> {
     put(bytes, &[4, 0, 0, 0, 0, 0, 0, 0, 0])?;
     put(bytes, &id)?;
-    put(bytes, &[command, first])?;
-    put_zeros(bytes, 508)
+    put(bytes, &[command])?;
+    put(bytes, payload)
 }
 
 /// What such a cell is answered on a tape with one circuit.

@@ -8,14 +8,14 @@ use Rattle.tape.proofs.run.play_records.Goals as goal
 
 pub loop-front-init : goal.loop-front-init
 loop-front-init g c =
-    first_turn _ _ _ _ _ _ _ c.requires.within c.requires.start c.requires.state c.requires.relays c.requires.answers
+    first_turn _ _ _ _ _ _ _ _ c.requires.within c.requires.start c.requires.state c.requires.relays c.requires.jobs c.requires.answers
 
 pub play-requires-clause-start : goal.play-requires-clause-start
 play-requires-clause-start g c = made_so _ _ c.loop-front.invariant.start
 
 pub loop-front-preserved : goal.loop-front-preserved
 loop-front-preserved g c =
-    turn_of _ _ _ _ _ _ _ _ _ _ _ c.hand_on.ensures.switch
+    turn_of _ _ _ _ _ _ _ _ _ _ _ _ _ c.hand_on.ensures.switch c.hand_on.ensures.jobs
     (next_turn _ _ _ c.loop-front.rest.now c.in-Whole.behind.now _ _ (bare c.in-Whole.record) _ c.play.new.self.answers.items _ _ _ _ _ _ _ c.loop-front.invariant
     (subst (λ f. FrontIs f (front_of c.loop-front.rest.now)) c.in-Whole.is c.in-Ok.ensures.front)
     (subst (λ f. RestIsShorter f (length c.loop-front.rest.now)) c.in-Whole.is c.in-Ok.ensures.shorter) c.in-Ok-play.ensures.ok c.play.ensures.start c.play.ensures.steps c.in_ok-hand_on.ensures.ok c.hand_on.ensures.counted)
