@@ -1,0 +1,11 @@
+//! Calls of a switch and the cells that leave it, with clients of their own.
+
+mod batches;
+mod bodies;
+mod client;
+mod crossing;
+mod leaving;
+mod limits;
+mod memory;
+mod opening;
+mod switch;
