@@ -6,7 +6,7 @@ use mathlib.Core.List.{IsPrefix}
 use Rattle.berth.specs.declared.note.BerthNote.{BerthNote}
 use Rattle.berth.specs.declared.note.BoxStep.{BoxStep}
 use Rattle.berth.specs.declared.note.BoxStep.TheVariants.{Put, Take}
-use Rattle.berth.specs.Notes.{note_after, note_after_all, IsPutRight, IsRight, AreRight, lying, put_by, taken_by}
+use Rattle.berth.specs.Notes.{note_after, note_after_all, IsPutRight, IsRight, AreRight, notes_of, put_by, taken_by}
 
 note_after_all-snoc : (c : Option BerthNote) (h : List BoxStep) (e : BoxStep)
     → note_after_all c (h ++ e ∷ []) ≡ note_after (note_after_all c h) e
@@ -48,23 +48,23 @@ pub takes_out : (c d r : Option BerthNote) (h : List BoxStep) → r ≡ c → d 
 takes_out c d r h same none s = (none ∙ sym (note_after_all-snoc None h (Take r)), AreRight-snoc None h (Take r) s.1 (same ∙ s.0))
 
 one_step : (c : Option BerthNote) (x : BoxStep) → IsRight c x → (ps ts : List BerthNote) (d : Option BerthNote)
-    → lying (note_after c x) ++ ps ≡ ts ++ lying d
-    → lying c ++ (put_by x ++ ps) ≡ (taken_by x ++ ts) ++ lying d
+    → notes_of (note_after c x) ++ ps ≡ ts ++ notes_of d
+    → notes_of c ++ (put_by x ++ ps) ≡ (taken_by x ++ ts) ++ notes_of d
 one_step None (Put n true) r ps ts d e = e
 one_step None (Put n false) r ps ts d e = absurd r
 one_step (Some m) (Put n true) r ps ts d e = absurd r
 one_step (Some m) (Put n false) r ps ts d e = e
 one_step c (Take a) r ps ts d e =
-    ap (λ (x : Option BerthNote). lying x ++ ps) (sym r)
-    ∙ (ap (λ (l : List BerthNote). lying a ++ l) e ∙ sym (append_assoc (lying a) ts (lying d)))
+    ap (λ (x : Option BerthNote). notes_of x ++ ps) (sym r)
+    ∙ (ap (λ (l : List BerthNote). notes_of a ++ l) e ∙ sym (append_assoc (notes_of a) ts (notes_of d)))
 
 -- the notes that were put are those that were taken, and then the one that lies there
 balance : (c : Option BerthNote) (h : List BoxStep) → AreRight c h
-    → lying c ++ flat_map put_by h ≡ flat_map taken_by h ++ lying (note_after_all c h)
-balance c [] a = append-nil (lying c)
+    → notes_of c ++ flat_map put_by h ≡ flat_map taken_by h ++ notes_of (note_after_all c h)
+balance c [] a = append-nil (notes_of c)
 balance c (x ∷ xs) a =
     one_step c x a.0 (flat_map put_by xs) (flat_map taken_by xs) (note_after_all (note_after c x) xs) (balance (note_after c x) xs a.1)
 
 -- so what was taken begins what was put
 pub taken_begins : (h : List BoxStep) → AreRight None h → IsPrefix (flat_map taken_by h) (flat_map put_by h)
-taken_begins h a = (lying (note_after_all None h), sym (balance None h a))
+taken_begins h a = (notes_of (note_after_all None h), sym (balance None h a))

@@ -23,8 +23,8 @@ module _ {Q : Type 0} where
   IsSameEnd a b = (b.is_first ≡ a.is_first) × (lock_of b.pass ≡ lock_of a.pass)
 
   -- the end's last step, which answers what a box answers at its place
-  abbrev pub IsAnswered : Berth Q → BoxStep → Berth Q → Type 0
-  IsAnswered a e b = AnswersStep (known a.pass) e (known b.pass)
+  abbrev pub HasLastStep : Berth Q → BoxStep → Berth Q → Type 0
+  HasLastStep a e b = AnswersStep (known a.pass) e (known b.pass)
 
   -- the box has all the steps that are counted
   abbrev pub IsFull : Berth Q → Type 0

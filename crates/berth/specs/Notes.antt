@@ -39,9 +39,9 @@ AnswersAreRight b h = AreRight None h
 abbrev pub StandsForSteps : NoteBox → Unit {0} → List BoxStep → Type 0
 StandsForSteps s b h = (s.note ≡ note_after_all None h) × AreRight None h
 
-abbrev pub lying : Option BerthNote → List BerthNote
-lying None = []
-lying (Some n) = n ∷ []
+abbrev pub notes_of : Option BerthNote → List BerthNote
+notes_of None = []
+notes_of (Some n) = n ∷ []
 
 abbrev pub put_by : BoxStep → List BerthNote
 put_by (Put n true) = n ∷ []
@@ -50,4 +50,4 @@ put_by (Take r) = []
 
 abbrev pub taken_by : BoxStep → List BerthNote
 taken_by (Put n a) = []
-taken_by (Take r) = lying r
+taken_by (Take r) = notes_of r

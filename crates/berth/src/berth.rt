@@ -1,7 +1,7 @@
 //! An end of a berth.
 ghost use Rattle.std.specs.Prelude.{◌≡◌};
 ghost use Rattle.std.specs.Arc.{arc_value};
-ghost use Rattle.turn_lock.specs.Passes.{lock_of, id_of, known};
+ghost use Rattle.turn_lock.specs.Passes.{lock_of, lock_id, known};
 ghost use Rattle.berth.specs.Ends.{IsEnd};
 
 use crate::note::NoteBox;
@@ -16,6 +16,6 @@ pub struct Berth<Q> {
     pub(crate) lock: Arc<TurnLock<NoteBox>, Global>,
     pub(crate) pass: Pass<NoteBox>,
     pub(crate) is_first: bool,
-    ghost own: { lock_of pass ≡ id_of (arc_value lock) },
+    ghost own: { lock_of pass ≡ lock_id (arc_value lock) },
     ghost end: { IsEnd is_first (known pass) },
 }

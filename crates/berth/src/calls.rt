@@ -4,7 +4,7 @@ ghost use mathlib.Core.List.{IsPrefix};
 ghost use Rattle.berth.specs.declared.note.BoxStep.TheVariants.{Put, Take};
 ghost use Rattle.turn_lock.specs.Passes.{TurnCase};
 ghost use Rattle.berth.specs.Notes.{put_by, taken_by};
-ghost use Rattle.berth.specs.Berths.{put_notes, taken_notes, IsAnswered, IsFull, IsPair, IsSameEnd};
+ghost use Rattle.berth.specs.Berths.{put_notes, taken_notes, HasLastStep, IsFull, IsPair, IsSameEnd};
 
 use crate::berth::Berth;
 use crate::note::{BerthNote, NoteBox};
@@ -20,7 +20,7 @@ impl<Q: Wait> Berth<Q> {
         requires first { self.old.is_first ≡ true }
         ensures end { IsSameEnd self.old self.new }
         ensures notes { TurnCase result (put_notes self.new ≡ put_notes self.old) (λ a. put_notes self.new ≡ put_notes self.old ++ put_by (Put note a)) }
-        ensures answer { TurnCase result (IsFull self.new) (λ a. IsAnswered self.old (Put note a) self.new) }
+        ensures answer { TurnCase result (IsFull self.new) (λ a. HasLastStep self.old (Put note a) self.new) }
     {
         self.lock
             .turn(&self.permit, &mut self.pass, &mut PutNote { note })
@@ -31,7 +31,7 @@ impl<Q: Wait> Berth<Q> {
         requires second { self.old.is_first ≡ false }
         ensures end { IsSameEnd self.old self.new }
         ensures notes { TurnCase result (taken_notes self.new ≡ taken_notes self.old) (λ a. taken_notes self.new ≡ taken_notes self.old ++ taken_by (Take a)) }
-        ensures answer { TurnCase result (IsFull self.new) (λ a. IsAnswered self.old (Take a) self.new) }
+        ensures answer { TurnCase result (IsFull self.new) (λ a. HasLastStep self.old (Take a) self.new) }
     {
         self.lock.turn(&self.permit, &mut self.pass, &mut TakeNote)
     }
@@ -52,7 +52,7 @@ impl<Q> Berth<Q> {
         let (lock, mut pass) = TurnLock::new(alloc, NoteBox { note: None }, 2)?;
         let second = lock.split(&mut pass);
         let lock = Arc::new(alloc, lock)?;
-        let other = Arc::try_clone(&lock)?;
+        let second_lock = Arc::try_clone(&lock)?;
         let first = Berth {
             permit,
             lock,
@@ -61,7 +61,7 @@ impl<Q> Berth<Q> {
         };
         let second = Berth {
             permit,
-            lock: other,
+            lock: second_lock,
             pass: second,
             is_first: false,
         };
@@ -83,7 +83,7 @@ impl<Q> Berth<Q> {
         } = self;
         let Berth {
             permit: _second_permit,
-            lock: _again,
+            lock: _second_lock,
             pass: second,
             is_first: _,
         } = other;

@@ -18,11 +18,11 @@ fn one_note_lies_in_the_box_at_a_time(rt: HostRuntime) -> Result<(), Fail> {
     assert!(rt; matches!(&second.take(), Turn::Did(None)));
     assert!(rt; matches!(&first.put(note(1)), Turn::Did(true)));
     assert!(rt; matches!(&first.put(note(2)), Turn::Did(false)));
-    let taken = match second.take() {
-        Turn::Did(taken) => taken,
+    let taken_note = match second.take() {
+        Turn::Did(note) => note,
         Turn::Spent => None,
     };
-    assert_eq!(rt; taken, Some(note(1)));
+    assert_eq!(rt; taken_note, Some(note(1)));
     assert!(rt; matches!(&second.take(), Turn::Did(None)));
     first.join(second);
     Ok(())

@@ -19,9 +19,9 @@ pub record HasAllAnswers (t : Turns) : Type 0 where
   pub each : (n : ℕ) → times n (own_answers t) ≡ times n t.answers.items
 
 -- so many turns were made, or as many as the history has room for
-pub record MadeTurns (wanted : ℕ) (t : Turns) : Type 0 where
-  pub most : length t.answers.items ≤ wanted
-  pub all : (length t.answers.items ≡ wanted) ⊎ (2 ^ 62 ≤ length (known t.pass).seen)
+pub record MadeTurns (times_asked : ℕ) (t : Turns) : Type 0 where
+  pub most : length t.answers.items ≤ times_asked
+  pub all : (length t.answers.items ≡ times_asked) ⊎ (2 ^ 62 ≤ length (known t.pass).seen)
 
 -- each number below n is once among them, and no other number is
 abbrev pub AreAllBelow : ℕ → List ℕ → Type 0

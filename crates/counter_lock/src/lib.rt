@@ -3,7 +3,7 @@
 #![tactic(auto)]
 
 pub mod counter;
-pub mod kept;
+pub mod steps;
 #[cfg(test)]
 mod tests;
 pub mod threads;

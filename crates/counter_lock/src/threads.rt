@@ -1,12 +1,12 @@
 //! Threads that count up one counter.
 ghost use Rattle.std.specs.Prelude.{◌≡◌, ℕ, ◌+◌, ◌*◌, [], length, IfOk};
-ghost use Rattle.turn_lock.specs.Passes.{lock_of, id_of, known, IsSamePass};
+ghost use Rattle.turn_lock.specs.Passes.{lock_of, lock_id, known, IsSamePass};
 ghost use Rattle.turn_lock.specs.Views.{own_steps, HasAllSteps};
 ghost use Rattle.counter_lock.specs.Counting.{CountsFrom};
 ghost use Rattle.counter_lock.specs.Threads.{HasItsAnswers, HasAllAnswers, MadeTurns, AreAllBelow};
 
 use crate::counter::Counter;
-use crate::kept::CountUp;
+use crate::steps::CountUp;
 use std::alloc::{AllocError, Global};
 use std::sync::Wait;
 use std::thread::{Threads, join};
@@ -34,13 +34,13 @@ pub fn count<R: Wait>(
     times: u32,
     alloc: Global,
 ) -> Result<Turns, AllocError>
-    requires own { lock_of pass ≡ id_of lock.now }
+    requires own { lock_of pass ≡ lock_id lock.now }
     requires fresh { own_steps (known pass) ≡ [] }
     ensures { IfOk result (λ t. IsSamePass pass t.pass × HasItsAnswers t × MadeTurns times t) }
 {
     let mut pass = pass;
     let mut answers = Vec::new(alloc);
-    for _made in 0..times {
+    for _turn_number in 0..times {
         match lock.turn(rt, &mut pass, &mut CountUp) {
             Turn::Did(answer) => answers.push(answer)?,
             Turn::Spent => break,
@@ -58,7 +58,7 @@ fn count_two<R: Threads + Wait + Sync>(
     times: u32,
     alloc: Global,
 ) -> (Result<Turns, AllocError>, Result<Turns, AllocError>)
-    requires own { (lock_of a ≡ id_of lock.now) × (lock_of b ≡ id_of lock.now) }
+    requires own { (lock_of a ≡ lock_id lock.now) × (lock_of b ≡ lock_id lock.now) }
     requires fresh { (own_steps (known a) ≡ []) × (own_steps (known b) ≡ []) }
     ensures first { IfOk result.0 (λ t. IsSamePass a t.pass × HasItsAnswers t × MadeTurns times t) }
     ensures second { IfOk result.1 (λ t. IsSamePass b t.pass × HasItsAnswers t × MadeTurns times t) }
@@ -66,11 +66,11 @@ fn count_two<R: Threads + Wait + Sync>(
     join(
         rt,
         || -> Result<Turns, AllocError>
-            requires { (lock_of a ≡ id_of lock.now) × (own_steps (known a) ≡ []) }
+            requires { (lock_of a ≡ lock_id lock.now) × (own_steps (known a) ≡ []) }
             ensures { IfOk result (λ t. IsSamePass a t.pass × HasItsAnswers t × MadeTurns times t) }
         { count(rt, lock, a, times, alloc) },
         || -> Result<Turns, AllocError>
-            requires { (lock_of b ≡ id_of lock.now) × (own_steps (known b) ≡ []) }
+            requires { (lock_of b ≡ lock_id lock.now) × (own_steps (known b) ≡ []) }
             ensures { IfOk result (λ t. IsSamePass b t.pass × HasItsAnswers t × MadeTurns times t) }
         { count(rt, lock, b, times, alloc) },
     )
@@ -78,7 +78,7 @@ fn count_two<R: Threads + Wait + Sync>(
 
 // The turns of another pass become the pass's own.
 fn take_in(lock: &TurnLock<Counter>, all: &mut Turns, other: Turns) -> Result<(), AllocError>
-    requires own { (lock_of all.old.pass ≡ id_of lock.now) × (lock_of other.pass ≡ id_of lock.now) }
+    requires own { (lock_of all.old.pass ≡ lock_id lock.now) × (lock_of other.pass ≡ lock_id lock.now) }
     requires answers { HasAllAnswers all.old × HasAllAnswers other }
     ensures own { IfOk result (λ _. lock_of all.new.pass ≡ lock_of all.old.pass) }
     ensures parts { IfOk result (λ _. (known all.new.pass).parts ≡ (known all.old.pass).parts + (known other.pass).parts) }
@@ -128,11 +128,11 @@ pub fn count_in_four_threads<R: Threads + Wait + Sync>(
     let ((first, second), (third, fourth)) = join(
         rt,
         || -> (Result<Turns, AllocError>, Result<Turns, AllocError>)
-            requires { (lock_of first ≡ id_of shared.now) × (lock_of second ≡ id_of shared.now) × (own_steps (known first) ≡ []) × (own_steps (known second) ≡ []) }
+            requires { (lock_of first ≡ lock_id shared.now) × (lock_of second ≡ lock_id shared.now) × (own_steps (known first) ≡ []) × (own_steps (known second) ≡ []) }
             ensures { IfOk result.0 (λ t. IsSamePass first t.pass × HasItsAnswers t × MadeTurns times t) × IfOk result.1 (λ t. IsSamePass second t.pass × HasItsAnswers t × MadeTurns times t) }
         { count_two(rt, shared, first, second, times, alloc) },
         || -> (Result<Turns, AllocError>, Result<Turns, AllocError>)
-            requires { (lock_of third ≡ id_of shared.now) × (lock_of fourth ≡ id_of shared.now) × (own_steps (known third) ≡ []) × (own_steps (known fourth) ≡ []) }
+            requires { (lock_of third ≡ lock_id shared.now) × (lock_of fourth ≡ lock_id shared.now) × (own_steps (known third) ≡ []) × (own_steps (known fourth) ≡ []) }
             ensures { IfOk result.0 (λ t. IsSamePass third t.pass × HasItsAnswers t × MadeTurns times t) × IfOk result.1 (λ t. IsSamePass fourth t.pass × HasItsAnswers t × MadeTurns times t) }
         { count_two(rt, shared, third, fourth, times, alloc) },
     );

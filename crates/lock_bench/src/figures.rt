@@ -2,7 +2,7 @@
 use crate::round::workers;
 use crate::worker::Worker;
 use counter_lock::counter::Counter;
-use counter_lock::kept::CountUp;
+use counter_lock::steps::CountUp;
 use std::alloc::Global;
 use std::io;
 use std::sync::atomic::AtomicBool;
@@ -157,12 +157,12 @@ fn time_beside<R: Threads + Wait + Clock + Sync, S: Stepping<Counter, Answer = u
     };
     let stop = AtomicBool::new(false);
     let flag = &stop;
-    let (watched, span) = join(
+    let (watch_result, span) = join(
         rt,
         || map_vec(rt, all, &|mut worker: Worker| worker.watch(rt, flag)),
         || drive(rt, driver, &mut step, flag),
     );
-    watched?;
+    watch_result?;
     span
 }
 

@@ -3,7 +3,7 @@ ghost use Rattle.std.specs.Prelude.{◌<◌, is_some, unwrap_or};
 
 use crate::worker::Worker;
 use counter_lock::counter::Counter;
-use counter_lock::kept::CountUp;
+use counter_lock::steps::CountUp;
 use std::alloc::{AllocError, Global};
 use std::sync::Wait;
 use std::thread::{Threads, map_vec};
@@ -37,30 +37,30 @@ impl Stepping<Counter> for CountInTurn {
 
 /// What one thread does.
 #[derive(Drop)]
-struct Job {
+struct ThreadTask {
     worker: Worker,
     step: CountInTurn,
 }
 
-impl Job {
+impl ThreadTask {
     // Counts up so many times, each when it is the thread's turn.
     fn run<R: Wait>(self, rt: &R, rounds: u32) -> u64 {
-        let Job {
+        let ThreadTask {
             mut worker,
             mut step,
         } = self;
-        let mut made = 0u64;
+        let mut step_count = 0u64;
         for _ in rt.forever() {
-            if made >= u64::from(rounds) {
+            if step_count >= u64::from(rounds) {
                 break;
             }
             match worker.turn(rt, &mut step) {
-                Turn::Did(Some(_)) => made += 1,
+                Turn::Did(Some(_)) => step_count += 1,
                 Turn::Did(None) => worker.park(rt),
                 Turn::Spent => break,
             }
         }
-        made
+        step_count
     }
 }
 
@@ -70,7 +70,7 @@ pub fn workers(alloc: Global, count: u32) -> Result<Vec<Worker>, AllocError>
 {
     let mut first = Worker::new(alloc, count)?;
     let mut all = Vec::new(alloc);
-    for _made in 1..count {
+    for _part in 1..count {
         all.push(first.split()?)?;
     }
     all.push(first)?;
@@ -87,9 +87,9 @@ pub fn pass_round<R: Threads + Wait + Sync>(
     if threads == 0 {
         return Ok(0);
     }
-    let mut jobs = Vec::new(alloc);
+    let mut tasks = Vec::new(alloc);
     for (number, worker) in workers(alloc, threads)?.into_iter().enumerate() {
-        jobs.push(Job {
+        tasks.push(ThreadTask {
             worker,
             step: CountInTurn {
                 number: number as u64,
@@ -97,10 +97,10 @@ pub fn pass_round<R: Threads + Wait + Sync>(
             },
         })?;
     }
-    let made = map_vec(rt, jobs, &|job: Job| job.run(rt, rounds))?;
+    let step_counts = map_vec(rt, tasks, &|task: ThreadTask| task.run(rt, rounds))?;
     let mut steps = 0u64;
-    for more in made {
-        steps = steps.saturating_add(more);
+    for count in step_counts {
+        steps = steps.saturating_add(count);
     }
     Ok(steps)
 }

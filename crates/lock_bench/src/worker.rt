@@ -1,7 +1,7 @@
 //! A thread's pass, with the lock that it is of.
 ghost use Rattle.std.specs.Prelude.{◌≡◌, ◌+◌, ◌≤◌, ◌<◌, IfOk};
 ghost use Rattle.std.specs.Arc.{arc_value};
-ghost use Rattle.turn_lock.specs.Passes.{lock_of, id_of, known};
+ghost use Rattle.turn_lock.specs.Passes.{lock_of, lock_id, known};
 
 use counter_lock::counter::Counter;
 use std::alloc::{AllocError, Global};
@@ -14,7 +14,7 @@ use turn_lock::{Pass, TurnLock};
 pub struct Worker {
     lock: Arc<TurnLock<Counter>, Global>,
     pass: Pass<Counter>,
-    ghost own: { lock_of pass ≡ id_of (arc_value lock) },
+    ghost own: { lock_of pass ≡ lock_id (arc_value lock) },
 }
 
 impl Worker {

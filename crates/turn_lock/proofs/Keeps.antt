@@ -13,9 +13,9 @@ use Rattle.atomic_table.specs.Table.{State, Me, Step, opening, Final, Seen, step
 use Rattle.atomic_table.proofs.Lists.{set_again, set_else}
 use Rattle.turn_lock.specs.declared.view.View.{View}
 use Rattle.turn_lock.specs.Shares.{times_in, once_below}
-use Rattle.turn_lock.specs.Views.{opening_view, one_part_less, new_part, joined, longer, shorter, settled, closed, witness, spent_view, caught_up, with_turn, released, IsPlaced, HasAllParts, StandsFor, IsLegal}
+use Rattle.turn_lock.specs.Views.{opening_view, one_part_less, new_part, joined, longer, shorter, settled, closed, witness, spent_view, caught_up, with_turn, released, IsPlaced, HasAllParts, StandsForHistory, IsLegal}
 use Rattle.turn_lock.specs.Plays.{Met, TookIf, Gave, Settled, Closed}
-use Rattle.turn_lock.specs.Rule.{Phase, free, out, shut, held_bit, IsHome, IsStored, IsView, IsOneHistory}
+use Rattle.turn_lock.specs.Rule.{LockPhase, free, out, shut, held_bit, IsHome, IsStored, IsView, IsOneHistory}
 use Rattle.turn_lock.proofs.Sums.{set-here, times-above, times_in-append, times_in-to_first, once_below-suc, once_below-le, once_below-zero, sum_by-one, length-snoc, prefix-self, prefix-length, prefix-through, prefix-both, prefix-whole}
 use Rattle.turn_lock.proofs.Views.{out-free, out-shut, shut-free, carried, renewed, partless, spent_is, change, add, still_turning, whole_here, still_whole, places_alone, seen_alone, not_out_alone}
 
@@ -79,16 +79,16 @@ module _ {T E B : Type 0} (stands : T → B → List E → Type 0) (legal : B �
   abbrev Rule : State T V → Type 0
   Rule = IsOneHistory stands legal begun seats
 
-  abbrev Stored : List E → Phase → List ℕ → List (Option T) → Type 0
+  abbrev Stored : List E → LockPhase → List ℕ → List (Option T) → Type 0
   Stored = IsStored stands legal begun
 
   abbrev Fits : T → List E → Type 0
-  Fits = StandsFor stands legal begun
+  Fits = StandsForHistory stands legal begun
 
   count_is : (s : State T V) (r : Rule s) → get_or s.words 0 0 ≡ 2 * length r.log + held_bit r.phase
   count_is s r = ap (λ (ws : List ℕ). get_or ws 0 0) r.stored.count
 
-  bit_small : (phase : Phase) → held_bit phase < 2
+  bit_small : (phase : LockPhase) → held_bit phase < 2
   bit_small free = omega arith
   bit_small out = omega arith
   bit_small shut = omega arith
@@ -138,7 +138,8 @@ module _ {T E B : Type 0} (stands : T → B → List E → Type 0) (legal : B �
         },
       )
 
-  free_home : (log : List E) (phase : Phase) (homes : List (Option T)) (n : ℕ) → n ≡ 2 * length log + held_bit phase → n % 2 ≡ 0
+  free_home : (log : List E) (phase : LockPhase) (homes : List (Option T)) (n : ℕ) → n ≡ 2 * length log + held_bit phase
+      → n % 2 ≡ 0
       → IsHome Fits log phase homes → (phase ≡ free) × ((t : T) × (homes ≡ some t ∷ []) × Fits t log)
   free_home log out homes n is even home = absurd (omega arith)
   free_home log shut homes n is even home = absurd (omega arith)
@@ -161,9 +162,9 @@ module _ {T E B : Type 0} (stands : T → B → List E → Type 0) (legal : B �
           holder = id;
           stored = record {
             legal_is = r.stored.legal_is;
-            others = r.stored.others;
+            sleep_words = r.stored.sleep_words;
             count =
-                set_count s.words r.stored.others (2 * length r.log + held_bit r.phase) new (2 * length r.log + 1) r.stored.count (omega arith);
+                set_count s.words r.stored.sleep_words (2 * length r.log + held_bit r.phase) new (2 * length r.log + 1) r.stored.count (omega arith);
             small = r.stored.small;
             room = λ _. omega arith;
             home = ap (λ (hs : List (Option T)). set hs 0 none) h.1.1;
@@ -184,7 +185,7 @@ module _ {T E B : Type 0} (stands : T → B → List E → Type 0) (legal : B �
             after = ap (λ (c : List (ℕ × T)). (w, (0, t) ∷ c)) bare;
             older = k.seen_is;
             count = plain;
-            stands_is = subst (λ (b : Maybe T). StandsFor stands legal b t r.log) (sym (k.start some_part).0) h.1.2;
+            stands_is = subst (λ (b : Maybe T). StandsForHistory stands legal b t r.log) (sym (k.start some_part).0) h.1.2;
           };
         },
       ))
@@ -196,7 +197,7 @@ module _ {T E B : Type 0} (stands : T → B → List E → Type 0) (legal : B �
         record { missed = λ _. refl; hit = λ hit. absurd (miss hit) },
       ))
 
-  out_home : (log : List E) (phase : Phase) (homes : List (Option T)) → phase ≡ out → IsHome Fits log phase homes
+  out_home : (log : List E) (phase : LockPhase) (homes : List (Option T)) → phase ≡ out → IsHome Fits log phase homes
       → homes ≡ none ∷ []
   out_home log out homes h home = home
   out_home log free homes h home = absurd (out-free (sym h))
@@ -205,7 +206,8 @@ module _ {T E B : Type 0} (stands : T → B → List E → Type 0) (legal : B �
   -- the turn is given back, with the state
   pub gives_turn : (slots id : ℕ) (m : Me T V) (t : T) (st : Maybe E) (new : ℕ) → m.0.has_turn ≡ true → m.1 ≡ (0, t) ∷ []
       → new ≡ 2 * length (released m.0 st).seen → new ≤ 2 ^ 63
-      → StandsFor stands legal m.0.opening t (released m.0 st).seen → IsLegal stands legal m.0.opening (released m.0 st).seen
+      → StandsForHistory stands legal m.0.opening t (released m.0 st).seen
+      → IsLegal stands legal m.0.opening (released m.0 st).seen
       → Allows Rule slots id m 0 (λ _. new) (λ _. Gave st m)
   gives_turn slots id m t st new on has count top fit lg s r wide at small =
       let v : V = m.0 in let a = r.viewed in let k = a.each id v at in let w : V = released v st in let mine = k.turn on in let g = releases v st in
@@ -220,13 +222,13 @@ module _ {T E B : Type 0} (stands : T → B → List E → Type 0) (legal : B �
           holder = 0;
           stored = record {
             legal_is = subst (λ (b : Maybe T). IsLegal stands legal b log) b.0 lg;
-            others = r.stored.others;
+            sleep_words = r.stored.sleep_words;
             count =
-                set_count s.words r.stored.others (2 * length r.log + held_bit r.phase) new (2 * length log + 0) r.stored.count (omega arith);
+                set_count s.words r.stored.sleep_words (2 * length r.log + held_bit r.phase) new (2 * length log + 0) r.stored.count (omega arith);
             small = omega arith;
             room = λ h. absurd (out-free (sym h));
             home =
-                (t, ap (put_back s.homes) has ∙ ap (λ (hs : List (Option T)). set hs 0 (some t)) (out_home r.log r.phase s.homes mine.0 r.stored.home), subst (λ (b : Maybe T). StandsFor stands legal b t log) b.0 fit);
+                (t, ap (put_back s.homes) has ∙ ap (λ (hs : List (Option T)). set hs 0 (some t)) (out_home r.log r.phase s.homes mine.0 r.stored.home), subst (λ (b : Maybe T). StandsForHistory stands legal b t log) b.0 fit);
           };
           viewed =
               change begun seats r.log log r.phase free r.holder 0 seats seats (λ p. once_below p (length r.log)) (λ p. once_below p (length log)) s.views id v w a at
@@ -321,7 +323,7 @@ module _ {T E B : Type 0} (stands : T → B → List E → Type 0) (legal : B �
         },
       )
 
-  shut_home : (log : List E) (phase : Phase) (homes : List (Option T)) → phase ≢ out → IsHome Fits log phase homes
+  shut_home : (log : List E) (phase : LockPhase) (homes : List (Option T)) → phase ≢ out → IsHome Fits log phase homes
       → IsHome Fits log shut homes
   shut_home log out homes n home = absurd (n refl)
   shut_home log free homes n home = home
@@ -345,9 +347,9 @@ module _ {T E B : Type 0} (stands : T → B → List E → Type 0) (legal : B �
           holder = r.holder;
           stored = record {
             legal_is = r.stored.legal_is;
-            others = r.stored.others;
+            sleep_words = r.stored.sleep_words;
             count =
-                set_count s.words r.stored.others (2 * length r.log + held_bit r.phase) new (2 * length r.log + 1) r.stored.count (is ∙ ap (λ (l : List E). 2 * length l + 1) up);
+                set_count s.words r.stored.sleep_words (2 * length r.log + held_bit r.phase) new (2 * length r.log + 1) r.stored.count (is ∙ ap (λ (l : List E). 2 * length l + 1) up);
             small = r.stored.small;
             room = λ h. absurd (out-shut (sym h));
             home = shut_home r.log r.phase s.homes not_out r.stored.home;
@@ -372,7 +374,7 @@ module _ {T E B : Type 0} (stands : T → B → List E → Type 0) (legal : B �
             add begun seats r.log r.phase r.holder seats seats (λ p. once_below p (length r.log)) s.views w a (λ j. partless begun seats r.log r.phase r.holder j w refl refl k.seen_is (v.seen, refl) refl (λ _. k.closing is)) (omega arith) (λ p. refl);
       }
 
-  closed_home : (log : List E) (phase : Phase) (homes : List (Option T)) → phase ≡ shut → IsHome Fits log phase homes
+  closed_home : (log : List E) (phase : LockPhase) (homes : List (Option T)) → phase ≡ shut → IsHome Fits log phase homes
       → (t : T) × (homes ≡ some t ∷ []) × Fits t log
   closed_home log out homes e home = absurd (out-shut e)
   closed_home log free homes e home = home
@@ -380,11 +382,11 @@ module _ {T E B : Type 0} (stands : T → B → List E → Type 0) (legal : B �
 
   -- what a closed lock leaves
   pub leaves : (id : ℕ) (v : V) (ws : List ℕ) (xs : List T) (t : T) → Final (Seen Rule id v) ws xs → v.is_closed ≡ true
-      → get_elem? xs 0 ≡ some t → StandsFor stands legal v.opening t v.seen
+      → get_elem? xs 0 ≡ some t → StandsForHistory stands legal v.opening t v.seen
   leaves id v ws xs t f is e =
       let s = f.0 in let r = f.1.0 in let k = (r.viewed.each id v f.1.1).closing is in let h = closed_home r.log r.phase s.homes k.0 r.stored.home in
       let same : h.0 ≡ t = some-injective h.0 t (sym (f.4 0 h.0 (ap (λ (hs : List (Option T)). get_elem? hs 0) h.1)) ∙ e) in
-      subst (λ (x : T × List E × Maybe T). StandsFor stands legal x.2 x.0 x.1) (λ i. (same i, sym k.1 i, sym k.2 i)) h.2
+      subst (λ (x : T × List E × Maybe T). StandsForHistory stands legal x.2 x.0 x.1) (λ i. (same i, sym k.1 i, sym k.2 i)) h.2
 
   -- a new lock
   pub opens : (t : T) → begun ≡ Some t → 0 < seats → Fits t [] → IsLegal stands legal begun []
@@ -394,7 +396,7 @@ module _ {T E B : Type 0} (stands : T → B → List E → Type 0) (legal : B �
     phase = free;
     holder = 0;
     stored =
-        record { legal_is = lg; others = 0 ∷ 0 ∷ 0 ∷ 0 ∷ []; count = refl; small = omega arith; room = λ h. absurd (out-free (sym h)); home = (t, refl, fit) };
+        record { legal_is = lg; sleep_words = 0 ∷ 0 ∷ 0 ∷ 0 ∷ []; count = refl; small = omega arith; room = λ h. absurd (out-free (sym h)); home = (t, refl, fit) };
     viewed = record {
       each = first t is some_part;
       holding = λ h. absurd (out-free (sym h));
@@ -428,7 +430,7 @@ module _ {T E B : Type 0} (stands : T → B → List E → Type 0) (legal : B �
       holder = r.holder;
       stored = record {
         legal_is = r.stored.legal_is;
-        others = set r.stored.others i new;
+        sleep_words = set r.stored.sleep_words i new;
         count = ap (λ (ws : List ℕ). set ws (suc i) new) r.stored.count;
         small = r.stored.small;
         room = r.stored.room;

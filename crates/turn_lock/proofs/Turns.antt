@@ -6,7 +6,7 @@ use mathlib.Core.List.{IsPrefix}
 use Rattle.atomic_table.specs.Table.{Me}
 use Rattle.turn_lock.specs.declared.view.View.{View}
 use Rattle.turn_lock.specs.Shares.{times_in, to_first, Interleaves}
-use Rattle.turn_lock.specs.Views.{caught_up, with_turn, IsPlaced, IsRising, own_steps, steps_by_share, with_step, longer, shorter, joined, settled, released, Turned, CaughtUp, BeginsFrom, StandsFor, IsLegal}
+use Rattle.turn_lock.specs.Views.{caught_up, with_turn, IsPlaced, IsRising, own_steps, steps_by_share, with_step, longer, shorter, joined, settled, released, Turned, CaughtUp, BeginsFrom, StandsForHistory, IsLegal}
 use Rattle.turn_lock.specs.Plays.{Looked, Met, CaughtUpFull, Took, Ran, Settled}
 use Rattle.turn_lock.proofs.Sums.{times_in-append, prefix-length, prefix-through, prefix-self, rising-to_first}
 use Rattle.turn_lock.proofs.Laws.{steps_at-more, steps_at-own, steps_at-both, steps_of_each-more, steps_of_each-own, steps_of_each-both}
@@ -52,7 +52,7 @@ module _ {T E B : Type 0} (stands : T → B → List E → Type 0) (legal : B �
     older = longer_on m n t.log k t.older;
     count = t.count;
     stands_is =
-        subst (λ (b : Option T). StandsFor stands legal b t.state t.log) (ap (λ (x : M T E). x.0.opening) k.after) t.stands_is;
+        subst (λ (b : Option T). StandsForHistory stands legal b t.state t.log) (ap (λ (x : M T E). x.0.opening) k.after) t.stands_is;
   }
 
   -- a full history found after a look

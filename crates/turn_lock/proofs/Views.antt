@@ -11,11 +11,11 @@ use Rattle.atomic_table.proofs.Lists.{at_set, at_snoc, set_else, at_longer}
 use Rattle.turn_lock.specs.declared.view.View.{View}
 use Rattle.turn_lock.specs.Shares.{times_in}
 use Rattle.turn_lock.specs.Views.{IsPlaced, spent_view}
-use Rattle.turn_lock.specs.Rule.{Phase, free, out, shut, IsView, AreViews}
+use Rattle.turn_lock.specs.Rule.{LockPhase, free, out, shut, IsView, AreViews}
 use Rattle.turn_lock.proofs.Sums.{set-here, sum_by-changed, sum_by-two, sum_by-only, prefix-through}
 
 -- which number a phase has, to tell two apart
-abbrev rank : Phase → ℕ
+abbrev rank : LockPhase → ℕ
 rank free = 0
 rank out = 1
 rank shut = 2
@@ -30,16 +30,16 @@ pub shut-free : shut ≡ free → ⊥
 shut-free e = let z : rank shut ≡ rank free = ap rank e in omega arith
 
 module _ {T E : Type 0} (opening : Maybe T) (seats : ℕ) where
-  abbrev One : List E → Phase → ℕ → ℕ → View T E → Type 0
+  abbrev One : List E → LockPhase → ℕ → ℕ → View T E → Type 0
   One = IsView opening seats
 
-  abbrev All : List E → Phase → ℕ → ℕ → (ℕ → ℕ) → List (View T E) → Type 0
+  abbrev All : List E → LockPhase → ℕ → ℕ → (ℕ → ℕ) → List (View T E) → Type 0
   All = AreViews opening seats
 
   abbrev pub Whole : List E → List (View T E) → Type 0
   Whole log vs = (j : ℕ) × (u : View T E) × (get_elem? vs j ≡ some u) × (0 < u.parts) × (u.seen ≡ log)
 
-  abbrev pub Turning : Phase → ℕ → List (View T E) → Type 0
+  abbrev pub Turning : LockPhase → ℕ → List (View T E) → Type 0
   Turning phase holder vs = phase ≡ out → (u : View T E) × (get_elem? vs holder ≡ some u) × (u.has_turn ≡ true)
 
   pub same_view : (vs : List (View T E)) (i j : ℕ) (u v : View T E) → i ≡ j → get_elem? vs i ≡ some u → get_elem? vs j ≡ some v
@@ -47,7 +47,7 @@ module _ {T E : Type 0} (opening : Maybe T) (seats : ℕ) where
   same_view vs i j u v same a b = some-injective u v (sym a ∙ (ap (get_elem? vs) same ∙ b))
 
   -- a view of another seat, where the history grew or the phase changed
-  pub carried : (log log' : List E) (phase phase' : Phase) (holder holder' j : ℕ) (u : View T E) → One log phase holder j u
+  pub carried : (log log' : List E) (phase phase' : LockPhase) (holder holder' j : ℕ) (u : View T E) → One log phase holder j u
       → IsPrefix log log'
       → (u.has_turn ≡ true → (phase' ≡ out) × (j ≡ holder') × (u.seen ≡ log') × (0 < u.parts))
       → (u.is_closed ≡ true → (phase' ≡ shut) × (u.seen ≡ log') × (u.opening ≡ opening)) → One log' phase' holder' j u
@@ -62,7 +62,8 @@ module _ {T E : Type 0} (opening : Maybe T) (seats : ℕ) where
   }
 
   -- a view that keeps its start and some parts
-  pub renewed : (log log' : List E) (phase phase' : Phase) (holder holder' id : ℕ) (v w : View T E) → One log phase holder id v
+  pub renewed : (log log' : List E) (phase phase' : LockPhase) (holder holder' id : ℕ) (v w : View T E)
+      → One log phase holder id v
       → 0 < v.parts → w.opening ≡ v.opening → w.seats ≡ v.seats → 0 < w.parts
       → IsPrefix w.seen log' → IsPrefix w.shorter w.seen → IsPlaced w
       → (w.has_turn ≡ true → (phase' ≡ out) × (id ≡ holder') × (w.seen ≡ log') × (0 < w.parts))
@@ -79,7 +80,8 @@ module _ {T E : Type 0} (opening : Maybe T) (seats : ℕ) where
       }
 
   -- a view with no part and no share
-  pub partless : (log : List E) (phase : Phase) (holder j : ℕ) (w : View T E) → w.parts ≡ 0 → w.shares ≡ [] → IsPrefix w.seen log
+  pub partless : (log : List E) (phase : LockPhase) (holder j : ℕ) (w : View T E) → w.parts ≡ 0 → w.shares ≡ []
+      → IsPrefix w.seen log
       → IsPrefix w.shorter w.seen → w.has_turn ≡ false
       → (w.is_closed ≡ true → (phase ≡ shut) × (w.seen ≡ log) × (w.opening ≡ opening)) → One log phase holder j w
   partless log phase holder j w parts shares seen_is shorter_is off closing = record {
@@ -92,12 +94,12 @@ module _ {T E : Type 0} (opening : Maybe T) (seats : ℕ) where
     spent = λ _ p. ap (times_in p) shares;
   }
 
-  pub spent_is : (log : List E) (phase : Phase) (holder j : ℕ) → One log phase holder j spent_view
+  pub spent_is : (log : List E) (phase : LockPhase) (holder j : ℕ) → One log phase holder j spent_view
   spent_is log phase holder j =
       partless log phase holder j spent_view refl refl (log, refl) ([], refl) refl (λ on. absurd (true≢false (sym on)))
 
   -- one view changes
-  pub change : (log log' : List E) (phase phase' : Phase) (holder holder' parts parts' : ℕ) (once once' : ℕ → ℕ) (vs : List (View T E)) (id : ℕ) (v w : View T E)
+  pub change : (log log' : List E) (phase phase' : LockPhase) (holder holder' parts parts' : ℕ) (once once' : ℕ → ℕ) (vs : List (View T E)) (id : ℕ) (v w : View T E)
       → All log phase holder parts once vs → get_elem? vs id ≡ some v
       → One log' phase' holder' id w → ((j : ℕ) (u : View T E) → j ≢ id → One log phase holder j u → One log' phase' holder' j u)
       → Turning phase' holder' (set vs id w)
@@ -117,7 +119,7 @@ module _ {T E : Type 0} (opening : Maybe T) (seats : ℕ) where
       }
 
   -- a view is added that has no place
-  pub add : (log : List E) (phase : Phase) (holder parts parts' : ℕ) (once : ℕ → ℕ) (vs : List (View T E)) (w : View T E)
+  pub add : (log : List E) (phase : LockPhase) (holder parts parts' : ℕ) (once : ℕ → ℕ) (vs : List (View T E)) (w : View T E)
       → All log phase holder parts once vs → ((j : ℕ) → One log phase holder j w)
       → parts' ≡ parts + w.parts → ((p : ℕ) → times_in p w.shares ≡ 0) → All log phase holder parts' once (vs ++ w ∷ [])
   add log phase holder parts parts' once vs w r mine same none = record {
@@ -130,7 +132,7 @@ module _ {T E : Type 0} (opening : Maybe T) (seats : ℕ) where
     whole = let x = r.whole in (x.0, x.1, at_longer vs (w ∷ []) x.0 x.1 x.2, x.3, x.4);
   }
 
-  module _ (log : List E) (phase : Phase) (holder parts : ℕ) (once : ℕ → ℕ) (vs : List (View T E)) (r : All log phase holder parts once vs) (id : ℕ) (v : View T E) (at : get_elem? vs id ≡ some v) where
+  module _ (log : List E) (phase : LockPhase) (holder parts : ℕ) (once : ℕ → ℕ) (vs : List (View T E)) (r : All log phase holder parts once vs) (id : ℕ) (v : View T E) (at : get_elem? vs id ≡ some v) where
     -- a seat that hasn't the turn is another than the one that has it
     apart : v.has_turn ≡ false → phase ≡ out → holder ≢ id
     apart off h same =

@@ -24,8 +24,8 @@ module _ {T E B : Type 0} where
     pub seats : (known q).seats ≡ (known p).seats
 
   -- which lock it is
-  abbrev pub id_of : TurnLock T E B → TableId
-  id_of l = l.table.shared.table_id
+  abbrev pub lock_id : TurnLock T E B → TableId
+  lock_id l = l.table.shared.table_id
 
 -- by what a turn gave
 abbrev pub TurnCase : {A : Type 0} → Turn A → Type 0 → (A → Type 0) → Type 0

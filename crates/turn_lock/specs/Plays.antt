@@ -4,7 +4,7 @@ use mathlib.Core.List.{IsPrefix}
 use Rattle.atomic_table.specs.Table.{Me, Step, rest}
 use Rattle.turn_lock.specs.declared.view.View.{View}
 use Rattle.turn_lock.specs.Shares.{times_in, once_below}
-use Rattle.turn_lock.specs.Views.{HasAllParts, caught_up, with_turn, released, settled, closed, StandsFor, IsLegal}
+use Rattle.turn_lock.specs.Views.{HasAllParts, caught_up, with_turn, released, settled, closed, StandsForHistory, IsLegal}
 
 module _ {T E : Type 0} where
   -- the turn was given back
@@ -46,7 +46,7 @@ module _ {T E B : Type 0} (stands : T → B → List E → Type 0) (legal : B �
     pub after : m' ≡ (with_turn m.0 log, (0, state) ∷ [])
     pub older : IsPrefix m.0.seen log
     pub count : r ≡ 2 * length log
-    pub stands_is : StandsFor stands legal m.0.opening state log
+    pub stands_is : StandsForHistory stands legal m.0.opening state log
 
   -- the history was seen, and has all the steps that are counted
   pub record CaughtUpFull (m m' : Me T (View T E)) : Type 0 where
@@ -66,18 +66,18 @@ module _ {T E B : Type 0} (stands : T → B → List E → Type 0) (legal : B �
     pub state : T
     pub slot : m ≡ (m.0, (0, state) ∷ [])
     pub turn : m.0.has_turn ≡ true
-    pub stands_is : StandsFor stands legal m.0.opening state m.0.seen
+    pub stands_is : StandsForHistory stands legal m.0.opening state m.0.seen
 
   -- the step was made on the state, in place
   pub record Ran (m : Me T (View T E)) (step : Option E) (m' : Me T (View T E)) : Type 0 where
     pub state : T
     pub after : m' ≡ (m.0, (0, state) ∷ [])
-    pub stands_is : StandsFor stands legal m.0.opening state (released m.0 step).seen
+    pub stands_is : StandsForHistory stands legal m.0.opening state (released m.0 step).seen
 
   -- the turn is held, with a state that stands for the history with the step added
   pub record Holding (step : Option E) (m : Me T (View T E)) : Type 0 where
     pub state : T
     pub slot : m.1 ≡ (0, state) ∷ []
     pub turn : m.0.has_turn ≡ true
-    pub stands_is : StandsFor stands legal m.0.opening state (released m.0 step).seen
+    pub stands_is : StandsForHistory stands legal m.0.opening state (released m.0 step).seen
     pub legal_is : IsLegal stands legal m.0.opening (released m.0 step).seen

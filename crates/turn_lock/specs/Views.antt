@@ -101,8 +101,8 @@ module _ {T E B : Type 0} (stands : T → B → List E → Type 0) (legal : B �
   BeginsFrom (Some t) b = stands t b []
 
   -- the state stands for the steps, from each start that the lock may have begun from, and there is one
-  abbrev pub StandsFor : Option T → T → List E → Type 0
-  StandsFor opening t log = ((b : B) × BeginsFrom opening b) × ((b : B) → BeginsFrom opening b → stands t b log)
+  abbrev pub StandsForHistory : Option T → T → List E → Type 0
+  StandsForHistory opening t log = ((b : B) × BeginsFrom opening b) × ((b : B) → BeginsFrom opening b → stands t b log)
 
   -- the steps are legal from each start that the lock may have begun from
   abbrev pub IsLegal : Option T → List E → Type 0

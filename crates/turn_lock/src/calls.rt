@@ -2,13 +2,13 @@
 ghost use Rattle.std.specs.Prelude.{◌≡◌, ℕ, ◌<◌, ◌≤◌, [], ◌∷◌, ◌++◌, IfOk};
 ghost use mathlib.Core.List.{IsPrefix};
 ghost use Rattle.turn_lock.specs.Shares.{Interleaves, times_in};
-ghost use Rattle.turn_lock.specs.Views.{StandsFor, IsLegal, CaughtUp, HasAllParts, HasAllSteps, opening_view, one_part_less, new_part, joined, settled, closed, own_steps, steps_by_share};
-ghost use Rattle.turn_lock.specs.Passes.{lock_of, id_of, known, IsSamePass};
+ghost use Rattle.turn_lock.specs.Views.{StandsForHistory, IsLegal, CaughtUp, HasAllParts, HasAllSteps, opening_view, one_part_less, new_part, joined, settled, closed, own_steps, steps_by_share};
+ghost use Rattle.turn_lock.specs.Passes.{lock_of, lock_id, known, IsSamePass};
 
 use crate::lock::{COUNT, TurnLock};
 use crate::pass::Pass;
-use crate::rule::{Closes, Meets, OnePart, Settles, Together, Witness};
-use crate::view::Opening;
+use crate::rule::{Closes, Meets, OnePart, SettlesJoin, Together, Witness};
+use crate::view::LockOpening;
 use atomic_table::Table;
 use std::alloc::{AllocError, Global};
 use std::snapshot::Snapshot;
@@ -25,10 +25,10 @@ impl<T: Kept> TurnLock<T> {
         T: Drop,
         requires seats { 0 < seats }
         requires stands { (b : T.Start) × T.stands state b [] }
-        ensures own { IfOk result (λ r. lock_of r.1 ≡ id_of r.0) }
+        ensures own { IfOk result (λ r. lock_of r.1 ≡ lock_id r.0) }
         ensures pass { IfOk result (λ r. known r.1 ≡ opening_view state seats) }
     {
-        let opening = Opening {
+        let opening = LockOpening {
             state: Snapshot::of(&state),
             seats,
         };
@@ -36,8 +36,8 @@ impl<T: Kept> TurnLock<T> {
         slots.push(state)?;
         match Table::new(alloc, &[0, 0, 0, 0, 0], slots, &opening) {
             Ok((table, seat)) => Ok((TurnLock { table }, Pass { seat, count: 0 })),
-            Err(refused) => {
-                drop(refused);
+            Err(refused_slots) => {
+                drop(refused_slots);
                 Err(AllocError)
             }
         }
@@ -45,7 +45,7 @@ impl<T: Kept> TurnLock<T> {
 
     /// A new pass with one part of the pass. It has seen as much, and has made no step.
     pub fn split(&self, pass: &mut Pass<T>) -> Pass<T>
-        requires own { lock_of pass.old ≡ id_of self.now }
+        requires own { lock_of pass.old ≡ lock_id self.now }
         requires parts { 2 ≤ (known pass.old).parts }
         ensures own { (lock_of pass.new ≡ lock_of pass.old) × (lock_of result ≡ lock_of pass.old) }
         ensures left { known pass.new ≡ one_part_less (known pass.old) }
@@ -62,7 +62,7 @@ impl<T: Kept> TurnLock<T> {
     /// The pass takes in another: what the one saw that saw more, the shares of both, and the parts
     /// of both. Its own steps are those of both.
     pub fn join(&self, pass: &mut Pass<T>, other: Pass<T>)
-        requires own { (lock_of pass.old ≡ id_of self.now) × (lock_of other ≡ id_of self.now) }
+        requires own { (lock_of pass.old ≡ lock_id self.now) × (lock_of other ≡ lock_id self.now) }
         ensures own { lock_of pass.new ≡ lock_of pass.old }
         ensures joined { known pass.new ≡ settled (joined (known pass.old) (known other)) }
         ensures older { IsPrefix (known pass.old).seen (known pass.new).seen × IsPrefix (known other).seen (known pass.new).seen }
@@ -74,13 +74,13 @@ impl<T: Kept> TurnLock<T> {
         self.table
             .shared
             .join_seat::<Together>(&mut pass.seat, seat);
-        self.table.shared.load::<Settles>(&mut pass.seat, COUNT);
+        self.table.shared.load::<SettlesJoin>(&mut pass.seat, COUNT);
         pass.count = pass.count.max(count);
     }
 
     /// Sees the history so far. Of a pass with all parts, all steps are its own.
     pub fn meet(&self, pass: &mut Pass<T>)
-        requires own { lock_of pass.old ≡ id_of self.now }
+        requires own { lock_of pass.old ≡ lock_id self.now }
         ensures own { IsSamePass pass.old pass.new }
         ensures met { CaughtUp T.stands T.is_legal (known pass.old) (known pass.new) }
         ensures all { HasAllParts (known pass.old) → HasAllSteps (known pass.new) }
@@ -91,11 +91,11 @@ impl<T: Kept> TurnLock<T> {
     /// Closes the lock, by the pass that has all parts, and gives the state. The pass has seen the
     /// whole history, for which the state stands, and all its steps are the pass's own.
     pub fn close(self, pass: Pass<T>) -> (T, Pass<T>)
-        requires own { lock_of pass ≡ id_of self }
+        requires own { lock_of pass ≡ lock_id self }
         requires parts { HasAllParts (known pass) }
         ensures own { lock_of result.1 ≡ lock_of pass }
         ensures pass { known result.1 ≡ closed (known pass) }
-        ensures state { StandsFor T.stands T.is_legal (known result.1).opening result.0 (known result.1).seen }
+        ensures state { StandsForHistory T.stands T.is_legal (known result.1).opening result.0 (known result.1).seen }
         ensures legal { IsLegal T.stands T.is_legal (known result.1).opening (known result.1).seen }
         ensures all { HasAllSteps (known result.1) }
     {
@@ -103,15 +103,15 @@ impl<T: Kept> TurnLock<T> {
         self.shut(&mut pass);
         let witness = self.table.shared.split_seat::<Witness>(&mut pass.seat);
         let TurnLock { table } = self;
-        let mut finished = table.close_with(witness);
-        let state = finished.take(0);
-        finished.free();
+        let mut closed_table = table.close_with(witness);
+        let state = closed_table.take(0);
+        closed_table.free();
         (state, pass)
     }
 
     // The count stays odd from now on, so nobody takes the turn any more.
     fn shut(&self, pass: &mut Pass<T>)
-        requires own { lock_of pass.old ≡ id_of self.now }
+        requires own { lock_of pass.old ≡ lock_id self.now }
         requires parts { HasAllParts (known pass.old) }
         ensures own { lock_of pass.new ≡ lock_of pass.old }
         ensures pass { known pass.new ≡ closed (known pass.old) }

@@ -2,7 +2,7 @@
 ghost use Rattle.std.specs.Prelude.{◌≡◌};
 
 use crate::rule::OneHistory;
-use crate::view::{Opening, View};
+use crate::view::{LockOpening, View};
 use atomic_table::Table;
 use std::alloc::Global;
 use tr_io::stepping::Kept;
@@ -21,6 +21,6 @@ pub(crate) const PARKED_BELL: usize = 4;
 /// A lock round a state.
 #[derive(Drop)]
 pub struct TurnLock<T: Kept> {
-    pub(crate) table: Table<T, View<T, T::Step>, Opening<T>, OneHistory, Global>,
+    pub(crate) table: Table<T, View<T, T::Step>, LockOpening<T>, OneHistory, Global>,
     ghost sized: { (table.shared.table_id.words ≡ 5) × (table.shared.table_id.slots ≡ 1) },
 }

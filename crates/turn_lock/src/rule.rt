@@ -6,10 +6,10 @@
 //! | take the turn, and the state out of its slot | compare and exchange of the count | [`Takes`] |
 //! | put the state back and release: held bit off, count up where the step counts | store of the count | [`Gives`] |
 //! | split | split of a seat | [`OnePart`] |
-//! | join, and a load that tells what the joined pass now knows | join of seats, load of the count | [`Together`], [`Settles`] |
+//! | join, and a load that tells what the pass now knows | join of seats, load of the count | [`Together`], [`SettlesJoin`] |
 //! | close: the held bit stays on | store of the count, split of a seat | [`Closes`], [`Witness`] |
 //! | asleep or awake | a new seat, a change of another word | [`Enters`], [`Stays`] |
-use crate::view::{Opening, View};
+use crate::view::{LockOpening, View};
 use atomic_table::{Join, Play, Split, TableRule};
 use std::marker::{Brand, PhantomData};
 use tr_io::stepping::Kept;
@@ -17,7 +17,7 @@ use tr_io::stepping::Kept;
 /// All passes stand in one history.
 pub struct OneHistory;
 
-impl<T: Kept> TableRule<T, View<T, T::Step>, Opening<T>> for OneHistory {
+impl<T: Kept> TableRule<T, View<T, T::Step>, LockOpening<T>> for OneHistory {
     ghost use Rattle.std.specs.Prelude.{Some};
     ghost use Rattle.turn_lock.specs.Rule.{IsOneHistory};
     ghost use Rattle.turn_lock.specs.Views.{opening_view};
@@ -92,9 +92,9 @@ impl<T, E> Join<View<T, E>> for Together {
 }
 
 /// A joined pass is told that what one of the two saw begins what the other saw.
-pub struct Settles;
+pub struct SettlesJoin;
 
-impl<T, E> Play<T, View<T, E>> for Settles {
+impl<T, E> Play<T, View<T, E>> for SettlesJoin {
     ghost use Rattle.turn_lock.specs.Plays.{Settled};
 
     ghost then = { λ _ m _ m'. Settled m m' };

@@ -10,7 +10,7 @@
 //! costs two looks where nobody sleeps. A thread that counted itself and didn't sleep is left in the
 //! count, which costs one wake of nobody.
 ghost use Rattle.std.specs.Prelude.{◌≡◌};
-ghost use Rattle.turn_lock.specs.Passes.{lock_of, id_of};
+ghost use Rattle.turn_lock.specs.Passes.{lock_of, lock_id};
 
 use crate::lock::{COUNT, PARKED, PARKED_BELL, TurnLock, WAITING, WAITING_BELL};
 use crate::pass::Pass;
@@ -29,7 +29,7 @@ impl<T: Kept> TurnLock<T> {
     /// May sleep while no step was made behind what the pass saw, until a step gives work. It is no
     /// step, changes nothing, may return at any time and may not return at all.
     pub fn park<R: Wait>(&self, rt: &R, pass: &Pass<T>)
-        requires own { lock_of pass.now ≡ id_of self.now }
+        requires own { lock_of pass.now ≡ lock_id self.now }
     {
         let shared = &self.table.shared;
         let bell = shared.peek(PARKED_BELL);
@@ -70,10 +70,10 @@ impl<T: Kept> TurnLock<T> {
         ensures same { (seat.new.table_id ≡ seat.old.table_id) × (seat.new.id ≡ seat.old.id) × (seat.new.me ≡ seat.old.me) }
     {
         let shared = &self.table.shared;
-        let waiting = shared.peek(WAITING);
+        let sleepers = shared.peek(WAITING);
         // Where another changed the count, it counted itself and then finds the turn free, or it wakes one.
-        if waiting != 0
-            && shared.compare_exchange::<Stays>(seat, WAITING, waiting, waiting - 1) == waiting
+        if sleepers != 0
+            && shared.compare_exchange::<Stays>(seat, WAITING, sleepers, sleepers - 1) == sleepers
         {
             shared.fetch_add::<Stays>(seat, WAITING_BELL, 1);
             shared.wake_one(WAITING_BELL);
@@ -92,7 +92,7 @@ impl<T: Kept> TurnLock<T> {
     pub(crate) fn wake_parked<S: Stepping<T>>(
         &self,
         seat: &mut Seat<T, View<T, T::Step>>,
-        counted: bool,
+        is_counted: bool,
         step: &S,
         answer: &S::Answer,
     )
@@ -100,7 +100,7 @@ impl<T: Kept> TurnLock<T> {
         ensures same { (seat.new.table_id ≡ seat.old.table_id) × (seat.new.id ≡ seat.old.id) × (seat.new.me ≡ seat.old.me) }
     {
         let shared = &self.table.shared;
-        if counted && shared.peek(PARKED) != 0 && step.gives_work(answer) {
+        if is_counted && shared.peek(PARKED) != 0 && step.gives_work(answer) {
             shared.store::<Stays>(seat, PARKED, 0);
             shared.fetch_add::<Stays>(seat, PARKED_BELL, 1);
             shared.wake_all(PARKED_BELL);

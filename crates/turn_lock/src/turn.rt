@@ -3,7 +3,7 @@ ghost use Rattle.std.specs.Prelude.{◌≡◌, ℕ, ◌*◌, ◌%◌, ◌^◌, �
 ghost use mathlib.Core.List.{IsPrefix};
 ghost use Rattle.turn_lock.specs.Views.{step_if, released, Turned, CaughtUp};
 ghost use Rattle.turn_lock.specs.Plays.{Took, CaughtUpFull, Holds, Holding, Ran};
-ghost use Rattle.turn_lock.specs.Passes.{lock_of, id_of, known, IsSamePass, TurnCase};
+ghost use Rattle.turn_lock.specs.Passes.{lock_of, lock_id, known, IsSamePass, TurnCase};
 
 use crate::lock::{COUNT, TurnLock};
 use crate::pass::Pass;
@@ -18,7 +18,7 @@ use tr_io::stepping::{Kept, Stepping, Turn};
 /// The last count, at 2^62 steps.
 const FULL: u64 = 1 << 63;
 
-type Place<T> = Seat<T, View<T, <T as Kept>::Step>>;
+type PassSeat<T> = Seat<T, View<T, <T as Kept>::Step>>;
 
 impl<T: Kept> TurnLock<T> {
     /// Makes a step as soon as the pass has the turn, for which it waits: the history so far is
@@ -31,20 +31,20 @@ impl<T: Kept> TurnLock<T> {
         pass: &mut Pass<T>,
         step: &mut S,
     ) -> Turn<S::Answer>
-        requires own { lock_of pass.old ≡ id_of self.now }
+        requires own { lock_of pass.old ≡ lock_id self.now }
         ensures own { IsSamePass pass.old pass.new }
         ensures turn { TurnCase result (CaughtUp T.stands T.is_legal (known pass.old) (known pass.new) × (length (known pass.new).seen ≡ 2 ^ 62)) (λ a. Turned T.stands T.is_legal (known pass.old) (step_if (S.counts a) (S.step_of step.old a)) (known pass.new)) }
     {
-        let before = Snapshot::of(step);
+        let step_snapshot = Snapshot::of(step);
         let Some(word) = self.take(rt, &mut pass.seat, pass.count) else {
             pass.count = FULL / 2;
             return Turn::Spent;
         };
-        let (counted, answer) = self.run(&mut pass.seat, step);
-        let next = if counted { word + 2 } else { word };
-        self.release::<Brand, S>(&mut pass.seat, next, &before, &answer);
+        let (is_counted, answer) = self.run(&mut pass.seat, step);
+        let next = if is_counted { word + 2 } else { word };
+        self.release::<Brand, S>(&mut pass.seat, next, &step_snapshot, &answer);
         self.wake_next(&mut pass.seat);
-        self.wake_parked(&mut pass.seat, counted, step, &answer);
+        self.wake_parked(&mut pass.seat, is_counted, step, &answer);
         pass.count = next / 2;
         Turn::Did(answer)
     }
@@ -52,7 +52,7 @@ impl<T: Kept> TurnLock<T> {
     // Takes the turn, and waits for it where it must. None: the history has 2^62 steps. Mostly nobody
     // made a step since the pass saw `count` of them, so it tries that word before it looks.
     #[inline]
-    fn take<R: Wait>(&self, rt: &R, seat: &mut Place<T>, count: u64) -> Option<u64>
+    fn take<R: Wait>(&self, rt: &R, seat: &mut PassSeat<T>, count: u64) -> Option<u64>
         requires own { seat.old.table_id ≡ self.now.table.shared.table_id }
         requires rests { (seat.old.me.1 ≡ []) × (seat.old.me.0.has_turn ≡ false) × (0 < seat.old.me.0.parts) }
         requires low { count ≤ 2 ^ 62 }
@@ -68,7 +68,7 @@ impl<T: Kept> TurnLock<T> {
 
     // Waits for the turn. None: the history has 2^62 steps.
     #[inline(never)]
-    fn wait<R: Wait>(&self, rt: &R, seat: &mut Place<T>) -> Option<u64>
+    fn wait<R: Wait>(&self, rt: &R, seat: &mut PassSeat<T>) -> Option<u64>
         requires own { seat.old.table_id ≡ self.now.table.shared.table_id }
         requires rests { (seat.old.me.1 ≡ []) × (seat.old.me.0.has_turn ≡ false) × (0 < seat.old.me.0.parts) }
         ensures own { (seat.new.table_id ≡ seat.old.table_id) × (seat.new.id ≡ seat.old.id) }
@@ -90,7 +90,7 @@ impl<T: Kept> TurnLock<T> {
     }
 
     // Takes the turn, if the word is still this one, and nobody has the turn there.
-    fn seize(&self, seat: &mut Place<T>, word: u64) -> bool
+    fn seize(&self, seat: &mut PassSeat<T>, word: u64) -> bool
         requires own { seat.old.table_id ≡ self.now.table.shared.table_id }
         requires rests { (seat.old.me.1 ≡ []) × (seat.old.me.0.has_turn ≡ false) × (0 < seat.old.me.0.parts) }
         requires low { word < 2 ^ 63 }
@@ -100,15 +100,15 @@ impl<T: Kept> TurnLock<T> {
         if word % 2 == 1 {
             return false;
         }
-        let found = self
+        let found_word = self
             .table
             .shared
             .compare_exchange::<Takes>(seat, COUNT, word, word + 1);
-        found == word
+        found_word == word
     }
 
     // Makes the step on the state, in place.
-    fn run<S: Stepping<T>>(&self, seat: &mut Place<T>, step: &mut S) -> (bool, S::Answer)
+    fn run<S: Stepping<T>>(&self, seat: &mut PassSeat<T>, step: &mut S) -> (bool, S::Answer)
         requires own { seat.old.table_id ≡ self.now.table.shared.table_id }
         requires holds { Holds T.stands T.is_legal seat.old.me }
         requires room { length seat.old.me.0.seen < 2 ^ 62 }
@@ -124,9 +124,9 @@ impl<T: Kept> TurnLock<T> {
     // by the last two arguments.
     fn release<J: Adding<T::Step>, S: Stepping<T>>(
         &self,
-        seat: &mut Place<T>,
+        seat: &mut PassSeat<T>,
         word: u64,
-        _before: &Snapshot<S>,
+        _step_snapshot: &Snapshot<S>,
         _answer: &S::Answer,
     )
         requires own { seat.old.table_id ≡ self.now.table.shared.table_id }

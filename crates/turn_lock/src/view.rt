@@ -4,7 +4,7 @@ use std::snapshot::Snapshot;
 
 /// What a lock is told when it is made.
 #[derive(Drop)]
-pub struct Opening<T> {
+pub struct LockOpening<T> {
     /// The state that it began with.
     pub state: Snapshot<T>,
     /// How many parts its passes have together.

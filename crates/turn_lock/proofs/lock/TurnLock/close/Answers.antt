@@ -1,5 +1,5 @@
 use Rattle.std.proofs.Common.{◌≡◌, ◌∙◌, rules, ap, subst, sym}
-use Rattle.turn_lock.specs.Views.{StandsFor, HasAllSteps, witness}
+use Rattle.turn_lock.specs.Views.{StandsForHistory, HasAllSteps, witness}
 use Rattle.turn_lock.proofs.Keeps.{witnesses, leaves}
 use Rattle.turn_lock.proofs.lock.TurnLock.close.Goals as goal
 
@@ -9,10 +9,10 @@ split_seat-witness-requires g c =
 
 pub returns-clause-state : goal.returns-clause-state
 returns-clause-state g c =
-    let S = StandsFor g.T.Kept.stands g.T.Kept.is_legal in let w = c.split_seat-witness.result.me.0 in let v = c.shut.new.pass.seat.me.0 in
+    let S = StandsForHistory g.T.Kept.stands g.T.Kept.is_legal in let w = c.split_seat-witness.result.me.0 in let v = c.shut.new.pass.seat.me.0 in
     let is : w ≡ witness v = ap (λ x. x.0) c.split_seat-witness.ensures.4 in
     let fit =
-    leaves g.T.Kept.stands g.T.Kept.is_legal _ _ _ w _ _ c.take-state.result c.close_with-finished.ensures.values.2 (ap (λ x. x.is_closed) is ∙ ap (λ x. x.is_closed) c.shut.ensures.pass) c.take-state.ensures.value in
+    leaves g.T.Kept.stands g.T.Kept.is_legal _ _ _ w _ _ c.take-state.result c.close_with-closed_table.ensures.values.2 (ap (λ x. x.is_closed) is ∙ ap (λ x. x.is_closed) c.shut.ensures.pass) c.take-state.ensures.value in
     subst (λ x. S x.0.opening c.take-state.result x.0.seen) (sym c.split_seat-witness.ensures.2) (subst (λ x. S x.opening c.take-state.result x.seen) is fit)
 
 pub returns-clause-legal : goal.returns-clause-legal

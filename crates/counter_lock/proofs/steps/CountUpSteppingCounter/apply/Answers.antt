@@ -1,6 +1,6 @@
 use Rattle.std.proofs.Common.{◌∷◌, [], arith, length-append}
 use Rattle.counter_lock.proofs.Counts.{CountsFrom-snoc}
-use Rattle.counter_lock.proofs.kept.CountUpSteppingCounter.apply.Goals as goal
+use Rattle.counter_lock.proofs.steps.CountUpSteppingCounter.apply.Goals as goal
 
 pub returns-clause-step : goal.returns-clause-step
 returns-clause-step c =
