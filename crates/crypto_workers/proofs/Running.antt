@@ -8,19 +8,19 @@ use Rattle.tr_io.specs.declared.names.ClaimNote.{ClaimNote}
 use Rattle.tr_io.specs.declared.step.Step.{Step}
 use Rattle.tr_io.specs.declared.step.Step.TheVariants.{Claim, GiveBack}
 use Rattle.tr_io.specs.PortSteps.{Adds}
-use Rattle.crypto_workers.specs.Rounds.{Round, claim_steps, round_steps, IsLastClaim}
-use Rattle.crypto_workers.specs.Rounds.Round.{Worked}
+use Rattle.crypto_workers.specs.Rounds.{WorkerRound, work_steps, round_steps, IsLastClaim}
+use Rattle.crypto_workers.specs.Rounds.WorkerRound.{Worked}
 
 -- What holds at each turn: whole rounds were made.
 pub record Running (worker : ℕ) (before now : List Step) : Type 0 where
-  pub rounds : List Round
+  pub rounds : List WorkerRound
   pub made : now ≡ before ++ flat_map (round_steps worker) rounds
 
 -- a job was claimed, and given back or not
 pub claimed : (worker : ℕ) (note : ClaimNote) (before steps middle after : List Step) (result : Option LoopEnd)
     → steps ≡ Claim worker (Some note) ∷ [] → Adds before steps middle
     → MatchOption result ((a : BackAnswer) × Adds middle (GiveBack note None a ∷ []) after) (λ end. (end ≡ LoopEnd.Spent) × (after ≡ middle))
-    → MatchOption result ((r : Round) × Adds before (claim_steps worker r) after) (λ end. (steps : List Step) × (after ≡ before ++ steps) × IsLastClaim worker end steps)
+    → MatchOption result ((r : WorkerRound) × Adds before (work_steps worker r) after) (λ end. (steps : List Step) × (after ≡ before ++ steps) × IsLastClaim worker end steps)
 claimed worker note before steps middle after None is claim (a, back) = (
   Worked note a,
   record {
@@ -37,7 +37,7 @@ claimed worker note before steps middle after (Some end) is claim (spent, same) 
 )
 
 pub goes_on : (worker : ℕ) (before now after : List Step) → Running worker before now
-    → (r : Round) × Adds now (round_steps worker r) after → Running worker before after
+    → (r : WorkerRound) × Adds now (round_steps worker r) after → Running worker before after
 goes_on worker before now after was (r, adds) = record {
   rounds = was.rounds ++ r ∷ [];
   made = adds.behind ∙ ap (λ xs. xs ++ round_steps worker r) was.made ∙ flat_map_more (round_steps worker) before was.rounds r;

@@ -7,19 +7,19 @@ use Rattle.tr_io.specs.declared.step.Step.{Step}
 use Rattle.tr_io.specs.declared.step.Step.TheVariants.{Halted, Claim, GiveBack}
 
 -- A round: the claim found nothing, or it gave a job, which was given back and so answered.
-pub data Round : Type 0 where
-  Idle : Round
-  Worked : ClaimNote → BackAnswer → Round
+pub data WorkerRound : Type 0 where
+  Idle : WorkerRound
+  Worked : ClaimNote → BackAnswer → WorkerRound
 
 -- Its steps behind `halted`. The job comes back with the note that it was given out with, and neither its
 -- start state nor a body of it differs from what was given out.
-abbrev pub claim_steps : ℕ → Round → List Step
-claim_steps worker Idle = Claim worker None ∷ []
-claim_steps worker (Worked note answer) = Claim worker (Some note) ∷ GiveBack note None answer ∷ []
+abbrev pub work_steps : ℕ → WorkerRound → List Step
+work_steps worker Idle = Claim worker None ∷ []
+work_steps worker (Worked note answer) = Claim worker (Some note) ∷ GiveBack note None answer ∷ []
 
 -- All its steps.
-abbrev pub round_steps : ℕ → Round → List Step
-round_steps worker round = Halted false ∷ claim_steps worker round
+abbrev pub round_steps : ℕ → WorkerRound → List Step
+round_steps worker round = Halted false ∷ work_steps worker round
 
 -- The steps of a last claim: none where it was Spent or wanted memory, and the claim where the job's return
 -- was Spent.
@@ -39,7 +39,7 @@ IsLastPart worker end steps = ⊥
 
 -- Rounds, one after another, and a last part, with which the worker ends.
 pub record IsWorkerRun (worker : ℕ) (end : LoopEnd) (steps : List Step) : Type 0 where
-  pub rounds : List Round
+  pub rounds : List WorkerRound
   pub last : List Step
   pub steps_are : steps ≡ flat_map (round_steps worker) rounds ++ last
   pub last_is : IsLastPart worker end last

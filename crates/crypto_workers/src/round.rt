@@ -4,7 +4,7 @@ ghost use Rattle.tr_io.specs.declared.answers.BackAnswer.{BackAnswer};
 ghost use Rattle.tr_io.specs.declared.step.Step.{Step};
 ghost use Rattle.tr_io.specs.declared.step.Step.TheVariants.{GiveBack};
 ghost use Rattle.tr_io.specs.PortSteps.{Adds};
-ghost use Rattle.crypto_workers.specs.Rounds.{Round, round_steps, claim_steps, IsLastPart, IsLastClaim};
+ghost use Rattle.crypto_workers.specs.Rounds.{WorkerRound, round_steps, work_steps, IsLastPart, IsLastClaim};
 
 use hop_crypto::{Done, Job, work};
 use tr_io::answers::ClaimAnswer;
@@ -24,7 +24,7 @@ pub(crate) fn round<P: CorePort<Job = Job, Done = Done>, G: Gate>(
     requires worker { worker < 64 }
     ensures own { P.is_own port.now pass.new }
     ensures spent { result ≡ Some LoopEnd.Spent → P.is_spent pass.new }
-    ensures steps { MatchOption result ((r : Round) × Adds (P.mine pass.old) (round_steps worker r) (P.mine pass.new)) (λ end. (steps : List Step) × (P.mine pass.new ≡ P.mine pass.old ++ steps) × IsLastPart worker end steps) }
+    ensures steps { MatchOption result ((r : WorkerRound) × Adds (P.mine pass.old) (round_steps worker r) (P.mine pass.new)) (λ end. (steps : List Step) × (P.mine pass.new ≡ P.mine pass.old ++ steps) × IsLastPart worker end steps) }
 {
     match port.halted(pass) {
         Turn::Did(false) => claim_and_work(port, pass, worker, gate),
@@ -44,7 +44,7 @@ fn claim_and_work<P: CorePort<Job = Job, Done = Done>, G: Gate>(
     requires worker { worker < 64 }
     ensures own { P.is_own port.now pass.new }
     ensures spent { result ≡ Some LoopEnd.Spent → P.is_spent pass.new }
-    ensures steps { MatchOption result ((r : Round) × Adds (P.mine pass.old) (claim_steps worker r) (P.mine pass.new)) (λ end. (steps : List Step) × (P.mine pass.new ≡ P.mine pass.old ++ steps) × IsLastClaim worker end steps) }
+    ensures steps { MatchOption result ((r : WorkerRound) × Adds (P.mine pass.old) (work_steps worker r) (P.mine pass.new)) (λ end. (steps : List Step) × (P.mine pass.new ≡ P.mine pass.old ++ steps) × IsLastClaim worker end steps) }
 {
     match port.claim(pass, worker) {
         Turn::Did(ClaimAnswer::Job(job)) => work_and_return(port, pass, worker, gate, job),

@@ -29,12 +29,12 @@ impl Gate for CountingGate {
 }
 
 /// A pass that has so many steps left, whose claims find these, the last first.
-fn pass(alloc: Global, finds: &[Find], left: u32) -> Result<PlayPass, Fail> {
+fn pass(alloc: Global, finds: &[Find], steps_left: u32) -> Result<PlayPass, Fail> {
     Ok(PlayPass {
         finds: finds.to_vec(alloc)?,
         steps: Vec::new(alloc),
         returns: Vec::new(alloc),
-        left,
+        steps_left,
     })
 }
 
@@ -77,8 +77,8 @@ fn a_worker_gives_back_each_job_worked_and_waits_where_there_is_none(
         let mut body = [claim; 509];
         Sealer::of(&KEYS).put_on(&mut body);
         assert_eq!(rt; parts.output.len(), 1);
-        for opened in parts.output.as_slice() {
-            assert_eq!(rt; opened.body, body);
+        for opened_body in parts.output.as_slice() {
+            assert_eq!(rt; opened_body.body, body);
         }
     }
     Ok(())
@@ -86,7 +86,7 @@ fn a_worker_gives_back_each_job_worked_and_waits_where_there_is_none(
 
 #[test]
 fn a_worker_ends_where_memory_or_a_step_is_wanting(rt: HostRuntime) -> Result<(), Fail> {
-    for (left, end, steps) in [
+    for (steps_left, end, steps) in [
         (100, LoopEnd::Memory, 4),
         (0, LoopEnd::Spent, 0),
         (1, LoopEnd::Spent, 1),
@@ -96,7 +96,7 @@ fn a_worker_ends_where_memory_or_a_step_is_wanting(rt: HostRuntime) -> Result<()
             alloc: rt.alloc(),
             waits: Cell::new(0),
         };
-        let mut pass = pass(rt.alloc(), &[Find::NoMemory, Find::Body(1)], left)?;
+        let mut pass = pass(rt.alloc(), &[Find::NoMemory, Find::Body(1)], steps_left)?;
         assert_eq!(rt; worker_loop(&port, &mut pass, 0, &OpenGate), end);
         assert_eq!(rt; pass.steps.len(), steps);
         assert_eq!(rt; port.waits.get(), 0);

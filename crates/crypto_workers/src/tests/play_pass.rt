@@ -23,7 +23,7 @@ pub(super) struct PlayPass {
     pub(super) finds: Vec<Find>,
     pub(super) steps: Vec<Step>,
     pub(super) returns: Vec<DoneParts>,
-    pub(super) left: u32,
+    pub(super) steps_left: u32,
     ghost few: { length steps.items ≤ 2 ^ 62 },
 }
 
@@ -33,10 +33,10 @@ impl PlayPass {
         ensures kept { IsTrue result → Adds self.old.steps.items (step ∷ []) self.new.steps.items }
         ensures lost { IsTrue (not result) → self.new.steps.items ≡ self.old.steps.items }
     {
-        if self.left == 0 || self.steps.len() >= 1 << 62 {
+        if self.steps_left == 0 || self.steps.len() >= 1 << 62 {
             return false;
         }
-        self.left -= 1;
+        self.steps_left -= 1;
         self.steps.push(step).is_ok()
     }
 }

@@ -128,7 +128,7 @@ impl CorePort for PlayPort {
         let note = done.note();
         let parts = done.apart();
         if pass.keep(Step::GiveBack(note, None, BackAnswer::Settled)) {
-            let _kept = pass.returns.push(parts);
+            let _push = pass.returns.push(parts);
             Turn::Did(BackAnswer::Settled)
         } else {
             Turn::Spent
@@ -193,9 +193,9 @@ impl CorePort for PlayPort {
     }
 
     fn halted(&self, pass: &mut PlayPass) -> Turn<bool> {
-        let halted = pass.finds.is_empty();
-        if pass.keep(Step::Halted(halted)) {
-            Turn::Did(halted)
+        let is_halted = pass.finds.is_empty();
+        if pass.keep(Step::Halted(is_halted)) {
+            Turn::Did(is_halted)
         } else {
             Turn::Spent
         }
