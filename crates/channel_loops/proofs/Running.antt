@@ -8,25 +8,25 @@ use Rattle.tr_io.specs.declared.step.Step.{Step}
 use Rattle.tr_io.specs.Faults.{Rose}
 use Rattle.tr_io.specs.Pieces.{WroteAll}
 use Rattle.tr_io.proofs.PieceLaws.{wrote_more}
-use Rattle.channel_loops.specs.Writing.{Round, round_steps, round_bytes, last_steps, last_bytes, IsWriterRun}
-use Rattle.channel_loops.specs.RoundMade.{Seen, IsWhole, IsLast}
+use Rattle.channel_loops.specs.Writing.{WriterRound, round_steps, round_bytes, last_steps, last_bytes, IsWriterRun}
+use Rattle.channel_loops.specs.RoundMade.{WriterTrace, IsWhole, IsLast}
 
 -- What holds at each turn: whole rounds were made.
-pub record Running (chan : ChanNo) (session : ℕ) (before now : Seen) : Type 0 where
-  pub rounds : List Round
+pub record Running (chan : ChanNo) (session : ℕ) (before now : WriterTrace) : Type 0 where
+  pub rounds : List WriterRound
   pub made : now.steps ≡ before.steps ++ flat_map (round_steps chan) rounds
   pub written : WroteAll session (flat_map round_bytes rounds) before.written now.written
   pub counted : before.faults ≤ now.faults
 
-whole_at : (chan same : ChanNo) (session again : ℕ) (now after : Seen) → same ≡ chan → again ≡ session → IsWhole [] same again now after → IsWhole [] chan session now after
+whole_at : (chan same : ChanNo) (session again : ℕ) (now after : WriterTrace) → same ≡ chan → again ≡ session → IsWhole [] same again now after → IsWhole [] chan session now after
 whole_at chan same session again now after chan_is session_is whole =
     subst (λ x. IsWhole [] x session now after) chan_is (subst (λ x. IsWhole [] same x now after) session_is whole)
 
-last_at : (chan same : ChanNo) (session again : ℕ) (now after : Seen) (end : LoopEnd) → same ≡ chan → again ≡ session → IsLast [] same again now after end → IsLast [] chan session now after end
+last_at : (chan same : ChanNo) (session again : ℕ) (now after : WriterTrace) (end : LoopEnd) → same ≡ chan → again ≡ session → IsLast [] same again now after end → IsLast [] chan session now after end
 last_at chan same session again now after end chan_is session_is last =
     subst (λ x. IsLast [] x session now after end) chan_is (subst (λ x. IsLast [] same x now after end) session_is last)
 
-pub goes_on : (chan same : ChanNo) (session again : ℕ) (before now after : Seen) → same ≡ chan → again ≡ session → Running chan session before now → IsWhole [] same again now after → now.faults ≤ after.faults → Running chan session before after
+pub goes_on : (chan same : ChanNo) (session again : ℕ) (before now after : WriterTrace) → same ≡ chan → again ≡ session → Running chan session before now → IsWhole [] same again now after → now.faults ≤ after.faults → Running chan session before after
 goes_on chan same session again before now after chan_is session_is was made counted =
     let whole : IsWhole [] chan session now after = whole_at chan same session again now after chan_is session_is made in
     let steps : after.steps ≡ now.steps ++ round_steps chan whole.round = whole.made.behind ∙ ap (λ xs. now.steps ++ xs) (sym whole.whole) in
@@ -40,7 +40,7 @@ goes_on chan same session again before now after chan_is session_is was made cou
 pub rose_later : (before now after : ℕ) → before ≤ now → Rose now after → Rose before after
 rose_later before now after counted rose = omega (arith, counted, rose)
 
-pub ends : (chan same : ChanNo) (session again : ℕ) (end : LoopEnd) (before now after : Seen) → same ≡ chan → again ≡ session → Running chan session before now → IsLast [] same again now after end
+pub ends : (chan same : ChanNo) (session again : ℕ) (end : LoopEnd) (before now after : WriterTrace) → same ≡ chan → again ≡ session → Running chan session before now → IsLast [] same again now after end
     → (steps : List Step) × (after.steps ≡ before.steps ++ steps) × IsWriterRun chan session before.written after.written before.faults after.faults end steps
 ends chan same session again end before now after chan_is session_is was made =
     let is : IsLast [] chan session now after end = last_at chan same session again now after end chan_is session_is made in

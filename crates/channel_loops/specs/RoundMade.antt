@@ -6,25 +6,25 @@ use Rattle.tr_io.specs.declared.step.Step.{Step}
 use Rattle.tr_io.specs.Faults.{Rose}
 use Rattle.tr_io.specs.Pieces.{Piece, WroteAll}
 use Rattle.tr_io.specs.PortSteps.{Adds}
-use Rattle.channel_loops.specs.Writing.{Round, Last, round_steps, round_bytes, last_steps, last_bytes, end_of, is_cut}
+use Rattle.channel_loops.specs.Writing.{WriterRound, LastPart, round_steps, round_bytes, last_steps, last_bytes, end_of, is_cut}
 
 -- The steps of a pass, the pieces of a half and its count of faults.
-pub record Seen : Type 0 where
+pub record WriterTrace : Type 0 where
   pub steps : List Step
   pub written : Option (List Piece)
   pub faults : ℕ
 
 -- It was whole.
-pub record IsWhole (head : List Step) (chan : ChanNo) (session : ℕ) (before after : Seen) : Type 0 where
-  pub round : Round
+pub record IsWhole (head : List Step) (chan : ChanNo) (session : ℕ) (before after : WriterTrace) : Type 0 where
+  pub round : WriterRound
   pub rest : List Step
   pub whole : round_steps chan round ≡ head ++ rest
   pub made : Adds before.steps rest after.steps
   pub written : WroteAll session (round_bytes round) before.written after.written
 
 -- It was the last.
-pub record IsLast (head : List Step) (chan : ChanNo) (session : ℕ) (before after : Seen) (end : LoopEnd) : Type 0 where
-  pub last : Last
+pub record IsLast (head : List Step) (chan : ChanNo) (session : ℕ) (before after : WriterTrace) (end : LoopEnd) : Type 0 where
+  pub last : LastPart
   pub rest : List Step
   pub end_is : end ≡ end_of last
   pub whole : last_steps chan last ≡ head ++ rest
@@ -32,6 +32,6 @@ pub record IsLast (head : List Step) (chan : ChanNo) (session : ℕ) (before aft
   pub written : WroteAll session (last_bytes last) before.written after.written
   pub cause : is_cut last ≡ true → Rose before.faults after.faults
 
-abbrev pub RoundMade : List Step → ChanNo → ℕ → Seen → Seen → Option LoopEnd → Type 0
+abbrev pub RoundMade : List Step → ChanNo → ℕ → WriterTrace → WriterTrace → Option LoopEnd → Type 0
 RoundMade head chan session before after None = IsWhole head chan session before after
 RoundMade head chan session before after (Some end) = IsLast head chan session before after end

@@ -69,10 +69,10 @@ fn write_piece<K: SlotOut>(link: &mut K, session: u64, piece: &[u8]) -> bool
     ensures counted { K.faults link.old ≤ K.faults link.new }
     ensures cause { IsTrue (not result) → Rose (K.faults link.old) (K.faults link.new) }
 {
-    let mut left = piece;
-    while !left.is_empty() {
-        match link.write(session, left) {
-            WriteAnswer::Took(count) => left = &left[count..],
+    let mut bytes_left = piece;
+    while !bytes_left.is_empty() {
+        match link.write(session, bytes_left) {
+            WriteAnswer::Took(count) => bytes_left = &bytes_left[count..],
             WriteAnswer::Failed => return false,
         }
     }

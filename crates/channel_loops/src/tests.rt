@@ -26,14 +26,14 @@ const SESSION: u64 = 8;
 #[derive(Clone, Copy)]
 struct Play<'a> {
     finds: &'a [Find],
-    ends: bool,
-    left: u32,
-    failing: &'a [u64],
+    has_end: bool,
+    steps_left: u32,
+    failing_writes: &'a [u64],
 }
 
 /// What came of it.
 #[derive(Drop)]
-struct Played {
+struct WriterOutcome {
     end: LoopEnd,
     steps: Vec<Step>,
     bytes: Vec<u8>,
@@ -41,17 +41,17 @@ struct Played {
 }
 
 /// Runs a writer, whose slot takes 300 bytes a write.
-fn run_writer(alloc: Global, play: &Play) -> Result<Played, AllocError> {
+fn run_writer(alloc: Global, play: &Play) -> Result<WriterOutcome, AllocError> {
     let port = PlayPort {
         waits: Cell::new(0),
     };
     let mut pass = PlayPass {
         finds: play.finds.to_vec(alloc)?,
-        ends: play.ends,
+        has_end: play.has_end,
         steps: Vec::new(alloc),
-        left: play.left,
+        steps_left: play.steps_left,
     };
-    let mut link = MemorySlotOut::new(alloc, 0, 300, play.failing.to_vec(alloc)?);
+    let mut link = MemorySlotOut::new(alloc, 0, 300, play.failing_writes.to_vec(alloc)?);
     let clock = StandingClock { tick: 17 };
     let end = write_session(alloc, &mut link, SESSION, CHAN, &port, &mut pass, &clock);
     let mut bytes = Vec::new(alloc);
@@ -61,7 +61,7 @@ fn run_writer(alloc: Global, play: &Play) -> Result<Played, AllocError> {
         }
     }
     let PlayPass { steps, .. } = pass;
-    Ok(Played {
+    Ok(WriterOutcome {
         end,
         steps,
         bytes,
@@ -80,21 +80,21 @@ fn two_cells(alloc: Global) -> Result<Vec<u8>, AllocError> {
 #[test]
 fn a_writer_writes_each_cell_and_waits_where_none_leaves(rt: HostRuntime) -> Result<(), Fail> {
     let finds = [Find::Body(2), Find::Nothing, Find::Body(1)];
-    let played = run_writer(
+    let outcome = run_writer(
         rt.alloc(),
         &Play {
             finds: &finds,
-            ends: false,
-            left: 100,
-            failing: &[],
+            has_end: false,
+            steps_left: 100,
+            failing_writes: &[],
         },
     )?;
-    assert_eq!(rt; played.end, LoopEnd::Halted);
-    assert_eq!(rt; played.bytes.as_slice(), two_cells(rt.alloc())?.as_slice());
-    assert_eq!(rt; played.waits, 1);
+    assert_eq!(rt; outcome.end, LoopEnd::Halted);
+    assert_eq!(rt; outcome.bytes.as_slice(), two_cells(rt.alloc())?.as_slice());
+    assert_eq!(rt; outcome.waits, 1);
     assert!(rt;
         matches!(
-            played.steps.as_slice(),
+            outcome.steps.as_slice(),
             [
                 Step::Halted(false),
                 Step::NextCell(CHAN, 17, Some(_)),
@@ -115,21 +115,21 @@ fn a_fault_in_the_second_cell_cuts_it_and_brings_the_channel_down(
     rt: HostRuntime,
 ) -> Result<(), Fail> {
     let finds = [Find::Body(3), Find::Body(2), Find::Body(1)];
-    let played = run_writer(
+    let outcome = run_writer(
         rt.alloc(),
         &Play {
             finds: &finds,
-            ends: false,
-            left: 100,
-            failing: &[3],
+            has_end: false,
+            steps_left: 100,
+            failing_writes: &[3],
         },
     )?;
-    assert_eq!(rt; played.end, LoopEnd::WriteFault);
+    assert_eq!(rt; outcome.end, LoopEnd::WriteFault);
     let bytes = two_cells(rt.alloc())?;
-    assert_eq!(rt; Some(played.bytes.as_slice()), bytes.get(..814));
+    assert_eq!(rt; Some(outcome.bytes.as_slice()), bytes.get(..814));
     assert!(rt;
         matches!(
-            played.steps.as_slice(),
+            outcome.steps.as_slice(),
             [
                 Step::Halted(false),
                 Step::NextCell(CHAN, 17, Some(_)),
@@ -144,25 +144,25 @@ fn a_fault_in_the_second_cell_cuts_it_and_brings_the_channel_down(
 
 #[test]
 fn a_writer_ends_with_its_channel_or_where_no_step_is_left(rt: HostRuntime) -> Result<(), Fail> {
-    for (left, failing, end, steps) in [
+    for (steps_left, failing_write, end, steps) in [
         (100, 9, LoopEnd::Ended, 5),
         (0, 9, LoopEnd::Spent, 0),
         (1, 9, LoopEnd::Spent, 1),
         (2, 0, LoopEnd::Spent, 2),
         (4, 9, LoopEnd::Spent, 4),
     ] {
-        let played = run_writer(
+        let outcome = run_writer(
             rt.alloc(),
             &Play {
                 finds: &[Find::Body(1)],
-                ends: true,
-                left,
-                failing: &[failing],
+                has_end: true,
+                steps_left,
+                failing_writes: &[failing_write],
             },
         )?;
-        assert_eq!(rt; played.end, end);
-        assert_eq!(rt; played.steps.len(), steps);
-        assert_eq!(rt; played.waits, 0);
+        assert_eq!(rt; outcome.end, end);
+        assert_eq!(rt; outcome.steps.len(), steps);
+        assert_eq!(rt; outcome.waits, 0);
     }
     Ok(())
 }
@@ -198,12 +198,12 @@ fn a_writer_ends_its_session_last(rt: HostRuntime) -> Result<(), Fail> {
     let port = PlayPort {
         waits: Cell::new(0),
     };
-    for ends in [false, true] {
+    for has_end in [false, true] {
         let mut pass = PlayPass {
             finds: [Find::Body(1)].to_vec(rt.alloc())?,
-            ends,
+            has_end,
             steps: Vec::new(rt.alloc()),
-            left: 100,
+            steps_left: 100,
         };
         let mut link = EndedSlot {
             session: None,

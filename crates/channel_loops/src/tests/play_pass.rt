@@ -13,14 +13,14 @@ pub(super) enum Find {
     Nothing,
 }
 
-/// What is found, the last of the list first, and then that the relay has halted or, where `ends` says so, that
+/// What is found, the last of the list first, and then that the relay has halted or, where `has_end` says so, that
 /// the channel isn't live; the steps that were made, and how many are left.
 #[derive(Drop)]
 pub(super) struct PlayPass {
     pub(super) finds: Vec<Find>,
-    pub(super) ends: bool,
+    pub(super) has_end: bool,
     pub(super) steps: Vec<Step>,
-    pub(super) left: u32,
+    pub(super) steps_left: u32,
 }
 
 impl PlayPass {
@@ -29,10 +29,10 @@ impl PlayPass {
         ensures kept { IsTrue result → Adds self.old.steps.items (step ∷ []) self.new.steps.items }
         ensures lost { IsTrue (not result) → self.new.steps.items ≡ self.old.steps.items }
     {
-        if self.left == 0 || self.steps.len() >= 1 << 62 {
+        if self.steps_left == 0 || self.steps.len() >= 1 << 62 {
             return false;
         }
-        self.left -= 1;
+        self.steps_left -= 1;
         self.steps.push(step).is_ok()
     }
 }

@@ -170,9 +170,9 @@ impl CorePort for PlayPort {
     }
 
     fn live(&self, pass: &mut PlayPass, chan: ChanNo) -> Turn<bool> {
-        let live = !pass.finds.is_empty() || !pass.ends;
-        if pass.keep(Step::Live(chan, live)) {
-            Turn::Did(live)
+        let is_live = !pass.finds.is_empty() || !pass.has_end;
+        if pass.keep(Step::Live(chan, is_live)) {
+            Turn::Did(is_live)
         } else {
             Turn::Spent
         }
@@ -183,9 +183,9 @@ impl CorePort for PlayPort {
     }
 
     fn halted(&self, pass: &mut PlayPass) -> Turn<bool> {
-        let halted = pass.finds.is_empty() && !pass.ends;
-        if pass.keep(Step::Halted(halted)) {
-            Turn::Did(halted)
+        let is_halted = pass.finds.is_empty() && !pass.has_end;
+        if pass.keep(Step::Halted(is_halted)) {
+            Turn::Did(is_halted)
         } else {
             Turn::Spent
         }

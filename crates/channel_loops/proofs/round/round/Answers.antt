@@ -2,7 +2,7 @@ use Rattle.std.proofs.Common.{rules, [], ◌∷◌, true, refl, sym, ◌∙◌}
 use Rattle.std.proofs.lemmas.List.{append-nil}
 use Rattle.tr_io.specs.declared.step.Step.TheVariants.{Halted}
 use Rattle.tr_io.proofs.PieceLaws.{wrote_nothing}
-use Rattle.channel_loops.specs.Writing.Last.{NoRoom, NoHalted, IsHalted}
+use Rattle.channel_loops.specs.Writing.LastPart.{NoRoom, NoHalted, IsHalted}
 use Rattle.channel_loops.proofs.Rounds.{adds_as}
 use Rattle.channel_loops.proofs.round.round.Goals as goal
 

@@ -2,8 +2,8 @@ use Rattle.std.proofs.Common.{rules, [], ◌∷◌, Some, None, true, false, ref
 use Rattle.std.proofs.lemmas.List.{append-nil}
 use Rattle.tr_io.specs.declared.step.Step.TheVariants.{NextCell, Live, ChannelDown}
 use Rattle.tr_io.proofs.PieceLaws.{wrote_nothing}
-use Rattle.channel_loops.specs.Writing.Round.{Sent, Idle}
-use Rattle.channel_loops.specs.Writing.Last.{NoNext, NoLive, NotLive, Cut, CutOnly}
+use Rattle.channel_loops.specs.Writing.WriterRound.{Sent, Idle}
+use Rattle.channel_loops.specs.Writing.LastPart.{NoNext, NoLive, NotLive, Cut, CutOnly}
 use Rattle.channel_loops.proofs.Rounds.{adds_as, adds_both}
 use Rattle.channel_loops.proofs.round.send_next.Goals as goal
 
