@@ -58,10 +58,10 @@ find-some legs places q place used there =
     read (Some leg) there = refl
 
 -- The same in another order.
-pub is_indexed-reordered : (old new : Slab LegName) (before after : Index) (counts recounted : Counts)
+pub is_indexed-reordered : (old new : Slab LegName) (before after : Index) (counts new_counts : Counts)
     → IsIndexed old before counts → new.slots ≡ old.slots → ((q : Port) → place_of after q ≡ place_of before q)
-    → recounted ≡ counts → IsIndexed new after recounted
-is_indexed-reordered old new before after counts recounted was slots places same =
+    → new_counts ≡ counts → IsIndexed new after new_counts
+is_indexed-reordered old new before after counts new_counts was slots places same =
     record {
       has_leg =
           λ q at used. subst (λ xs. IsSome (slice_index_or xs at None)) (sym slots) (was.has_leg q at (sym (places q) ∙ used));
