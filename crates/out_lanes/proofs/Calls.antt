@@ -53,8 +53,8 @@ module _ {K X S : Type 0} {R : K → K → Ordering} {eq : K → K → Bool} (ke
   none_at absent = ap (λ o. line_at o key) (sym seen) ∙ line_absent keys m.entries key (sym absent)
 
   -- A list that is there.
-  pub one_at : (was : Roomy X) → Some was ≡ lookup (eq key) m.entries → line_at old key ≡ was
-  one_at was found = ap (λ o. line_at o key) (sym seen) ∙ line_found keys m.entries key was (sym found)
+  pub one_at : (old_line : Roomy X) → Some old_line ≡ lookup (eq key) m.entries → line_at old key ≡ old_line
+  one_at old_line found = ap (λ o. line_at o key) (sym seen) ∙ line_found keys m.entries key old_line (sym found)
 
 module _ {K X S : Type 0} {R : K → K → Ordering} {eq : K → K → Bool} (keys : OrdersKeys R eq) (m n : HashMap K (Roomy X) S) (key : K) {old : FinMap R (Roomy X)} (seen : from_entries {R = R} m.entries ≡ old) where
   pub empties : Updates eq m n key None → Empties old (from_entries {R = R} n.entries) key
@@ -62,12 +62,12 @@ module _ {K X S : Type 0} {R : K → K → Ordering} {eq : K → K → Bool} (ke
       let w = removed keys m n key updates in
       subst (λ o. Empties o (from_entries {R = R} n.entries) key) seen (record { nothing = w.is_line; others = w.others })
 
-  module _ (was is : Roomy X) (writes : WritesThrough eq (eq key) m is n) (found : Some was ≡ lookup (eq key) m.entries) where
-    w : Rewrites (from_entries {R = R} m.entries) (from_entries {R = R} n.entries) key was is
-    w = written keys m n key was is writes found
+  module _ (old_line new_line : Roomy X) (writes : WritesThrough eq (eq key) m new_line n) (found : Some old_line ≡ lookup (eq key) m.entries) where
+    w : Rewrites (from_entries {R = R} m.entries) (from_entries {R = R} n.entries) key old_line new_line
+    w = written keys m n key old_line new_line writes found
 
-    pub reserves : {T E : Type 0} (more : ℕ) (r : Result T E) → is.items ≡ was.items → OnOk r (more ≤ is.spare)
-        → was.spare ≤ is.spare → OnErr r (is ≡ was) → (more ≤ was.spare → IsOk r)
+    pub reserves : {T E : Type 0} (more : ℕ) (r : Result T E) → new_line.items ≡ old_line.items → OnOk r (more ≤ new_line.spare)
+        → old_line.spare ≤ new_line.spare → OnErr r (new_line ≡ old_line) → (more ≤ old_line.spare → IsOk r)
         → Reserves old (from_entries {R = R} n.entries) key more r
     reserves more r items ok kept err room =
         subst (λ o. Reserves o (from_entries {R = R} n.entries) key more r) seen
@@ -76,35 +76,35 @@ module _ {K X S : Type 0} {R : K → K → Ordering} {eq : K → K → Bool} (ke
           ok = rw w.is_line ok;
           kept = rw (w.is_line, w.was_line) kept;
           others = w.others;
-          err = OnErr-by r (rewritten keys m n key was is writes found) err;
+          err = OnErr-by r (rewritten keys m n key old_line new_line writes found) err;
           room = rw w.was_line room;
         })
 
-    pub adds_last : (item : X) → is.items ≡ was.items ++ item ∷ [] → is.spare + 1 ≡ was.spare
+    pub adds_last : (item : X) → new_line.items ≡ old_line.items ++ item ∷ [] → new_line.spare + 1 ≡ old_line.spare
         → AddsLast old (from_entries {R = R} n.entries) key item
     adds_last item items spare =
         subst (λ o. AddsLast o (from_entries {R = R} n.entries) key item) seen
         (record { items = rw (w.is_line, w.was_line) items; spare = rw (w.is_line, w.was_line) spare; others = w.others })
 
-    pub takes_first : (first : Option X) → IfSome first (λ x. was.items ≡ x ∷ is.items)
-        → IfSome first (λ x. is.spare ≡ was.spare + 1) → IfNone first ((was.items ≡ []) × (is ≡ was))
+    pub takes_first : (first : Option X) → IfSome first (λ x. old_line.items ≡ x ∷ new_line.items)
+        → IfSome first (λ x. new_line.spare ≡ old_line.spare + 1) → IfNone first ((old_line.items ≡ []) × (new_line ≡ old_line))
         → TakesFirst old (from_entries {R = R} n.entries) key first
     takes_first first some more none =
-        let taken = first_taken first was is some none in
+        let taken = first_taken first old_line new_line some none in
         subst (λ o. TakesFirst o (from_entries {R = R} n.entries) key first) seen
         (record {
           item = rw w.was_line taken.0;
           items = rw (w.is_line, w.was_line) taken.1;
-          capacity = rw (w.is_line, w.was_line) (same_capacity first was is some more none);
+          capacity = rw (w.is_line, w.was_line) (same_capacity first old_line new_line some more none);
           others = w.others;
         })
 
 -- A list is new at a key that had none.
-module _ {K X S : Type 0} {R : K → K → Ordering} {eq : K → K → Bool} (keys : OrdersKeys R eq) (start m n : HashMap K (Roomy X) S) (key : K) {old : FinMap R (Roomy X)} (seen : from_entries {R = R} start.entries ≡ old) (is : Roomy X) (same : m ≡ start) (updates : Updates eq m n key (Some is)) (absent : None ≡ lookup (eq key) start.entries) where
-  pub reserves-added : {T E : Type 0} (more : ℕ) (x : T) → is.items ≡ [] → more ≤ is.spare
+module _ {K X S : Type 0} {R : K → K → Ordering} {eq : K → K → Bool} (keys : OrdersKeys R eq) (start m n : HashMap K (Roomy X) S) (key : K) {old : FinMap R (Roomy X)} (seen : from_entries {R = R} start.entries ≡ old) (new_line : Roomy X) (same : m ≡ start) (updates : Updates eq m n key (Some new_line)) (absent : None ≡ lookup (eq key) start.entries) where
+  pub reserves-added : {T E : Type 0} (more : ℕ) (x : T) → new_line.items ≡ [] → more ≤ new_line.spare
       → Reserves {E = E} old (from_entries {R = R} n.entries) key more (Ok x)
   reserves-added {T} {E} more x items ok =
-      let w = added keys m n key start is same updates absent in
+      let w = added keys m n key start new_line same updates absent in
       subst (λ o. Reserves {E = E} o (from_entries {R = R} n.entries) key more (Ok x)) seen
       (record {
         items = rw (w.is_line, w.was_line) items;

@@ -13,9 +13,9 @@ use Rattle.hashed_maps.proofs.Entries.{get-entries}
 use Rattle.out_lanes.specs.Lines.{line_at, nothing, OthersStay}
 
 -- A map in which the list at one key changes.
-pub record Rewrites {K X : Type 0} {R : K → K → Ordering} (old new : FinMap R (Roomy X)) (key : K) (was is : Roomy X) : Type 0 where
-  pub was_line : line_at old key ≡ was
-  pub is_line : line_at new key ≡ is
+pub record Rewrites {K X : Type 0} {R : K → K → Ordering} (old new : FinMap R (Roomy X)) (key : K) (old_line new_line : Roomy X) : Type 0 where
+  pub was_line : line_at old key ≡ old_line
+  pub is_line : line_at new key ≡ new_line
   pub others : OthersStay old new key
 
 module _ {K X : Type 0} {R : K → K → Ordering} {eq : K → K → Bool} (keys : OrdersKeys R eq) where
@@ -47,31 +47,32 @@ module _ {K X : Type 0} {R : K → K → Ordering} {eq : K → K → Bool} (keys
         ∙ ap (λ o. unwrap_or o nothing) (moved q ∙ apart q (eq key q) refl differs)
         ∙ sym (line_at-entries before q)
 
-    pub rewrites : (was : Roomy X) → line_at (from_entries {R = R} before) key ≡ was
-        → Rewrites (from_entries {R = R} before) (from_entries {R = R} after) key was (unwrap_or now nothing)
-    rewrites was is = record { was_line = is; is_line = line_after; others = others_after }
+    pub rewrites : (old_line : Roomy X) → line_at (from_entries {R = R} before) key ≡ old_line
+        → Rewrites (from_entries {R = R} before) (from_entries {R = R} after) key old_line (unwrap_or now nothing)
+    rewrites old_line is = record { was_line = is; is_line = line_after; others = others_after }
 
 module _ {K X S : Type 0} {R : K → K → Ordering} {eq : K → K → Bool} (keys : OrdersKeys R eq) (m n : HashMap K (Roomy X) S) (key : K) where
   -- a list that was found is written
-  pub written : (was is : Roomy X) → WritesThrough eq (eq key) m is n → Some was ≡ lookup (eq key) m.entries
-      → Rewrites (from_entries {R = R} m.entries) (from_entries {R = R} n.entries) key was is
-  written was is writes found =
-      rewrites keys m.entries n.entries key (Some is) ((writes.3 (subst IsSome found refl)).0) was (line_found keys m.entries key was (sym found))
+  pub written : (old_line new_line : Roomy X) → WritesThrough eq (eq key) m new_line n → Some old_line ≡ lookup (eq key) m.entries
+      → Rewrites (from_entries {R = R} m.entries) (from_entries {R = R} n.entries) key old_line new_line
+  written old_line new_line writes found =
+      rewrites keys m.entries n.entries key (Some new_line) ((writes.3 (subst IsSome found refl)).0) old_line (line_found keys m.entries key old_line (sym found))
 
   -- where it is written as it was, the map stays
-  pub rewritten : (was is : Roomy X) → WritesThrough eq (eq key) m is n → Some was ≡ lookup (eq key) m.entries → is ≡ was
+  pub rewritten : (old_line new_line : Roomy X) → WritesThrough eq (eq key) m new_line n
+      → Some old_line ≡ lookup (eq key) m.entries → new_line ≡ old_line
       → from_entries {R = R} n.entries ≡ from_entries m.entries
-  rewritten was is writes found same =
-      ap (from_entries {R = R}) (writes.0 ∙ ap (set_value (eq key) m.entries) same ∙ set_value_same (eq key) m.entries was (sym found))
+  rewritten old_line new_line writes found same =
+      ap (from_entries {R = R}) (writes.0 ∙ ap (set_value (eq key) m.entries) same ∙ set_value_same (eq key) m.entries old_line (sym found))
 
   -- a list is new at a key that had none
-  pub added : (start : HashMap K (Roomy X) S) (is : Roomy X) → m ≡ start → Updates eq m n key (Some is)
+  pub added : (start : HashMap K (Roomy X) S) (new_line : Roomy X) → m ≡ start → Updates eq m n key (Some new_line)
       → None ≡ lookup (eq key) start.entries
-      → Rewrites (from_entries {R = R} start.entries) (from_entries {R = R} n.entries) key nothing is
-  added start is same updates absent =
+      → Rewrites (from_entries {R = R} start.entries) (from_entries {R = R} n.entries) key nothing new_line
+  added start new_line same updates absent =
       let none : None ≡ lookup (eq key) m.entries = subst (λ o. None ≡ lookup (eq key) o.entries) (sym same) absent in
-      let w = rewrites keys m.entries n.entries key (Some is) updates.0 nothing (line_absent keys m.entries key (sym none)) in
-      subst (λ o. Rewrites (from_entries {R = R} o.entries) (from_entries {R = R} n.entries) key nothing is) same w
+      let w = rewrites keys m.entries n.entries key (Some new_line) updates.0 nothing (line_absent keys m.entries key (sym none)) in
+      subst (λ o. Rewrites (from_entries {R = R} o.entries) (from_entries {R = R} n.entries) key nothing new_line) same w
 
   -- a list goes
   pub removed : Updates eq m n key None

@@ -53,15 +53,17 @@ are-moved before after key now were moved formed leg queue found = cases (pair_e
     cases false is = were leg queue is
 
 module _ {S : Type 0} (m n : HashMap LegName (Roomy Cell) S) (key : LegName) (were : AreWellFormed m.entries) where
-  pub are-written : (was is : Roomy Cell) → WritesThrough pair_eq (pair_eq key) m is n
-      → Some was ≡ lookup (pair_eq key) m.entries → (EachWellFormed was.items → EachWellFormed is.items) → AreWellFormed n.entries
-  are-written was is writes found keeps =
-      are-moved m.entries n.entries key (Some is) were ((writes.3 (subst IsSome found refl)).0)
-      (λ queue same. let it : is ≡ queue = cc in subst (λ q. EachWellFormed q.items) it (keeps (were key was (sym found))))
+  pub are-written : (old_queue new_queue : Roomy Cell) → WritesThrough pair_eq (pair_eq key) m new_queue n
+      → Some old_queue ≡ lookup (pair_eq key) m.entries → (EachWellFormed old_queue.items → EachWellFormed new_queue.items)
+      → AreWellFormed n.entries
+  are-written old_queue new_queue writes found keeps =
+      are-moved m.entries n.entries key (Some new_queue) were ((writes.3 (subst IsSome found refl)).0)
+      (λ queue same. let it : new_queue ≡ queue = cc in subst (λ q. EachWellFormed q.items) it (keeps (were key old_queue (sym found))))
 
-  pub are-added : (is : Roomy Cell) → Updates pair_eq m n key (Some is) → EachWellFormed is.items → AreWellFormed n.entries
-  are-added is updates each =
-      are-moved m.entries n.entries key (Some is) were updates.0 (λ queue same. let it : is ≡ queue = cc in subst (λ q. EachWellFormed q.items) it each)
+  pub are-added : (new_queue : Roomy Cell) → Updates pair_eq m n key (Some new_queue) → EachWellFormed new_queue.items
+      → AreWellFormed n.entries
+  are-added new_queue updates each =
+      are-moved m.entries n.entries key (Some new_queue) were updates.0 (λ queue same. let it : new_queue ≡ queue = cc in subst (λ q. EachWellFormed q.items) it each)
 
   pub are-removed : Updates pair_eq m n key None → AreWellFormed n.entries
   are-removed updates = are-moved m.entries n.entries key None were updates.0 (λ queue same. absurd (cc))

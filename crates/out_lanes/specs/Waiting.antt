@@ -24,25 +24,25 @@ CellQueues = FinMap pair_cmp (Roomy Cell)
 abbrev pub ChannelLanes : Type 0
 ChannelLanes = FinMap nat_cmp (Roomy Destroy)
 
-pub record Waiting : Type 0 where
+pub record LanesState : Type 0 where
   pub queues : CellQueues
   pub lanes : ChannelLanes
 
 -- The cells that wait on a leg, oldest first.
-abbrev pub queue_on : Waiting → ℕ → ℕ → Roomy Cell
+abbrev pub queue_on : LanesState → ℕ → ℕ → Roomy Cell
 queue_on w circ leg = line_at w.queues (circ, leg)
 
 -- The DESTROYs that wait on a channel, oldest first.
-abbrev pub lane_on : Waiting → ℕ → Roomy Destroy
+abbrev pub lane_on : LanesState → ℕ → Roomy Destroy
 lane_on w chan = line_at w.lanes chan
 
 -- Only this leg's queue changes.
-pub record QueueChanges (old new : Waiting) (circ leg : ℕ) : Type 0 where
+pub record QueueChanges (old new : LanesState) (circ leg : ℕ) : Type 0 where
   pub queues : OthersStay old.queues new.queues (circ, leg)
   pub lanes : new.lanes ≡ old.lanes
 
 -- Only this channel's lane changes.
-pub record LaneChanges (old new : Waiting) (chan : ℕ) : Type 0 where
+pub record LaneChanges (old new : LanesState) (chan : ℕ) : Type 0 where
   pub lanes : OthersStay old.lanes new.lanes chan
   pub queues : new.queues ≡ old.queues
 
@@ -82,6 +82,6 @@ cell_queues_code = code (coded× coded_ℕ coded_ℕ) (roomy_code cell_code)
 abbrev pub channel_lanes_code : Coded ChannelLanes
 channel_lanes_code = code coded_ℕ (roomy_code destroy_code)
 
-abbrev pub waiting_code : Coded Waiting
-waiting_code =
+abbrev pub lanes_state_code : Coded LanesState
+lanes_state_code =
     code_by (CellQueues × ChannelLanes) (coded× cell_queues_code channel_lanes_code) (λ w. (w.queues, w.lanes)) (λ p. record { queues = p.0; lanes = p.1 }) (λ _. refl)

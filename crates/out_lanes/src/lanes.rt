@@ -28,11 +28,11 @@ pub struct Lanes {
 }
 
 impl Model for Lanes {
-    ghost use Rattle.out_lanes.specs.Waiting.{Waiting, waiting_code};
+    ghost use Rattle.out_lanes.specs.Waiting.{LanesState, lanes_state_code};
 
-    ghost Value = { Waiting };
+    ghost Value = { LanesState };
 
-    ghost coded = { waiting_code };
+    ghost coded = { lanes_state_code };
 
     ghost view = { λ l. record { queues = l.queues; lanes = l.lanes } };
 }
