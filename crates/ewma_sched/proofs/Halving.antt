@@ -5,7 +5,7 @@ use Rattle.std.proofs.lemmas.Nat.{shr-shr}
 use Rattle.std.proofs.Math.Nat.{div-one}
 use Rattle.ewma_sched.specs.declared.roster.ReadyLeg.{ReadyLeg}
 use Rattle.ewma_sched.specs.Counts.{halved}
-use Rattle.ewma_sched.specs.Order.{halved_leg}
+use Rattle.ewma_sched.specs.Order.{halved_ready_leg}
 
 -- 64 ticks make any count 0
 pub halved_away : (count ticks : ℕ) → count < 2 ^ 64 → 64 ≤ ticks → 0 ≡ halved count ticks
@@ -29,7 +29,7 @@ halved_from count a b c first second =
 pub halved_none : (count ticks : ℕ) → ticks ≡ 0 → halved count ticks ≡ count
 halved_none count ticks none = ap (halved count) none ∙ div-one count
 
-pub legs_halved_none : (ticks : ℕ) → ticks ≡ 0 → (legs : List ReadyLeg) → map (halved_leg ticks) legs ≡ legs
+pub legs_halved_none : (ticks : ℕ) → ticks ≡ 0 → (legs : List ReadyLeg) → map (halved_ready_leg ticks) legs ≡ legs
 legs_halved_none ticks none [] = refl
 legs_halved_none ticks none (leg ∷ legs) =
     λ i. record leg { count = halved_none leg.count ticks none i } ∷ legs_halved_none ticks none legs i

@@ -10,7 +10,7 @@ use Rattle.std.specs.List.Sorted.{IsPermutation}
 use Rattle.std.specs.Map.{set_value, remove_entry, values_of}
 use Rattle.std.specs.Option.{unwrap_or, option_map}
 use Rattle.hashed_maps.specs.Pairs.{pair_eq}
-use Rattle.ewma_sched.specs.declared.legs.Leg.{Leg}
+use Rattle.ewma_sched.specs.declared.legs.CountedLeg.{CountedLeg}
 use Rattle.ewma_sched.specs.Legs.{LegName}
 use Rattle.ewma_sched.specs.Tables.{Legs, leg_in, idle_count, idle_on, Changes, SameLegs}
 
@@ -21,7 +21,7 @@ is_there : {A : Type 0} (o : Option A) (x : A) → o ≡ Some x → IsSome o
 is_there o x is = subst IsSome (sym is) refl
 
 -- another value was written
-pub written : (old new : Legs) (leg : LegName) (x y : Leg) → leg_in old leg ≡ Some x
+pub written : (old new : Legs) (leg : LegName) (x y : CountedLeg) → leg_in old leg ≡ Some x
     → new ≡ set_value (pair_eq leg) old y → Changes old new leg (Some x) (Some y)
 written old new leg x y there is =
     record {
@@ -33,13 +33,13 @@ written old new leg x y there is =
           ap (λ l. idle_on chan l + idle_count chan x) is ∙ sum_by-set_value (idle_count chan) (pair_eq leg) old x y there;
     }
 
-pub written_same : (old new : Legs) (leg : LegName) (x : Leg) → leg_in old leg ≡ Some x
+pub written_same : (old new : Legs) (leg : LegName) (x : CountedLeg) → leg_in old leg ≡ Some x
     → new ≡ set_value (pair_eq leg) old x → SameLegs old new
 written_same old new leg x there is =
     let same : new ≡ old = is ∙ set_value_same (pair_eq leg) old x there in
     record { legs = λ other. ap (λ l. leg_in l other) same; idle = λ chan. ap (idle_on chan) same }
 
-pub removed : (old new : Legs) (leg : LegName) (x : Leg) → leg_in old leg ≡ Some x
+pub removed : (old new : Legs) (leg : LegName) (x : CountedLeg) → leg_in old leg ≡ Some x
     → ((other : LegName) → leg_in new other ≡ cond (pair_eq leg other) None (leg_in old other))
     → IsPermutation (remove_entry (pair_eq leg) old) new → Changes old new leg (Some x) None
 removed old new leg x there after moved =
@@ -55,7 +55,7 @@ removed old new leg x there after moved =
           omega arith;
     }
 
-pub inserted : (old new : Legs) (leg : LegName) (y : Leg) → leg_in old leg ≡ None
+pub inserted : (old new : Legs) (leg : LegName) (y : CountedLeg) → leg_in old leg ≡ None
     → ((other : LegName) → leg_in new other ≡ cond (pair_eq leg other) (Some y) (leg_in old other))
     → IsPermutation ((leg, y) ∷ old) new → Changes old new leg None (Some y)
 inserted old new leg y absent after moved =

@@ -9,7 +9,7 @@ use Rattle.std.specs.Ordering.{nat_cmp, ordering_then, is_lt, MatchOrdering}
 use Rattle.hashed_maps.proofs.Keys.{pair_keys, eq-itself}
 use Rattle.ewma_sched.specs.declared.roster.Roster.{Roster}
 use Rattle.ewma_sched.specs.declared.roster.ReadyLeg.{ReadyLeg}
-use Rattle.ewma_sched.specs.declared.legs.Leg.{Leg}
+use Rattle.ewma_sched.specs.declared.legs.CountedLeg.{CountedLeg}
 use Rattle.ewma_sched.specs.Counts.{halved}
 use Rattle.ewma_sched.specs.Legs.{LegName, IsServedFirst}
 use Rattle.ewma_sched.specs.Tables.{Legs, has_name, leg_in, waits_on, state_of, HasCount, IsRoster, IsWithoutLegs, Waits, IsFirst, NoneWaitsOn}
@@ -34,7 +34,7 @@ last_part b a Less m h = absurd (let never : ⊥ = cc in never)
 last_part b a Equal m h = omega arith
 last_part b a Greater m h = omega arith
 
-pub not_before_gives : (a b : ReadyLeg) (leg other : LegName) (now : ℕ) (x y : Leg)
+pub not_before_gives : (a b : ReadyLeg) (leg other : LegName) (now : ℕ) (x y : CountedLeg)
     → a ≡ ready_at leg x now → b ≡ ready_at other y now → is_before b a ≡ false
     → IsServedFirst leg (state_of now x) other (state_of now y)
 not_before_gives a b leg other now x y first second h =
@@ -51,7 +51,7 @@ not_before_gives a b leg other now x y first second h =
           ((compared q.circ p.circ _ (counts.1 e)).1 f);
     }
 
-weighs_some : (chan : ℕ) (o : Option Leg) → 1 ≤ waits_on chan o → (x : Leg) × (o ≡ Some x) × Waits chan x
+weighs_some : (chan : ℕ) (o : Option CountedLeg) → 1 ≤ waits_on chan o → (x : CountedLeg) × (o ≡ Some x) × Waits chan x
 weighs_some chan None some = absurd (omega arith)
 weighs_some chan (Some x) some =
     elim (cases_Bool (eqb x.chan chan && x.has_cells)) [
@@ -64,7 +64,7 @@ weighs_some chan (Some x) some =
 
 -- the leg in front of a roster
 pub record Front (legs : Legs) (chan now : ℕ) (first : ReadyLeg) : Type 0 where
-  pub state : Leg
+  pub state : CountedLeg
   pub there : leg_in legs (first.circ, first.number) ≡ Some state
   pub waits : Waits chan state
   pub is : first ≡ ready_at (first.circ, first.number) state now

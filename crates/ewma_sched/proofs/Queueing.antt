@@ -7,7 +7,7 @@ use Rattle.std.specs.VecDeque.{deque_len, deque_capacity}
 use Rattle.hashed_maps.specs.Pairs.{pair_eq}
 use Rattle.hashed_maps.proofs.Keys.{pair_keys, same_key}
 use Rattle.ewma_sched.specs.declared.roster.Roster.{Roster}
-use Rattle.ewma_sched.specs.declared.legs.Leg.{Leg}
+use Rattle.ewma_sched.specs.declared.legs.CountedLeg.{CountedLeg}
 use Rattle.ewma_sched.specs.Legs.{LegName}
 use Rattle.ewma_sched.specs.Tables.{Legs, Rosters, leg_in, roster_in, queued_as, Becomes, IsRoster, IsTable, Changes, SameLegs}
 use Rattle.ewma_sched.specs.Order.{IsInOrder}
@@ -19,7 +19,7 @@ use Rattle.ewma_sched.proofs.Serving.{WentOn, gone_on}
 
 -- one leg has something queued from now on, or has not
 
-module _ (legs legs' : Legs) (rosters rosters' : Rosters) (now : ℕ) (name : LegName) (x : Leg) (roster last : Roster)
+module _ (legs legs' : Legs) (rosters rosters' : Rosters) (now : ℕ) (name : LegName) (x : CountedLeg) (roster last : Roster)
     (table : IsTable legs rosters now) (there : roster_in rosters x.chan ≡ Some roster)
     (written : RosterChanges rosters rosters' x.chan (Some last)) where
   queued_table : (some : Bool) → Changes legs legs' name (Some x) (Some (record x { has_cells = some }))
@@ -59,14 +59,14 @@ module _ (legs legs' : Legs) (rosters rosters' : Rosters) (now : ℕ) (name : Le
 
 -- a change by its names alone
 
-pub becomes_queued : (old new : Legs) (name : LegName) (x : Leg) (some : Bool)
+pub becomes_queued : (old new : Legs) (name : LegName) (x : CountedLeg) (some : Bool)
     → Changes old new name (Some x) (Some (record x { has_cells = some }))
     → Becomes old new name (option_map (queued_as some) (leg_in old name))
 becomes_queued old new name x some change other =
     change.after other
-    ∙ ap (λ o. cond {A = Option Leg} (pair_eq name other) (option_map (queued_as some) o) (leg_in old other)) (sym change.before)
+    ∙ ap (λ o. cond {A = Option CountedLeg} (pair_eq name other) (option_map (queued_as some) o) (leg_in old other)) (sym change.before)
 
-mapped_same : (some : Bool) (o : Option Leg) → MatchOption o (true ≡ true) (λ x. x.has_cells ≡ some)
+mapped_same : (some : Bool) (o : Option CountedLeg) → MatchOption o (true ≡ true) (λ x. x.has_cells ≡ some)
     → option_map (queued_as some) o ≡ o
 mapped_same some None known = refl
 mapped_same some (Some x) known = λ i. Some (record x { has_cells = sym known i })
@@ -81,8 +81,8 @@ becomes_same old new name some same known other =
           same.legs other
           ∙ ap (leg_in old) (sym (same_key pair_keys name other named))
           ∙ sym still
-          ∙ sym (ap (λ b. cond {A = Option Leg} b (option_map (queued_as some) (leg_in old name)) (leg_in old other)) named)
+          ∙ sym (ap (λ b. cond {A = Option CountedLeg} b (option_map (queued_as some) (leg_in old name)) (leg_in old other)) named)
       | inr apart ↦
           same.legs other
-          ∙ sym (ap (λ b. cond {A = Option Leg} b (option_map (queued_as some) (leg_in old name)) (leg_in old other)) apart)
+          ∙ sym (ap (λ b. cond {A = Option CountedLeg} b (option_map (queued_as some) (leg_in old name)) (leg_in old other)) apart)
     ]

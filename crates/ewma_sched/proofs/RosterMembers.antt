@@ -2,13 +2,13 @@
 use Rattle.std.proofs.Common.{◌≡◌, ℕ, ◌+◌, ◌≤◌, false, Some, None, count_by, sym, ap, ◌∙◌, arith}
 use Rattle.std.specs.VecDeque.{deque_len, deque_capacity}
 use Rattle.ewma_sched.specs.declared.roster.Roster.{Roster}
-use Rattle.ewma_sched.specs.declared.legs.Leg.{Leg}
+use Rattle.ewma_sched.specs.declared.legs.CountedLeg.{CountedLeg}
 use Rattle.ewma_sched.specs.Legs.{LegName}
 use Rattle.ewma_sched.specs.Tables.{Legs, has_name, waits_on, idle_count, idle_on, IsRoster, Changes}
 use Rattle.ewma_sched.proofs.Weights.{waits_none, idle_one, others_stay, same_weight}
 
 -- a leg of the channel that has nothing queued is gone
-pub left_roster : (old new : Legs) (chan now : ℕ) (roster : Roster) (leg : LegName) (x : Leg) (idle : ℕ)
+pub left_roster : (old new : Legs) (chan now : ℕ) (roster : Roster) (leg : LegName) (x : CountedLeg) (idle : ℕ)
     → IsRoster old now chan roster → x.chan ≡ chan → x.has_cells ≡ false → Changes old new leg (Some x) None
     → idle + 1 ≡ roster.idle → IsRoster new now chan (record roster { idle = idle })
 left_roster old new chan now roster leg x idle is on queued change fewer =
@@ -28,7 +28,7 @@ left_roster old new chan now roster leg x idle is on queued change fewer =
     }
 
 -- a leg of the channel is new
-pub joined_roster : (old new : Legs) (chan now later : ℕ) (roster : Roster) (leg : LegName) (x : Leg)
+pub joined_roster : (old new : Legs) (chan now later : ℕ) (roster : Roster) (leg : LegName) (x : CountedLeg)
     → IsRoster old now chan roster → now ≤ later → x.chan ≡ chan → x.has_cells ≡ false → Changes old new leg None (Some x)
     → deque_len roster.ready_queue + roster.idle + 1 ≤ deque_capacity roster.ready_queue
     → IsRoster new later chan (record roster { idle = roster.idle + 1 })

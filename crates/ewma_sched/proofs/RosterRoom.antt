@@ -8,17 +8,17 @@ use Rattle.std.specs.List.Sorted.{IsPermutation}
 use Rattle.std.specs.VecDeque.{deque_len, deque_capacity}
 use Rattle.ewma_sched.specs.declared.roster.Roster.{Roster}
 use Rattle.ewma_sched.specs.declared.roster.ReadyLeg.{ReadyLeg}
-use Rattle.ewma_sched.specs.declared.legs.Leg.{Leg}
+use Rattle.ewma_sched.specs.declared.legs.CountedLeg.{CountedLeg}
 use Rattle.ewma_sched.specs.Counts.{halved}
 use Rattle.ewma_sched.specs.Tables.{Legs, has_name, leg_in, waits_on, HasCount, IsRoster, IsWithoutLegs}
-use Rattle.ewma_sched.specs.Order.{IsInOrder, Serves, charged_leg}
+use Rattle.ewma_sched.specs.Order.{IsInOrder, Serves, charged_ready_leg}
 use Rattle.ewma_sched.specs.Order as order
 use Rattle.ewma_sched.proofs.Halving.{halved_from}
 use Rattle.ewma_sched.proofs.Names.{count_moved, count_map}
 use Rattle.ewma_sched.proofs.Weights.{waits_one, idle_one, weighs_nothing, idle_least}
 
 -- a count at a later tick
-pub later : (o : Option Leg) (a b count : ℕ) → a ≤ b → HasCount o a count → HasCount o b (halved count (b - a))
+pub later : (o : Option CountedLeg) (a b count : ℕ) → a ≤ b → HasCount o a count → HasCount o b (halved count (b - a))
 later None a b count le has = has
 later (Some x) a b count le has =
     let value = x.count.value in
@@ -28,13 +28,13 @@ later (Some x) a b count le has =
 module _ (legs : Legs) (chan : ℕ) where
   -- a roster that went on to a later tick
   pub went_on : (roster next : Roster) (now tick : ℕ) → IsRoster legs now chan roster → now ≤ tick
-      → IsPermutation (map (order.halved_leg (tick - roster.tick)) roster.ready_queue.items) next.ready_queue.items
+      → IsPermutation (map (order.halved_ready_leg (tick - roster.tick)) roster.ready_queue.items) next.ready_queue.items
       → IsInOrder next.ready_queue.items → next.idle ≡ roster.idle → next.tick ≡ tick
       → deque_len next.ready_queue ≡ deque_len roster.ready_queue
       → deque_capacity next.ready_queue ≡ deque_capacity roster.ready_queue
       → IsRoster legs tick chan next
   went_on roster next now tick is le moved ordered idle ticked long wide =
-      let halve = order.halved_leg (tick - roster.tick) in
+      let halve = order.halved_ready_leg (tick - roster.tick) in
       let HasIts : ReadyLeg → Type 0 = λ w. HasCount (leg_in legs (w.circ, w.number)) tick w.count in
       let at_tick : All HasIts next.ready_queue.items
       = All-permutation HasIts (map halve roster.ready_queue.items) next.ready_queue.items moved

@@ -8,7 +8,7 @@ use Rattle.std.specs.VecDeque.{deque_len, deque_capacity}
 use Rattle.hashed_maps.proofs.Keys.{pair_keys, eq-itself}
 use Rattle.ewma_sched.specs.declared.roster.Roster.{Roster}
 use Rattle.ewma_sched.specs.declared.roster.ReadyLeg.{ReadyLeg}
-use Rattle.ewma_sched.specs.declared.legs.Leg.{Leg}
+use Rattle.ewma_sched.specs.declared.legs.CountedLeg.{CountedLeg}
 use Rattle.ewma_sched.specs.Counts.{halved}
 use Rattle.ewma_sched.specs.Legs.{LegName}
 use Rattle.ewma_sched.specs.Tables.{Legs, has_name, leg_in, waits_on, idle_count, idle_on, HasCount, IsRoster, Changes}
@@ -20,26 +20,26 @@ use Rattle.ewma_sched.proofs.Weights.{waits_one, waits_none, idle_one, idle_none
 use Rattle.ewma_sched.proofs.Standing.{ready_at}
 
 -- the leg in front was charged
-pub served_roster : (old new : Legs) (chan now : ℕ) (roster next : Roster) (served : ReadyLeg) (x : Leg)
-    → IsRoster old now chan roster → roster.tick ≡ now → Serves roster.ready_queue.items next.ready_queue.items served
+pub served_roster : (old new : Legs) (chan now : ℕ) (roster next : Roster) (served_leg : ReadyLeg) (x : CountedLeg)
+    → IsRoster old now chan roster → roster.tick ≡ now → Serves roster.ready_queue.items next.ready_queue.items served_leg
     → x.chan ≡ chan → x.has_cells ≡ true
-    → Changes old new (served.circ, served.number) (Some x) (Some (record x { count = record { value = served.count; tick = now } }))
+    → Changes old new (served_leg.circ, served_leg.number) (Some x) (Some (record x { count = record { value = served_leg.count; tick = now } }))
     → IsInOrder next.ready_queue.items → next.idle ≡ roster.idle → next.tick ≡ roster.tick
     → deque_len next.ready_queue ≡ deque_len roster.ready_queue
     → deque_capacity roster.ready_queue ≤ deque_capacity next.ready_queue
     → IsRoster new now chan next
-served_roster old new chan now roster next served x is ticked serves on queued change ordered idle same long wide =
-    let leg : LegName = (served.circ, served.number) in
+served_roster old new chan now roster next served_leg x is ticked serves on queued change ordered idle same long wide =
+    let leg : LegName = (served_leg.circ, served_leg.number) in
     let first = serves.first in
     let rest = serves.rest in
-    let charged : Leg = record x { count = record { value = served.count; tick = now } } in
-    let named : (name : LegName) → has_name name served ≡ has_name name first
+    let charged : CountedLeg = record x { count = record { value = served_leg.count; tick = now } } in
+    let named : (name : LegName) → has_name name served_leg ≡ has_name name first
     = λ name. ap (has_name name) serves.charged in
     let counted : (name : LegName)
     → count_by (has_name name) next.ready_queue.items ≡ count_by (has_name name) roster.ready_queue.items
     = λ name.
-    count_moved (has_name name) (served ∷ rest) next.ready_queue.items serves.moved
-    ∙ count_cons (has_name name) served rest
+    count_moved (has_name name) (served_leg ∷ rest) next.ready_queue.items serves.moved
+    ∙ count_cons (has_name name) served_leg rest
     ∙ ap (λ b. cond {A = ℕ} b 1 0 + count_by (has_name name) rest) (named name)
     ∙ sym (count_cons (has_name name) first rest)
     ∙ ap (count_by (has_name name)) (sym serves.was) in
@@ -58,9 +58,9 @@ served_roster old new chan now roster next served x is ticked serves on queued c
     let later_ones : All HasIts rest
     = others_stay change next.tick rest gone (All-tail (λ w. HasCount (leg_in old (w.circ, w.number)) next.tick w.count) first rest old_counts) in
     let none : next.tick - now ≡ 0 = omega arith in
-    let front : HasIts served
-    = subst (λ o. HasCount o next.tick served.count) (sym (at_leg change))
-    (omega arith, sym (halved_none served.count (next.tick - now) none)) in
+    let front : HasIts served_leg
+    = subst (λ o. HasCount o next.tick served_leg.count) (sym (at_leg change))
+    (omega arith, sym (halved_none served_leg.count (next.tick - now) none)) in
     let tick = is.tick in
     let room = is.room in
     let idle_same : idle_on chan new + idle_count chan x ≡ idle_on chan old + idle_count chan charged = change.idle chan in
@@ -74,13 +74,13 @@ served_roster old new chan now roster next served x is ticked serves on queued c
           counted name ∙ is.names name
           ∙ sym (same_weight change chan (waits_one chan charged on queued ∙ sym weighs) name);
       counts =
-          All-permutation HasIts (served ∷ rest) next.ready_queue.items serves.moved (All-cons HasIts served rest front later_ones);
+          All-permutation HasIts (served_leg ∷ rest) next.ready_queue.items serves.moved (All-cons HasIts served_leg rest front later_ones);
       idle = omega arith;
       room = omega arith;
     }
 
 -- a leg of the channel has something queued from now on
-pub began_roster : (old new : Legs) (chan now : ℕ) (roster next : Roster) (leg : LegName) (x : Leg)
+pub began_roster : (old new : Legs) (chan now : ℕ) (roster next : Roster) (leg : LegName) (x : CountedLeg)
     → IsRoster old now chan roster → roster.tick ≡ now → x.count.tick ≤ now → x.chan ≡ chan → x.has_cells ≡ false
     → Changes old new leg (Some x) (Some (record x { has_cells = true }))
     → IsPermutation (ready_at leg x now ∷ roster.ready_queue.items) next.ready_queue.items
@@ -89,7 +89,7 @@ pub began_roster : (old new : Legs) (chan now : ℕ) (roster next : Roster) (leg
     → IsRoster new now chan next
 began_roster old new chan now roster next leg x is ticked counted on queued change moved ordered idle same room =
     let entry = ready_at leg x now in
-    let begun : Leg = record x { has_cells = true } in
+    let begun : CountedLeg = record x { has_cells = true } in
     let gone : count_by (has_name leg) roster.ready_queue.items ≡ 0
     = is.names leg ∙ ap (waits_on chan) change.before ∙ waits_none chan x queued in
     let split : (name : LegName)
@@ -127,7 +127,7 @@ began_roster old new chan now roster next leg x is ticked counted on queued chan
     }
 
 -- a leg of the channel has nothing queued from now on
-pub ended_roster : (old new : Legs) (chan now : ℕ) (roster next : Roster) (leg : LegName) (x : Leg)
+pub ended_roster : (old new : Legs) (chan now : ℕ) (roster next : Roster) (leg : LegName) (x : CountedLeg)
     → IsRoster old now chan roster → x.chan ≡ chan → x.has_cells ≡ true
     → Changes old new leg (Some x) (Some (record x { has_cells = false }))
     → IsPermutation roster.ready_queue.items (ready_at leg x roster.tick ∷ next.ready_queue.items)
@@ -136,7 +136,7 @@ pub ended_roster : (old new : Legs) (chan now : ℕ) (roster next : Roster) (leg
     → IsRoster new now chan next
 ended_roster old new chan now roster next leg x is on queued change moved ordered idle same room =
     let entry = ready_at leg x roster.tick in
-    let resting : Leg = record x { has_cells = false } in
+    let resting : CountedLeg = record x { has_cells = false } in
     let split : (name : LegName)
     → cond {A = ℕ} (has_name name entry) 1 0 + count_by (has_name name) next.ready_queue.items ≡ count_by (has_name name) roster.ready_queue.items
     = λ name.

@@ -4,7 +4,7 @@ use Rattle.std.specs.List.{Contains}
 use Rattle.hashed_maps.proofs.Keys.{pair_keys, same_key}
 use Rattle.ewma_sched.specs.declared.roster.Roster.{Roster}
 use Rattle.ewma_sched.specs.declared.roster.ReadyLeg.{ReadyLeg}
-use Rattle.ewma_sched.specs.declared.legs.Leg.{Leg}
+use Rattle.ewma_sched.specs.declared.legs.CountedLeg.{CountedLeg}
 use Rattle.ewma_sched.specs.Counts.{halved}
 use Rattle.ewma_sched.specs.Legs.{LegName}
 use Rattle.ewma_sched.specs.Tables.{Legs, has_name, leg_in, waits_on, HasCount, IsRoster}
@@ -12,20 +12,20 @@ use Rattle.ewma_sched.proofs.Names.{some_passes}
 use Rattle.ewma_sched.proofs.Weights.{waits_one}
 
 -- a leg as it waits at a tick
-abbrev pub ready_at : LegName → Leg → ℕ → ReadyLeg
+abbrev pub ready_at : LegName → CountedLeg → ℕ → ReadyLeg
 ready_at leg x tick =
     record { count = halved x.count.value (tick - x.count.tick); circ = leg.0; number = leg.1 }
 
 -- a leg that has something queued stands in the roster
 
-pub record Stands (roster : Roster) (leg : LegName) (x : Leg) : Type 0 where
+pub record StandsOnRoster (roster : Roster) (leg : LegName) (x : CountedLeg) : Type 0 where
   pub place : ℕ
   pub within : place < length roster.ready_queue.items
   pub entry : (d : ReadyLeg) → get_or roster.ready_queue.items place d ≡ ready_at leg x roster.tick
   pub counted : x.count.tick ≤ roster.tick
 
-pub stands : (legs : Legs) (chan now : ℕ) (roster : Roster) (leg : LegName) (x : Leg) → IsRoster legs now chan roster
-    → leg_in legs leg ≡ Some x → x.chan ≡ chan → x.has_cells ≡ true → Stands roster leg x
+pub stands : (legs : Legs) (chan now : ℕ) (roster : Roster) (leg : LegName) (x : CountedLeg) → IsRoster legs now chan roster
+    → leg_in legs leg ≡ Some x → x.chan ≡ chan → x.has_cells ≡ true → StandsOnRoster roster leg x
 stands legs chan now roster leg x is there on queued =
     let items = roster.ready_queue.items in
     let one : count_by (has_name leg) items ≡ 1
@@ -45,6 +45,6 @@ stands legs chan now roster leg x is there on queued =
       counted = (has (ready_at leg x roster.tick)).0;
     }
 
-pub stands_in : (roster : Roster) (leg : LegName) (x : Leg) → Stands roster leg x
+pub stands_in : (roster : Roster) (leg : LegName) (x : CountedLeg) → StandsOnRoster roster leg x
     → Contains roster.ready_queue.items (ready_at leg x roster.tick)
 stands_in roster leg x s = (s.place, s.within, s.entry (ready_at leg x roster.tick))

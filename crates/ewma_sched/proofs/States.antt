@@ -7,7 +7,7 @@ use Rattle.std.specs.Option.{option_map}
 use Rattle.hashed_maps.specs.Pairs.{pair_cmp, pair_eq}
 use Rattle.hashed_maps.proofs.Keys.{pair_keys, agrees_back}
 use Rattle.hashed_maps.proofs.Entries.{get-entries}
-use Rattle.ewma_sched.specs.declared.legs.Leg.{Leg}
+use Rattle.ewma_sched.specs.declared.legs.CountedLeg.{CountedLeg}
 use Rattle.ewma_sched.specs.Legs.{LegName, ScheduledLeg, SchedState, leg_at, with_leg, without_leg, halved_leg, at_tick}
 use Rattle.ewma_sched.specs.Tables.{Becomes, Legs, leg_in, state_of, states}
 use Rattle.ewma_sched.proofs.Halving.{halved_from}
@@ -23,7 +23,7 @@ pub states_at : (legs : Legs) (tick : ℕ) (leg : LegName)
     → leg_at (states legs tick) leg ≡ option_map (state_of tick) (leg_in legs leg)
 unfolding states
 states_at legs tick leg =
-    let es = map (λ (e : LegName × Leg). (e.0, state_of tick e.1)) legs in
+    let es = map (λ (e : LegName × CountedLeg). (e.0, state_of tick e.1)) legs in
     get-entries pair_keys es leg
     ∙ lookup-map_values (state_of tick) (pair_eq leg) legs
 
@@ -43,7 +43,7 @@ same_state s t ticks legs =
     let same = finite.same_map pair_keys.total pair_keys.exact s.legs t.legs legs in
     λ i. record { legs = same i; tick = ticks i }
 
-halved_later : (now tick : ℕ) (o : Option Leg) → now ≤ tick → ((x : Leg) → o ≡ Some x → x.count.tick ≤ now)
+halved_later : (now tick : ℕ) (o : Option CountedLeg) → now ≤ tick → ((x : CountedLeg) → o ≡ Some x → x.count.tick ≤ now)
     → option_map (state_of tick) o ≡ option_map (halved_leg (tick - now)) (option_map (state_of now) o)
 halved_later now tick None le ticks = refl
 halved_later now tick (Some x) le ticks =
@@ -52,7 +52,7 @@ halved_later now tick (Some x) le ticks =
 
 -- what the kept legs mean at a later tick
 pub later_at : (legs : Legs) (now tick : ℕ) (leg : LegName) → now ≤ tick
-    → ((name : LegName) (x : Leg) → leg_in legs name ≡ Some x → x.count.tick ≤ now)
+    → ((name : LegName) (x : CountedLeg) → leg_in legs name ≡ Some x → x.count.tick ≤ now)
     → leg_at (at_tick (states legs now) tick) leg ≡ option_map (state_of tick) (leg_in legs leg)
 unfolding states
 later_at legs now tick leg le ticks =
@@ -83,7 +83,7 @@ module _ (old new : Legs) (now : ℕ) where
       ∙ ap (λ b. cond {A = Option ScheduledLeg} b None (leg_at (states old now) other)) (sym (agrees_back pair_keys leg other))
       ∙ ap (λ o. cond {A = Option ScheduledLeg} (pair_eq leg other) None o) (states_at old now other)))
 
-  pub leg_changed : (leg : LegName) (x : Leg) → Becomes old new leg (Some x)
+  pub leg_changed : (leg : LegName) (x : CountedLeg) → Becomes old new leg (Some x)
       → states new now ≡ with_leg (states old now) leg (state_of now x)
   unfolding states
   leg_changed leg x changed =
@@ -96,14 +96,14 @@ module _ (old new : Legs) (now : ℕ) where
       ∙ ap (λ o. cond {A = Option ScheduledLeg} (pair_eq leg other) (Some (state_of now x)) o) (states_at old now other)))
 
   module _ (tick : ℕ) (le : now ≤ tick)
-      (ticks : (name : LegName) (x : Leg) → leg_in old name ≡ Some x → x.count.tick ≤ now) where
+      (ticks : (name : LegName) (x : CountedLeg) → leg_in old name ≡ Some x → x.count.tick ≤ now) where
     pub same_later : ((leg : LegName) → leg_in new leg ≡ leg_in old leg) → states new tick ≡ at_tick (states old now) tick
     unfolding states at_tick
     same_later same =
         same_state (states new tick) (at_tick (states old now) tick) refl (λ leg.
         states_at new tick leg ∙ ap (option_map (state_of tick)) (same leg) ∙ sym (later_at old now tick leg le ticks))
 
-    pub changed_later : (leg : LegName) (x : Leg) → Becomes old new leg (Some x)
+    pub changed_later : (leg : LegName) (x : CountedLeg) → Becomes old new leg (Some x)
         → states new tick ≡ with_leg (at_tick (states old now) tick) leg (state_of tick x)
     unfolding states at_tick
     changed_later leg x changed =
@@ -117,7 +117,7 @@ module _ (old new : Legs) (now : ℕ) where
         ∙ ap (λ o. cond {A = Option ScheduledLeg} (pair_eq leg other) (Some (state_of tick x)) o) (later_at old now tick other le ticks)))
 
 -- a leg that has a state is kept
-pub kept_leg : (tick : ℕ) (o : Option Leg) (y : ScheduledLeg) → option_map (state_of tick) o ≡ Some y
-    → (x : Leg) × (o ≡ Some x) × (state_of tick x ≡ y)
+pub kept_leg : (tick : ℕ) (o : Option CountedLeg) (y : ScheduledLeg) → option_map (state_of tick) o ≡ Some y
+    → (x : CountedLeg) × (o ≡ Some x) × (state_of tick x ≡ y)
 kept_leg tick None y is = absurd (let never : ⊥ = cc in never)
 kept_leg tick (Some x) y is = (x, refl, cc)

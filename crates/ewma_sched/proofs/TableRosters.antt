@@ -6,7 +6,7 @@ use Rattle.std.proofs.lemmas.Map.{lookup-set_value}
 use Rattle.std.specs.Map.{set_value}
 use Rattle.std.specs.VecDeque.{deque_len}
 use Rattle.ewma_sched.specs.declared.roster.Roster.{Roster}
-use Rattle.ewma_sched.specs.Tables.{Legs, Rosters, roster_in, HasRoom, KeepsRoom, IsRoster, IsWithoutLegs, KeepsRoster, IsTable, SameLegs}
+use Rattle.ewma_sched.specs.Tables.{Legs, Rosters, roster_in, RosterHasRoom, KeepsRoom, IsRoster, IsWithoutLegs, KeepsRoster, IsTable, SameLegs}
 use Rattle.ewma_sched.proofs.Keeping.{RosterChanges, roster_same, keeps_by}
 use Rattle.ewma_sched.proofs.Maps.{unchanged}
 use Rattle.ewma_sched.proofs.RosterRoom.{without_legs}
@@ -53,18 +53,19 @@ table_roster legs legs' rosters rosters' chan now later becomes table same le ro
 -- every roster has room where it had
 
 pub room_table : (rosters rosters' : Rosters) (chan : ℕ) (roster last : Roster) → roster_in rosters chan ≡ Some roster
-    → RosterChanges rosters rosters' chan (Some last) → (HasRoom (Some roster) → HasRoom (Some last)) → KeepsRoom rosters rosters'
+    → RosterChanges rosters rosters' chan (Some last) → (RosterHasRoom (Some roster) → RosterHasRoom (Some last))
+    → KeepsRoom rosters rosters'
 room_table rosters rosters' chan roster last there change room other had =
     elim (cases_eq chan other) [
       | inl e ↦
           let was : roster_in rosters other ≡ Some roster = ap (roster_in rosters) (sym e) ∙ there in
           let is : roster_in rosters' other ≡ Some last
           = change other ∙ ap (λ b. cond {A = Option Roster} b (Some last) (roster_in rosters other)) (eq-eqb chan other e) in
-          subst HasRoom (sym is) (room (subst HasRoom was had))
+          subst RosterHasRoom (sym is) (room (subst RosterHasRoom was had))
       | inr apart ↦
           let is : roster_in rosters' other ≡ roster_in rosters other
           = change other ∙ ap (λ b. cond {A = Option Roster} b (Some last) (roster_in rosters other)) (ne_eqb chan other apart) in
-          subst HasRoom (sym is) had
+          subst RosterHasRoom (sym is) had
     ]
 
 -- the legs lie in another order

@@ -5,7 +5,7 @@ use Rattle.std.specs.FinMap as finite
 use Rattle.std.specs.Option.{option_map, is_some}
 use Rattle.hashed_maps.specs.Pairs.{pair_eq}
 use Rattle.hashed_maps.proofs.Keys.{pair_keys, same_key, eq-itself}
-use Rattle.ewma_sched.specs.declared.legs.Leg.{Leg}
+use Rattle.ewma_sched.specs.declared.legs.CountedLeg.{CountedLeg}
 use Rattle.ewma_sched.specs.Counts.{halved}
 use Rattle.ewma_sched.specs.Legs.{LegName, ScheduledLeg, SchedState, leg_at, with_leg, without_leg, at_tick, new_leg, with_leg_by, with_leg_as, charged_leg, queued_leg, IsNext, NoneWaits, IsServedFirst}
 use Rattle.ewma_sched.specs.Tables.{Legs, leg_in, state_of, states, queued_as, charged_at, Becomes, Changes, SameLegs, Charges, IsFirst, NoneWaitsOn}
@@ -13,7 +13,7 @@ use Rattle.ewma_sched.proofs.Halving.{halved_none}
 use Rattle.ewma_sched.proofs.States.{states_at, later_at, same_states, leg_gone, leg_changed, same_later, changed_later, kept_leg}
 
 abbrev pub CountedBy : Legs → ℕ → Type 0
-CountedBy legs now = (leg : LegName) (x : Leg) → leg_in legs leg ≡ Some x → x.count.tick ≤ now
+CountedBy legs now = (leg : LegName) (x : CountedLeg) → leg_in legs leg ≡ Some x → x.count.tick ≤ now
 
 pub tick_of : (legs : Legs) (tick : ℕ) (s : SchedState) → states legs tick ≡ s → tick ≡ s.tick
 unfolding states
@@ -36,18 +36,18 @@ pub joined_view : (old roomy gone new : Legs) (now tick chan : ℕ) (leg : LegNa
     → Changes gone new leg None (Some (record { chan = chan; count = record { value = 0; tick = tick }; has_cells = false }))
     → states new tick ≡ with_leg (at_tick (states old now) tick) leg (new_leg chan)
 joined_view old roomy gone new now tick chan leg le ticks same left put =
-    let x : Leg = record { chan = chan; count = record { value = 0; tick = tick }; has_cells = false } in
+    let x : CountedLeg = record { chan = chan; count = record { value = 0; tick = tick }; has_cells = false } in
     let becomes : Becomes old new leg (Some x)
     = λ other.
     elim (cases_Bool (pair_eq leg other)) [
       | inl named ↦
-          put.after other ∙ ap (λ b. cond {A = Option Leg} b (Some x) (leg_in gone other)) named
-          ∙ sym (ap (λ b. cond {A = Option Leg} b (Some x) (leg_in old other)) named)
+          put.after other ∙ ap (λ b. cond {A = Option CountedLeg} b (Some x) (leg_in gone other)) named
+          ∙ sym (ap (λ b. cond {A = Option CountedLeg} b (Some x) (leg_in old other)) named)
       | inr apart ↦
-          put.after other ∙ ap (λ b. cond {A = Option Leg} b (Some x) (leg_in gone other)) apart
-          ∙ left other ∙ ap (λ b. cond {A = Option Leg} b None (leg_in roomy other)) apart
+          put.after other ∙ ap (λ b. cond {A = Option CountedLeg} b (Some x) (leg_in gone other)) apart
+          ∙ left other ∙ ap (λ b. cond {A = Option CountedLeg} b None (leg_in roomy other)) apart
           ∙ same.legs other
-          ∙ sym (ap (λ b. cond {A = Option Leg} b (Some x) (leg_in old other)) apart)
+          ∙ sym (ap (λ b. cond {A = Option CountedLeg} b (Some x) (leg_in old other)) apart)
     ] in
     let none : tick - tick ≡ 0 = omega arith in
     let zero : halved 0 (tick - tick) ≡ 0 = halved_none 0 (tick - tick) none in
@@ -59,16 +59,16 @@ pub left_view : (old new : Legs) (now : ℕ) (leg : LegName) → Becomes old new
     → states new now ≡ without_leg (states old now) leg
 left_view old new now leg gone = leg_gone old new now leg gone
 
-queued_by : (old new : Legs) (now : ℕ) (leg : LegName) (some : Bool) (o : Option Leg) → leg_in old leg ≡ o
+queued_by : (old new : Legs) (now : ℕ) (leg : LegName) (some : Bool) (o : Option CountedLeg) → leg_in old leg ≡ o
     → Becomes old new leg (option_map (queued_as some) o)
     → states new now ≡ with_leg_as (queued_leg some) (states old now) leg (option_map (state_of now) o)
 queued_by old new now leg some None there becomes =
     same_states old new now (λ other.
     elim (cases_Bool (pair_eq leg other)) [
       | inl named ↦
-          becomes other ∙ ap (λ b. cond {A = Option Leg} b None (leg_in old other)) named
+          becomes other ∙ ap (λ b. cond {A = Option CountedLeg} b None (leg_in old other)) named
           ∙ sym there ∙ ap (leg_in old) (same_key pair_keys leg other named)
-      | inr apart ↦ becomes other ∙ ap (λ b. cond {A = Option Leg} b None (leg_in old other)) apart
+      | inr apart ↦ becomes other ∙ ap (λ b. cond {A = Option CountedLeg} b None (leg_in old other)) apart
     ])
 queued_by old new now leg some (Some x) there becomes = leg_changed old new now leg (queued_as some x) becomes
 
@@ -80,7 +80,7 @@ queued_view old new now leg some becomes =
     ∙ ap (with_leg_as (queued_leg some) (states old now) leg) (sym (states_at old now leg))
 
 module _ (old : Legs) (now tick : ℕ) (le : now ≤ tick) (ticks : CountedBy old now) where
-  there_later : (leg : LegName) (x : Leg) → leg_in old leg ≡ Some x
+  there_later : (leg : LegName) (x : CountedLeg) → leg_in old leg ≡ Some x
       → leg_at (at_tick (states old now) tick) leg ≡ Some (state_of tick x)
   there_later leg x there = later_at old now tick leg le ticks ∙ ap (option_map (state_of tick)) there
 
@@ -110,7 +110,7 @@ module _ (old : Legs) (now tick : ℕ) (le : now ≤ tick) (ticks : CountedBy ol
             (record { chan = ap (λ z. z.chan) table.2 ∙ waits.chan; has_cells = ap (λ z. z.has_cells) table.2 ∙ waits.has_cells }));
       }
 
-  pub count_view : (leg : LegName) (x : Leg) → leg_in old leg ≡ Some x
+  pub count_view : (leg : LegName) (x : CountedLeg) → leg_in old leg ≡ Some x
       → option_map (λ y. y.count) (leg_at (at_tick (states old now) tick) leg)
       ≡ Some (halved x.count.value (tick - x.count.tick))
   count_view leg x there = ap (option_map (λ (y : ScheduledLeg). y.count)) (there_later leg x there)
@@ -128,10 +128,10 @@ none_view old now chan none leg y there waits =
 pub kept_there : (old : Legs) (now : ℕ) (leg : LegName)
     → is_some (leg_at (states old now) leg) ≡ is_some (leg_in old leg)
 kept_there old now leg = ap is_some (states_at old now leg) ∙ mapped_some (leg_in old leg) where
-  mapped_some : (o : Option Leg) → is_some (option_map (state_of now) o) ≡ is_some o
+  mapped_some : (o : Option CountedLeg) → is_some (option_map (state_of now) o) ≡ is_some o
   mapped_some None = refl
   mapped_some (Some x) = refl
 
 pub gone_itself : (old new : Legs) (leg : LegName) → Becomes old new leg None → leg_in new leg ≡ None
 gone_itself old new leg gone =
-    gone leg ∙ ap (λ b. cond {A = Option Leg} b None (leg_in old leg)) (eq-itself pair_keys leg)
+    gone leg ∙ ap (λ b. cond {A = Option CountedLeg} b None (leg_in old leg)) (eq-itself pair_keys leg)

@@ -21,17 +21,17 @@ IsInOrder legs =
     → is_before (slice_index_or legs j d) (slice_index_or legs i d) ≡ false
 
 -- A leg after so many ticks.
-abbrev pub halved_leg : ℕ → ReadyLeg → ReadyLeg
-halved_leg ticks leg = record leg { count = halved leg.count ticks }
+abbrev pub halved_ready_leg : ℕ → ReadyLeg → ReadyLeg
+halved_ready_leg ticks leg = record leg { count = halved leg.count ticks }
 
 -- A leg after one more cell.
-abbrev pub charged_leg : ReadyLeg → ReadyLeg
-charged_leg leg = record leg { count = charged leg.count }
+abbrev pub charged_ready_leg : ReadyLeg → ReadyLeg
+charged_ready_leg leg = record leg { count = charged leg.count }
 
 -- The first leg is charged, and stands at its new place.
-pub record Serves (old new : List ReadyLeg) (served : ReadyLeg) : Type 0 where
+pub record Serves (old new : List ReadyLeg) (served_leg : ReadyLeg) : Type 0 where
   pub first : ReadyLeg
   pub rest : List ReadyLeg
   pub was : old ≡ first ∷ rest
-  pub charged : served ≡ charged_leg first
-  pub moved : IsPermutation (served ∷ rest) new
+  pub charged : served_leg ≡ charged_ready_leg first
+  pub moved : IsPermutation (served_leg ∷ rest) new

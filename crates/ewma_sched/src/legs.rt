@@ -10,7 +10,7 @@ use std::collections::HashMap;
 
 /// A leg: its channel, its count, and whether it has something queued.
 #[derive(Clone, Copy)]
-pub(crate) struct Leg {
+pub(crate) struct CountedLeg {
     pub chan: u64,
     pub count: Count,
     pub has_cells: bool,
@@ -19,7 +19,7 @@ pub(crate) struct Leg {
 /// A leg's circuit number and its own.
 pub(crate) type LegName = (u64, u32);
 
-pub(crate) type Legs = HashMap<LegName, Leg>;
+pub(crate) type Legs = HashMap<LegName, CountedLeg>;
 
 /// Gives a leg another count.
 pub(crate) fn set_count(legs: &mut Legs, name: LegName, count: Count)
@@ -31,7 +31,7 @@ pub(crate) fn set_count(legs: &mut Legs, name: LegName, count: Count)
 }
 
 /// Notes whether a leg has something queued. The answer is the leg as it was, where that is news.
-pub(crate) fn set_queued(legs: &mut Legs, name: LegName, some: bool) -> Option<Leg>
+pub(crate) fn set_queued(legs: &mut Legs, name: LegName, some: bool) -> Option<CountedLeg>
     ensures some { IfSome result (λ x. Changes legs.old.entries legs.new.entries name (Some x) (Some (record x { has_cells = some }))) }
     ensures news { IfSome result (λ x. x.has_cells ≡ not some) }
     ensures none { IfNone result (SameLegs legs.old.entries legs.new.entries) }
@@ -42,13 +42,13 @@ pub(crate) fn set_queued(legs: &mut Legs, name: LegName, some: bool) -> Option<L
     if leg.has_cells == some {
         return None;
     }
-    let was = *leg;
+    let old_leg = *leg;
     leg.has_cells = some;
-    Some(was)
+    Some(old_leg)
 }
 
 /// Takes a leg away.
-pub(crate) fn remove(legs: &mut Legs, name: LegName) -> Option<Leg>
+pub(crate) fn remove(legs: &mut Legs, name: LegName) -> Option<CountedLeg>
     ensures some { IfSome result (λ x. Changes legs.old.entries legs.new.entries name (Some x) None) }
     ensures none { IfNone result (SameLegs legs.old.entries legs.new.entries) }
     ensures spare { spare legs.old ≤ spare legs.new }

@@ -4,7 +4,7 @@ ghost use Rattle.std.specs.Prelude.{◌≡◌, ◌+◌, ◌-◌, ◌<◌, ◌≤
 ghost use Rattle.std.specs.List.{Contains};
 ghost use Rattle.std.specs.List.Sorted.{IsPermutation};
 ghost use Rattle.std.specs.VecDeque.{deque_len, deque_capacity};
-ghost use Rattle.ewma_sched.specs.Order.{IsInOrder, Serves, halved_leg, is_before};
+ghost use Rattle.ewma_sched.specs.Order.{IsInOrder, Serves, halved_ready_leg, is_before};
 
 use crate::count::{charged, halved};
 use std::alloc::{AllocError, Global};
@@ -59,7 +59,7 @@ impl Roster {
     pub(crate) fn go_on(&mut self, tick: u64)
         requires order { IsInOrder self.old.ready_queue.items }
         requires tick { self.old.tick ≤ tick }
-        ensures legs { IsPermutation (map (halved_leg (tick - self.old.tick)) self.old.ready_queue.items) self.new.ready_queue.items }
+        ensures legs { IsPermutation (map (halved_ready_leg (tick - self.old.tick)) self.old.ready_queue.items) self.new.ready_queue.items }
         ensures order { IsInOrder self.new.ready_queue.items }
         ensures idle { self.new.idle ≡ self.old.idle }
         ensures tick { self.new.tick ≡ tick }
@@ -190,7 +190,7 @@ impl Roster {
 }
 
 fn halve(legs: &mut [ReadyLeg], ticks: u64)
-    ensures { legs.new ≡ map (halved_leg ticks) legs.old }
+    ensures { legs.new ≡ map (halved_ready_leg ticks) legs.old }
 {
     for leg in legs.iter_mut() {
         leg.count = halved(leg.count, ticks);

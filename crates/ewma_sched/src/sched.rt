@@ -62,9 +62,9 @@ impl Sched {
     {
         let name = (circ.0, leg);
         self.table.reserve(chan.0)?;
-        let before = self.table.take_out(name);
+        let old_chan = self.table.take_out(name);
         self.table.put_in(name, chan.0, tick);
-        if let Some(chan) = before {
+        if let Some(chan) = old_chan {
             self.table.drop_if_empty(chan);
         }
         Ok(())

@@ -4,10 +4,10 @@ ghost use Rattle.std.specs.Prelude.{[], ◌≡◌, ◌+◌, ◌-◌, ◌≤◌, 
 ghost use Rattle.std.specs.VecDeque.{deque_len, deque_capacity};
 ghost use Rattle.std.specs.HashMap.{spare};
 ghost use Rattle.ewma_sched.specs.Counts.{charged, halved};
-ghost use Rattle.ewma_sched.specs.Tables.{Becomes, Changes, KeepsRoom, SameLegs, Charges, HasRoom, IsTable, IsFirst, NoneWaitsOn, roster_in, leg_in, queued_as};
+ghost use Rattle.ewma_sched.specs.Tables.{Becomes, Changes, KeepsRoom, SameLegs, Charges, RosterHasRoom, IsTable, IsFirst, NoneWaitsOn, roster_in, leg_in, queued_as};
 
 use crate::count::Count;
-use crate::legs::{Leg, LegName, Legs, remove, set_count, set_queued};
+use crate::legs::{CountedLeg, LegName, Legs, remove, set_count, set_queued};
 use crate::roster::{ReadyLeg, Roster};
 use std::alloc::{AllocError, Global};
 use std::collections::HashMap;
@@ -41,7 +41,7 @@ impl LegTable {
         ensures table { IsTable self.new.legs.entries self.new.rosters.entries self.new.tick }
         ensures legs { SameLegs self.old.legs.entries self.new.legs.entries }
         ensures tick { self.new.tick ≡ self.old.tick }
-        ensures room { OnOk result (HasRoom (roster_in self.new.rosters.entries chan)) }
+        ensures room { OnOk result (RosterHasRoom (roster_in self.new.rosters.entries chan)) }
         ensures spare { OnOk result (1 ≤ spare self.new.legs) }
     {
         self.legs.reserve(1)?;
@@ -59,14 +59,14 @@ impl LegTable {
         requires table { IsTable self.old.legs.entries self.old.rosters.entries self.old.tick }
         requires tick { self.old.tick ≤ tick }
         requires new { leg_in self.old.legs.entries name ≡ None }
-        requires room { HasRoom (roster_in self.old.rosters.entries chan) }
+        requires room { RosterHasRoom (roster_in self.old.rosters.entries chan) }
         requires spare { 1 ≤ spare self.old.legs }
         ensures table { IsTable self.new.legs.entries self.new.rosters.entries self.new.tick }
         ensures leg { Changes self.old.legs.entries self.new.legs.entries name None (Some (record { chan = chan; count = record { value = 0; tick = tick }; has_cells = false })) }
         ensures tick { self.new.tick ≡ tick }
     {
         self.tick = tick;
-        let leg = Leg {
+        let leg = CountedLeg {
             chan,
             count: Count { value: 0, tick },
             has_cells: false,

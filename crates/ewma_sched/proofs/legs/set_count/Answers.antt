@@ -1,5 +1,5 @@
 use Rattle.std.proofs.Common.{Some, sym}
-use Rattle.ewma_sched.specs.declared.legs.Leg.{Leg}
+use Rattle.ewma_sched.specs.declared.legs.CountedLeg.{CountedLeg}
 use Rattle.ewma_sched.specs.Tables.{Changes}
 use Rattle.ewma_sched.proofs.Cases.{match_some}
 use Rattle.ewma_sched.proofs.Maps.{written}
@@ -9,7 +9,7 @@ pub returns-in-Some : goal.returns-in-Some
 returns-in-Some c =
     let legs = c.args.legs.now.entries in
     let leg = c.in-Some.leg.now in
-    let counted : Leg = record leg { count = c.args.count } in
+    let counted : CountedLeg = record leg { count = c.args.count } in
     match_some _
     (λ x. Changes legs (c.get_mut.follows.lender counted).entries c.args.name (Some x) (Some (record x { count = c.args.count })))
     _ leg (sym c.in-Some.ensures.value)

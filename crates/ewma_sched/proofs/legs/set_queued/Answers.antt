@@ -1,5 +1,5 @@
 use Rattle.std.proofs.Common.{sym}
-use Rattle.ewma_sched.specs.declared.legs.Leg.{Leg}
+use Rattle.ewma_sched.specs.declared.legs.CountedLeg.{CountedLeg}
 use Rattle.ewma_sched.proofs.Maps.{written, written_same}
 use Rattle.ewma_sched.proofs.legs.set_queued.Goals as goal
 
@@ -11,5 +11,5 @@ returns-then-leg-some-clause-none c =
 pub returns-clause-some : goal.returns-clause-some
 returns-clause-some c =
     let leg = c.in_ok-leg.leg.now in
-    let noted : Leg = record leg { has_cells = c.args.some } in
+    let noted : CountedLeg = record leg { has_cells = c.args.some } in
     written c.args.legs.now.entries _ c.args.name leg noted (sym c.in_ok-leg.ensures.value) (c.get_mut.follows.holds noted).0

@@ -17,18 +17,18 @@ returns-in_err-reserve-clause-err c =
 pub put_in-requires-clause-tick : goal.put_in-requires-clause-tick
 put_in-requires-clause-tick c =
     let t = c.self.inside.table in
-    omega (arith, c.requires, tick_of t.legs.entries t.tick _ c.self.view_is, c.in_ok-reserve.ensures.tick, c.take_out-before.ensures.tick)
+    omega (arith, c.requires, tick_of t.legs.entries t.tick _ c.self.view_is, c.in_ok-reserve.ensures.tick, c.take_out-old_chan.ensures.tick)
 
 pub put_in-requires-clause-new : goal.put_in-requires-clause-new
 put_in-requires-clause-new c =
-    gone_itself c.reserve.new.self.legs.entries c.take_out-before.new.self.legs.entries (c.args.circ.0, c.args.leg)
-    c.take_out-before.ensures.leg
+    gone_itself c.reserve.new.self.legs.entries c.take_out-old_chan.new.self.legs.entries (c.args.circ.0, c.args.leg)
+    c.take_out-old_chan.ensures.leg
 
 pub put_in-requires-clause-room : goal.put_in-requires-clause-room
-put_in-requires-clause-room c = c.take_out-before.ensures.room c.args.chan.0 c.in_ok-reserve.ensures.room
+put_in-requires-clause-room c = c.take_out-old_chan.ensures.room c.args.chan.0 c.in_ok-reserve.ensures.room
 
 pub put_in-requires-clause-spare : goal.put_in-requires-clause-spare
-put_in-requires-clause-spare c = omega (arith, c.in_ok-reserve.ensures.spare, c.take_out-before.ensures.spare)
+put_in-requires-clause-spare c = omega (arith, c.in_ok-reserve.ensures.spare, c.take_out-old_chan.ensures.spare)
 
 pub returns-in-Some-clause-ok : goal.returns-in-Some-clause-ok
 returns-in-Some-clause-ok c =
@@ -37,8 +37,8 @@ returns-in-Some-clause-ok c =
     let last = c.put_in.new.self in
     let le : t.tick ≤ c.args.tick = omega (arith, c.requires, tick_of t.legs.entries t.tick _ c.self.view_is) in
     let joins =
-    joined_view t.legs.entries c.reserve.new.self.legs.entries c.take_out-before.new.self.legs.entries last.legs.entries
-    t.tick c.args.tick c.args.chan.0 leg le c.self.invariant.ticks c.in_ok-reserve.ensures.legs c.take_out-before.ensures.leg
+    joined_view t.legs.entries c.reserve.new.self.legs.entries c.take_out-old_chan.new.self.legs.entries last.legs.entries
+    t.tick c.args.tick c.args.chan.0 leg le c.self.invariant.ticks c.in_ok-reserve.ensures.legs c.take_out-old_chan.ensures.leg
     c.put_in.ensures.leg in
     states_same last.legs.entries c.drop_if_empty.new.self.legs.entries c.args.tick c.drop_if_empty.new.self.tick
     (ap (λ m. m.entries) c.drop_if_empty.ensures.legs) (c.drop_if_empty.ensures.tick ∙ c.put_in.ensures.tick)
@@ -51,8 +51,8 @@ returns-in_default-clause-ok c =
     let last = c.put_in.new.self in
     let le : t.tick ≤ c.args.tick = omega (arith, c.requires, tick_of t.legs.entries t.tick _ c.self.view_is) in
     let joins =
-    joined_view t.legs.entries c.reserve.new.self.legs.entries c.take_out-before.new.self.legs.entries last.legs.entries
-    t.tick c.args.tick c.args.chan.0 leg le c.self.invariant.ticks c.in_ok-reserve.ensures.legs c.take_out-before.ensures.leg
+    joined_view t.legs.entries c.reserve.new.self.legs.entries c.take_out-old_chan.new.self.legs.entries last.legs.entries
+    t.tick c.args.tick c.args.chan.0 leg le c.self.invariant.ticks c.in_ok-reserve.ensures.legs c.take_out-old_chan.ensures.leg
     c.put_in.ensures.leg in
     ap (states last.legs.entries) c.put_in.ensures.tick
     ∙ subst (λ v. states last.legs.entries c.args.tick ≡ with_leg (at_tick v c.args.tick) leg (new_leg c.args.chan.0)) c.self.view_is joins

@@ -1,7 +1,7 @@
 use Rattle.std.proofs.Common.{◌+◌, sym, refl, arith, subst, false, IsOk}
 use Rattle.ewma_sched.specs.declared.roster.Roster.{Roster}
-use Rattle.ewma_sched.specs.declared.legs.Leg.{Leg}
-use Rattle.ewma_sched.specs.Tables.{HasRoom}
+use Rattle.ewma_sched.specs.declared.legs.CountedLeg.{CountedLeg}
+use Rattle.ewma_sched.specs.Tables.{RosterHasRoom}
 use Rattle.ewma_sched.proofs.Maps.{inserted}
 use Rattle.ewma_sched.proofs.TableRosters.{roster_written}
 use Rattle.ewma_sched.proofs.Membership.{joined_table, put_moves, on_ok}
@@ -10,16 +10,16 @@ use Rattle.ewma_sched.proofs.table.LegTable.put_in.Goals as goal
 pub overflow_add-roster : goal.overflow_add-roster
 overflow_add-roster c =
     let roster = c.in-Some.roster.now in
-    let room = subst HasRoom (sym c.in-Some.ensures.value) c.requires.room in
+    let room = subst RosterHasRoom (sym c.in-Some.ensures.value) c.requires.room in
     omega (arith, room, roster.ready_queue.small.0)
 
 pub unreachable-requires : goal.unreachable-requires
-unreachable-requires c = subst HasRoom (sym c.in_default.ensures.value) c.requires.room
+unreachable-requires c = subst RosterHasRoom (sym c.in_default.ensures.value) c.requires.room
 
 pub returns-clause-table : goal.returns-clause-table
 returns-clause-table c =
     let s = c.args.self.now in
-    let leg : Leg = record { chan = c.args.chan; count = record { value = 0; tick = c.args.tick }; has_cells = false } in
+    let leg : CountedLeg = record { chan = c.args.chan; count = record { value = 0; tick = c.args.tick }; has_cells = false } in
     let e = c.insert.ensures in
     let fine : IsOk c.insert.result = e.succeeds (omega (arith, c.requires.spare)) in
     let change = inserted s.legs.entries c.insert.new.self.entries c.args.name leg c.requires.new
@@ -36,7 +36,7 @@ returns-clause-table c =
 pub returns-clause-leg : goal.returns-clause-leg
 returns-clause-leg c =
     let s = c.args.self.now in
-    let leg : Leg = record { chan = c.args.chan; count = record { value = 0; tick = c.args.tick }; has_cells = false } in
+    let leg : CountedLeg = record { chan = c.args.chan; count = record { value = 0; tick = c.args.tick }; has_cells = false } in
     let e = c.insert.ensures in
     let fine : IsOk c.insert.result = e.succeeds (omega (arith, c.requires.spare)) in
     inserted s.legs.entries c.insert.new.self.entries c.args.name leg c.requires.new
