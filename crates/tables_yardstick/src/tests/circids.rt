@@ -67,9 +67,9 @@ fn ten_thousand_calls_agree_with_a_list(rt: HostRuntime) -> Result<(), Fail> {
         let id = below(&mut words, 40) as u32;
         let circ = CircNo(below(&mut words, 512));
         let leg = round % 3;
-        let found = table.find(ChanNo(chan), id);
-        assert_eq!(rt; found, plain.find(chan, id));
-        match found {
+        let found_leg = table.find(ChanNo(chan), id);
+        assert_eq!(rt; found_leg, plain.find(chan, id));
+        match found_leg {
             None => {
                 table.insert(ChanNo(chan), id, circ, leg)?;
                 plain.entries.push(Entry {

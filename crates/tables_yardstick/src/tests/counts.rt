@@ -28,7 +28,7 @@ fn agree(
     plain: &mut PlainCounts,
     words: &mut SplitMix64,
     tick: u64,
-    served: &mut u32,
+    served_count: &mut u32,
 ) -> Result<bool, AllocError>
     requires { sched.old.tick ≤ tick }
     ensures { OnOk result (sched.new.tick ≤ tick) }
@@ -56,7 +56,7 @@ fn agree(
                 return Ok(false);
             }
             if next.is_some() {
-                *served = served.saturating_add(1);
+                *served_count = served_count.saturating_add(1);
             }
         }
     }
@@ -81,14 +81,14 @@ fn ten_thousand_calls_agree_with_a_walk(rt: HostRuntime) -> Result<(), Fail> {
     let mut plain = PlainCounts::new(rt.alloc());
     let mut words = SplitMix64::seed_from_u64(15);
     let mut tick = 0u64;
-    let mut served = 0u32;
+    let mut served_count = 0u32;
     for call in 0..10_000u32 {
         tick = next_tick(&mut words, tick);
         assert!(rt;
-            agree(&mut sched, &mut plain, &mut words, tick, &mut served)?,
+            agree(&mut sched, &mut plain, &mut words, tick, &mut served_count)?,
             "at call {call}"
         );
     }
-    assert!(rt; served > 1_000, "{served} legs were served");
+    assert!(rt; served_count > 1_000, "{served_count} legs were served");
     Ok(())
 }

@@ -3,17 +3,17 @@
 use std::alloc::{AllocError, Global};
 
 #[derive(Clone, Copy)]
-struct Leg {
+struct PlainLeg {
     chan: u64,
     circ: u64,
     number: u32,
     count: u64,
-    queued: bool,
+    has_cells: bool,
 }
 
 #[derive(Drop)]
 pub struct PlainCounts {
-    legs: Vec<Leg>,
+    legs: Vec<PlainLeg>,
     tick: u64,
 }
 
@@ -28,12 +28,12 @@ impl PlainCounts {
     pub fn join(&mut self, chan: u64, circ: u64, number: u32, tick: u64) -> Result<(), AllocError> {
         self.go_on(tick);
         self.leave(circ, number);
-        self.legs.push(Leg {
+        self.legs.push(PlainLeg {
             chan,
             circ,
             number,
             count: 0,
-            queued: false,
+            has_cells: false,
         })?;
         Ok(())
     }
@@ -46,7 +46,7 @@ impl PlainCounts {
     pub fn queued(&mut self, circ: u64, number: u32, some: bool) {
         for leg in self.legs.iter_mut() {
             if leg.circ == circ && leg.number == number {
-                leg.queued = some;
+                leg.has_cells = some;
             }
         }
     }
@@ -55,11 +55,11 @@ impl PlainCounts {
         self.go_on(tick);
         let mut first: Option<(u64, u64, u32)> = None;
         for leg in &self.legs {
-            if leg.chan != chan || !leg.queued {
+            if leg.chan != chan || !leg.has_cells {
                 continue;
             }
             let rank = (leg.count, leg.circ, leg.number);
-            if first.is_none_or(|least| rank < least) {
+            if first.is_none_or(|least_rank| rank < least_rank) {
                 first = Some(rank);
             }
         }
@@ -76,7 +76,7 @@ impl PlainCounts {
         for leg in &self.legs {
             if leg.circ == circ && leg.number == number {
                 let mut count = leg.count;
-                for _each in self.tick..tick {
+                for _tick in self.tick..tick {
                     count /= 2;
                 }
                 return Some(count);
@@ -86,7 +86,7 @@ impl PlainCounts {
     }
 
     fn go_on(&mut self, tick: u64) {
-        for _each in self.tick..tick {
+        for _tick in self.tick..tick {
             for leg in self.legs.iter_mut() {
                 leg.count /= 2;
             }

@@ -5,7 +5,7 @@ use std::alloc::{AllocError, Global};
 
 /// A cell of the list, by the number that it carries.
 #[derive(Clone, Copy)]
-struct Queued {
+struct LegCell {
     circ: u64,
     leg: u32,
     number: u32,
@@ -13,7 +13,7 @@ struct Queued {
 
 /// A DESTROY of the list.
 #[derive(Clone, Copy)]
-struct Put {
+struct ChannelDestroy {
     chan: u64,
     destroy: Destroy,
 }
@@ -21,8 +21,8 @@ struct Put {
 /// All that waits in two lists, which each call goes through.
 #[derive(Drop)]
 pub struct PlainLanes {
-    cells: Vec<Queued>,
-    destroys: Vec<Put>,
+    cells: Vec<LegCell>,
+    destroys: Vec<ChannelDestroy>,
 }
 
 impl PlainLanes {
@@ -34,17 +34,17 @@ impl PlainLanes {
     }
 
     pub fn push(&mut self, circ: u64, leg: u32, number: u32) -> Result<(), AllocError> {
-        self.cells.push(Queued { circ, leg, number })?;
+        self.cells.push(LegCell { circ, leg, number })?;
         Ok(())
     }
 
     pub fn pop(&mut self, circ: u64, leg: u32) -> Option<u32> {
         for place in 0..self.cells.len() {
             if place < self.cells.len() {
-                let queued = self.cells[place];
-                if queued.circ == circ && queued.leg == leg {
+                let cell = self.cells[place];
+                if cell.circ == circ && cell.leg == leg {
                     self.cells.remove(place);
-                    return Some(queued.number);
+                    return Some(cell.number);
                 }
             }
         }
@@ -53,26 +53,26 @@ impl PlainLanes {
 
     pub fn drop_leg(&mut self, circ: u64, leg: u32) {
         self.cells
-            .retain(|queued| queued.circ != circ || queued.leg != leg);
+            .retain(|cell| cell.circ != circ || cell.leg != leg);
     }
 
     pub fn destroy(&mut self, chan: u64, destroy: Destroy) -> Result<(), AllocError> {
-        self.destroys.push(Put { chan, destroy })?;
+        self.destroys.push(ChannelDestroy { chan, destroy })?;
         Ok(())
     }
 
     pub fn undestroy(&mut self, chan: u64, id: u32) {
         self.destroys
-            .retain(|put| put.chan != chan || put.destroy.id != id);
+            .retain(|entry| entry.chan != chan || entry.destroy.id != id);
     }
 
     pub fn pop_destroy(&mut self, chan: u64) -> Option<Destroy> {
         for place in 0..self.destroys.len() {
             if place < self.destroys.len() {
-                let put = self.destroys[place];
-                if put.chan == chan {
+                let entry = self.destroys[place];
+                if entry.chan == chan {
                     self.destroys.remove(place);
-                    return Some(put.destroy);
+                    return Some(entry.destroy);
                 }
             }
         }
@@ -80,6 +80,6 @@ impl PlainLanes {
     }
 
     pub fn drop_lane(&mut self, chan: u64) {
-        self.destroys.retain(|put| put.chan != chan);
+        self.destroys.retain(|entry| entry.chan != chan);
     }
 }

@@ -62,8 +62,8 @@ fn call_for_leg(
             plain.push(circ, leg, number)?;
         }
         _ => {
-            let popped = lanes.pop(CircNo(circ), leg).map(|cell| cell.circ);
-            assert_eq!(rt; popped, plain.pop(circ, leg));
+            let popped_number = lanes.pop(CircNo(circ), leg).map(|cell| cell.circ);
+            assert_eq!(rt; popped_number, plain.pop(circ, leg));
         }
     }
     Ok(())
@@ -94,9 +94,9 @@ fn call_for_channel(
             plain.destroy(chan, Destroy { id, reason })?;
         }
         _ => {
-            let popped = lanes.pop_destroy(ChanNo(chan));
-            let destroy = popped.as_ref().and_then(|cell| destroy_of(cell));
-            assert_eq!(rt; popped.is_some(), destroy.is_some());
+            let popped_cell = lanes.pop_destroy(ChanNo(chan));
+            let destroy = popped_cell.as_ref().and_then(|cell| destroy_of(cell));
+            assert_eq!(rt; popped_cell.is_some(), destroy.is_some());
             assert_eq!(rt; destroy, plain.pop_destroy(chan));
         }
     }
