@@ -1,14 +1,14 @@
 //! Times `find` of a CircID.
 
 use crate::clock::now;
-use crate::legs::Leg;
+use crate::legs::BenchLeg;
 use circuit_table::CircuitTable;
 use std::alloc::{AllocError, Global};
 use std::io;
 use std::time::CpuClock;
 
 /// A table in which each leg has its CircID.
-fn table_of(alloc: Global, legs: &[Leg]) -> Result<CircuitTable, AllocError> {
+fn table_of(alloc: Global, legs: &[BenchLeg]) -> Result<CircuitTable, AllocError> {
     let mut table = CircuitTable::new(alloc);
     for leg in legs {
         if table.find(leg.chan, leg.id).is_none() {
@@ -22,28 +22,28 @@ fn table_of(alloc: Global, legs: &[Leg]) -> Result<CircuitTable, AllocError> {
 fn time_finds(
     rt: &impl CpuClock,
     table: &CircuitTable,
-    legs: &[Leg],
+    legs: &[BenchLeg],
     rounds: u32,
 ) -> io::Result<u64> {
     let start = now(rt)?;
-    let mut found = 0u64;
+    let mut found_circuits = 0u64;
     for _round in 0..rounds {
         for leg in legs {
             if let Some((circ, _)) = table.find(leg.chan, leg.id) {
-                found ^= circ.0;
+                found_circuits ^= circ.0;
             }
         }
     }
     let end = now(rt)?;
     // What was found is used, so that it has to be looked for.
-    Ok(end.saturating_sub(start).max(found & 1))
+    Ok(end.saturating_sub(start).max(found_circuits & 1))
 }
 
 /// The nanoseconds of rounds of `find` in a table of these legs.
 pub(crate) fn find_time(
     rt: &impl CpuClock,
     alloc: Global,
-    legs: &[Leg],
+    legs: &[BenchLeg],
     rounds: u32,
 ) -> io::Result<u64> {
     let table = table_of(alloc, legs)?;

@@ -36,11 +36,11 @@ fn run(rt: &(impl CpuClock + Print), alloc: Global, request: Request) -> io::Res
     let rounds = request.rounds;
     let find = find_time(rt, alloc, legs.as_slice(), rounds)?;
     let pick = pick_time(rt, alloc, legs.as_slice(), rounds)?;
-    let queued = queue_time(rt, alloc, legs.as_slice(), rounds)?;
+    let queue_times = queue_time(rt, alloc, legs.as_slice(), rounds)?;
     print_time(rt, "find", find, rounds)?;
     print_time(rt, "pick", pick, rounds)?;
-    print_time(rt, "push", queued.push, rounds)?;
-    print_time(rt, "pop", queued.pop, rounds)
+    print_time(rt, "push", queue_times.push, rounds)?;
+    print_time(rt, "pop", queue_times.pop, rounds)
 }
 
 fn main(rt: HostRuntime) -> io::Result<ExitCode> {

@@ -3,14 +3,14 @@
 ghost use Rattle.std.specs.Prelude.{◌≡◌, IfOk};
 
 use crate::clock::now;
-use crate::legs::Leg;
+use crate::legs::BenchLeg;
 use ewma_sched::Sched;
 use std::alloc::{AllocError, Global};
 use std::io;
 use std::time::CpuClock;
 
 /// The legs, each with something queued.
-fn busy_legs(alloc: Global, legs: &[Leg]) -> Result<Sched, AllocError>
+fn busy_legs(alloc: Global, legs: &[BenchLeg]) -> Result<Sched, AllocError>
     ensures { IfOk result (λ s. s.tick ≡ 0) }
 {
     let mut sched = Sched::new(alloc);
@@ -24,28 +24,33 @@ fn busy_legs(alloc: Global, legs: &[Leg]) -> Result<Sched, AllocError>
 }
 
 /// The nanoseconds that so many rounds of `pick` take. The tick rises with each round.
-fn time_picks(rt: &impl CpuClock, sched: &mut Sched, legs: &[Leg], rounds: u32) -> io::Result<u64>
+fn time_picks(
+    rt: &impl CpuClock,
+    sched: &mut Sched,
+    legs: &[BenchLeg],
+    rounds: u32,
+) -> io::Result<u64>
     requires { sched.old.tick ≡ 0 }
 {
     let start = now(rt)?;
-    let mut picked = 0u64;
+    let mut picked_circuits = 0u64;
     for round in 0..rounds {
         for leg in legs {
             if let Some((circ, _)) = sched.pick(leg.chan, u64::from(round)) {
-                picked ^= circ.0;
+                picked_circuits ^= circ.0;
             }
         }
     }
     let end = now(rt)?;
     // What was picked is used, so that it has to be looked for.
-    Ok(end.saturating_sub(start).max(picked & 1))
+    Ok(end.saturating_sub(start).max(picked_circuits & 1))
 }
 
 /// The nanoseconds of rounds of `pick` among these legs.
 pub(crate) fn pick_time(
     rt: &impl CpuClock,
     alloc: Global,
-    legs: &[Leg],
+    legs: &[BenchLeg],
     rounds: u32,
 ) -> io::Result<u64> {
     let mut sched = busy_legs(alloc, legs)?;

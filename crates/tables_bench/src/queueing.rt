@@ -3,7 +3,7 @@
 ghost use Rattle.cell_codec.specs.Cells.{IsWellFormed};
 
 use crate::clock::now;
-use crate::legs::Leg;
+use crate::legs::BenchLeg;
 use cell_codec::command::RELAY;
 use cell_codec::{Body, Cell};
 use out_lanes::Lanes;
@@ -13,7 +13,7 @@ use std::time::CpuClock;
 
 /// Nanoseconds of `push` and of `pop`.
 #[derive(Clone, Copy)]
-pub(crate) struct Queued {
+pub(crate) struct QueueTimes {
     pub push: u64,
     pub pop: u64,
 }
@@ -32,12 +32,12 @@ fn relay_cell(circ: u32) -> Cell
 fn time_queues(
     rt: &impl CpuClock,
     lanes: &mut Lanes,
-    legs: &[Leg],
+    legs: &[BenchLeg],
     rounds: u32,
-) -> io::Result<Queued> {
-    let mut times = Queued { push: 0, pop: 0 };
+) -> io::Result<QueueTimes> {
+    let mut times = QueueTimes { push: 0, pop: 0 };
     // What leaves is moved out, as to a link.
-    let mut last = relay_cell(0);
+    let mut last_cell = relay_cell(0);
     for _round in 0..rounds {
         let start = now(rt)?;
         for leg in legs {
@@ -46,14 +46,14 @@ fn time_queues(
         let middle = now(rt)?;
         for leg in legs {
             if let Some(cell) = lanes.pop(leg.circ, 0) {
-                last = cell;
+                last_cell = cell;
             }
         }
         let end = now(rt)?;
         times.push = times.push.saturating_add(middle.saturating_sub(start));
         times.pop = times.pop.saturating_add(end.saturating_sub(middle));
     }
-    times.pop = times.pop.max(u64::from(last.circ & 1));
+    times.pop = times.pop.max(u64::from(last_cell.circ & 1));
     Ok(times)
 }
 
@@ -61,9 +61,9 @@ fn time_queues(
 pub(crate) fn queue_time(
     rt: &impl CpuClock,
     alloc: Global,
-    legs: &[Leg],
+    legs: &[BenchLeg],
     rounds: u32,
-) -> io::Result<Queued> {
+) -> io::Result<QueueTimes> {
     let mut lanes = Lanes::new(alloc);
     time_queues(rt, &mut lanes, legs, rounds)
 }
