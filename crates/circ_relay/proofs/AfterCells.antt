@@ -31,15 +31,15 @@ unfolding open_effects
 effects_of_cell rules log command body m unclosed got = rw (unclosed, got) refl
 
 -- All parts, where the next hop stays.
-pub cell_parts : (c d : Circuit) (rules : Rules) (log : Log) (command : ℕ) (body : List ℕ) (given : Effects) → HasParts c log
-    → effects_after rules log (Forward command body) ≡ given → given.dial ≡ None → given.cut ≡ false → place_of given.edge ≡ None
-    → d.next_hop ≡ c.next_hop → d.create2 ≡ c.create2 → d.addresses ≡ c.addresses → IsPackagedNext d.packager log given.back
+pub cell_parts : (c d : Circuit) (rules : Rules) (log : Log) (command : ℕ) (body : List ℕ) (outcome : Effects) → HasParts c log
+    → effects_after rules log (Forward command body) ≡ outcome → outcome.dial ≡ None → outcome.cut ≡ false → place_of outcome.edge ≡ None
+    → d.next_hop ≡ c.next_hop → d.create2 ≡ c.create2 → d.addresses ≡ c.addresses → IsPackagedNext d.packager log outcome.back
     → HasCountsOf d.windows (window_of (after_cell rules log command body))
     → ArePlaces d.places (after_cell rules log command body) → KeepsStreams c.places d.places
     → HasParts d (after_cell rules log command body)
-cell_parts c d rules log command body given has same undialled uncut placeless hop create2 addresses packages windows places keeps =
+cell_parts c d rules log command body outcome has same undialled uncut placeless hop create2 addresses packages windows places keeps =
     let entry : Entry = entry_after rules log (Forward command body) in
     let aside : IsAside entry =
-    aside_by entry given refl refl same (record { dial = undialled; cut = uncut; makes_none = placeless }) in
+    aside_by entry outcome refl refl same (record { dial = undialled; cut = uncut; makes_none = placeless }) in
     parts_after c d entry log has aside hop create2 addresses
-    (packager_after d.packager entry log given.back refl (ap (λ (e : Effects). e.back) same) packages) windows places keeps
+    (packager_after d.packager entry log outcome.back refl (ap (λ (e : Effects). e.back) same) packages) windows places keeps

@@ -83,10 +83,10 @@ pub placeless_data_does : (log : Log) (m : Message) → m.place ≡ None → dat
 placeless_data_does log m none = ap (λ p. data_at log m p) none
 
 -- The circuit's window behind a DATA that is accepted.
-data_window : (message : CodeMessage) (rules : Rules) (log : Log) (command : ℕ) (body : List ℕ) (m : Message) (given : Effects) → IsBrought message log command body m
-    → m.command ≡ data_command → effects_after rules log (Forward command body) ≡ given → given.close ≡ None
+data_window : (message : CodeMessage) (rules : Rules) (log : Log) (command : ℕ) (body : List ℕ) (m : Message) (outcome : Effects) → IsBrought message log command body m
+    → m.command ≡ data_command → effects_after rules log (Forward command body) ≡ outcome → outcome.close ≡ None
     → window_of (after_cell rules log command body) ≡ after_accepting (window_of log)
-data_window message rules log command body m given b is does_ open_ =
+data_window message rules log command body m outcome b is does_ open_ =
     data_message_moves rules log (Forward command body) m (found message log command body m b) is (ap (λ (e : Effects). e.close) does_ ∙ open_)
 
 pub placeless_data_parts : (c d : Circuit) (message : CodeMessage) (rules : Rules) (log : Log) (command : ℕ) (body : List ℕ) (m : Message)
@@ -133,11 +133,11 @@ accepted_does s log m place h answer are holds named by is =
     ap (λ p. data_at log m p) named
     ∙ ap (λ (b : Bool). if b then closing 1 else record (acknowledging log m) { edge = Some (Carry (record { stream = m.stream; serial = h.serial }) m.payload) }) test
 
-pub carried_effects : (given : CodeEffects) (acknowledged : Effects) (key : CodeKey) (bytes : Roomy ℕ) (stream : ℕ) (payload : List ℕ) (m : Message) (serial : ℕ)
-    → effects_of given ≡ acknowledged
+pub carried_effects : (outcome : CodeEffects) (acknowledged : Effects) (key : CodeKey) (bytes : Roomy ℕ) (stream : ℕ) (payload : List ℕ) (m : Message) (serial : ℕ)
+    → effects_of outcome ≡ acknowledged
     → key_of key ≡ record { stream = stream; serial = serial } → bytes.items ≡ payload → stream ≡ m.stream → payload ≡ m.payload
-    → effects_of (record given { edge = Some (CodeCarry key bytes) }) ≡ record acknowledged { edge = Some (Carry (record { stream = m.stream; serial = serial }) m.payload) }
-carried_effects given acknowledged key bytes stream payload m serial is named carried_ streamed paid =
+    → effects_of (record outcome { edge = Some (CodeCarry key bytes) }) ≡ record acknowledged { edge = Some (Carry (record { stream = m.stream; serial = serial }) m.payload) }
+carried_effects outcome acknowledged key bytes stream payload m serial is named carried_ streamed paid =
     ap (λ (e : Effects). record e { edge = Some (Carry (key_of key) bytes.items) }) is
     ∙ rw (named, carried_, streamed, paid) refl
 

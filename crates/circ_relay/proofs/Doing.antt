@@ -21,7 +21,7 @@ use Rattle.circuit_model.proofs.Reading.{read-effects}
 use Rattle.stream_edge.specs.declared.held.Held.{Held}
 use Rattle.stream_edge.specs.PlacesState.{PlacesState, held_at}
 use Rattle.stream_edge.specs.Streams.{is_free, may_accept, may_credit, may_drain, sendme_due}
-use Rattle.circ_relay.specs.PlacesOfLog.{key_of, IsOfLog, ArePlaces, AreNamed}
+use Rattle.circ_relay.specs.PlacesOfLog.{stream_key, IsOfLog, ArePlaces, AreNamed}
 use Rattle.circ_relay.proofs.Lists.{got_before, got_last, same_some}
 use Rattle.circ_relay.proofs.Begun.{places_more}
 use Rattle.circ_relay.proofs.Messages.{data-does, data-overrun, end-does}
@@ -43,7 +43,7 @@ unfolding open_effects
 connected_does state rules log place h p are live at found =
     let is : IsOfLog log h = are.streams place h at in
     let same : is.place ≡ p = same_some is.place p (sym is.found ∙ found) in
-    let key : p.key ≡ key_of h = ap (λ (q : Place). q.key) (sym same) ∙ is.key in
+    let key : p.key ≡ stream_key h = ap (λ (q : Place). q.key) (sym same) ∙ is.key in
     when_open (is_closed log) (connected_effects log (place_at log h.serial)) live
     ∙ ap (connected_effects log) found
     ∙ ap (λ (k : StreamKey). packaging log connected_command k.stream (connected_payload p.to.ip time_to_live)) key
@@ -61,7 +61,7 @@ bytes_do state rules log place h bytes are live at =
 pub ended_does : (state : PlacesState) (rules : Rules) (log : Log) (place : ℕ) (h : Held) (reason : ℕ) → ArePlaces state log
     → is_closed log ≡ false →
     held_at state place ≡ Some h
-    → effects_after rules log (Ended h.serial reason) ≡ record (ending log h.stream reason) { edge = Some (Close (key_of h) reason) }
+    → effects_after rules log (Ended h.serial reason) ≡ record (ending log h.stream reason) { edge = Some (Close (stream_key h) reason) }
 unfolding open_effects
 ended_does state rules log place h reason are live at =
     let is : IsOfLog log h = are.streams place h at in

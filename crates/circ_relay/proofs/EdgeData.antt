@@ -171,7 +171,7 @@ data_goes_on c new rules h key place stream bytes body at rest next gives limits
       before = is;
       aside = report_is_aside rules (log rules h) (Data key.serial bytes) x report;
       early = refl;
-      close = ap (λ (given : Effects). given.close) gives;
+      close = ap (λ (outcome : Effects). outcome.close) gives;
       at = at.held;
       same = same_held stream (one_packaged stream) refl;
       rest = rest;

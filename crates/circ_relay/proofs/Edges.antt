@@ -25,7 +25,7 @@ use Rattle.circuit_model.specs.Words.{entry_after, log, effects}
 use Rattle.circ_relay.specs.declared.circuit.Circuit.{Circuit}
 use Rattle.circ_relay.specs.CircuitOfLog.{IsAt, IsCircuit}
 use Rattle.circ_relay.specs.Packaging.{PackagerState, IsPackager, IsPackagedNext}
-use Rattle.circ_relay.specs.PlacesOfLog.{ArePlaces, IsOfLog, key_of as held_key, is_edge_report}
+use Rattle.circ_relay.specs.PlacesOfLog.{ArePlaces, IsOfLog, stream_key, is_edge_report}
 use Rattle.circ_relay.specs.Values.{address_of, key_of}
 use Rattle.circ_relay.specs.WindowOfLog.{window_of}
 use Rattle.circ_relay.proofs.Doing.{connected_does, ended_does}
@@ -52,7 +52,7 @@ at_found c key place found stream at first = record {
 }
 
 -- Its name in the log is that of its key.
-name_is : (c : Circuit) (key : StreamKey) (place : ℕ) (stream : Held) → IsAt c key place stream → held_key stream ≡ key_of key
+name_is : (c : Circuit) (key : StreamKey) (place : ℕ) (stream : Held) → IsAt c key place stream → stream_key stream ≡ key_of key
 name_is c key place stream at =
     let names = named c key place stream at in
     (λ i. record { stream = names.0 i; serial = names.1 i })
@@ -97,7 +97,7 @@ pub packager_after_report : (state : PackagerState) (rules : Rules) (log : Log) 
     → IsPackagedNext state log x.back → IsPackager state (entry_after rules log e ∷ log)
 packager_after_report state rules log e x is next =
     packager_after state (entry_after rules log e) log x.back (keys_of_report e is.report)
-    (packaged_by_report e (effects_after rules log e).back is.report ∙ ap (λ (given : Effects). given.back) is.gives) next
+    (packaged_by_report e (effects_after rules log e).back is.report ∙ ap (λ (outcome : Effects). outcome.back) is.gives) next
 
 -- A report that leaves the window.
 
@@ -119,7 +119,7 @@ report_goes_on c new rules h e x place g holds r =
       before = r.before;
       aside = report_is_aside rules (log rules h) e x r.is;
       early = early_of_report e r.is.report;
-      close = ap (λ (given : Effects). given.close) r.is.gives ∙ r.is.close;
+      close = ap (λ (outcome : Effects). outcome.close) r.is.gives ∙ r.is.close;
       at = r.at;
       same = r.same;
       rest =

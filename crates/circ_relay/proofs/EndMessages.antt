@@ -25,12 +25,12 @@ use Rattle.circ_relay.proofs.AfterCells.{cell_parts}
 use Rattle.circ_relay.proofs.Longer.{none_packaged, KeepsStreams, changed_streams, same_held, stands_still}
 use Rattle.circ_relay.proofs.MessageKinds.{found, does, of_end, other_window, unmoved_parts, placeless_places}
 
-pub ended_effects : (given : CodeEffects) (key : CodeKey) (reason : ℕ) (stream : ℕ) (payload : List ℕ) (m : Message) (h : Held)
-    → effects_of given ≡ no_effects
+pub ended_effects : (outcome : CodeEffects) (key : CodeKey) (reason : ℕ) (stream : ℕ) (payload : List ℕ) (m : Message) (h : Held)
+    → effects_of outcome ≡ no_effects
     → key_of key ≡ record { stream = stream; serial = h.serial } → reason ≡ end_reason payload → stream ≡ m.stream
     → payload ≡ m.payload → m.place ≡ Some h.serial
-    → effects_of (record given { edge = Some (CodeClose key reason) }) ≡ end_effects m
-ended_effects given key reason stream payload m h none named reasoned streamed paid place =
+    → effects_of (record outcome { edge = Some (CodeClose key reason) }) ≡ end_effects m
+ended_effects outcome key reason stream payload m h none named reasoned streamed paid place =
     ap (λ (e : Effects). record e { edge = Some (Close (key_of key) reason) }) none
     ∙ rw (named, reasoned, streamed, paid, place) refl
 

@@ -160,8 +160,8 @@ pub aside_by : (entry : Entry) (x : Effects) → keys_in entry.event ≡ None
 aside_by entry x opens_none hop gives plain = record {
   keys = opens_none;
   hop = hop ∙ ap hop_by_effects gives ∙ hop_of_plain x plain;
-  dial = ap (λ (given : Effects). given.dial) gives ∙ plain.dial;
-  makes_none = ap (λ (given : Effects). place_of given.edge) gives ∙ plain.makes_none;
+  dial = ap (λ (outcome : Effects). outcome.dial) gives ∙ plain.dial;
+  makes_none = ap (λ (outcome : Effects). place_of outcome.edge) gives ∙ plain.makes_none;
 }
 
 -- All parts, where the next hop stays.
@@ -210,7 +210,7 @@ step_goes_on c new rules h e place g holds step =
     let changed : new.places ≡ with_held c.places place holds = ap (λ (x : Circuit). x.places) step.rest in
     record {
       unclosed = unclosed_after entry (log rules h) step.close step.before.unclosed;
-      early = ap (λ (x : Circuit). x.early) step.rest ∙ step.before.early ∙ sym (early_after entry (log rules h) step.early);
+      early = ap (λ (x : Circuit). x.early_cells) step.rest ∙ step.before.early ∙ sym (early_after entry (log rules h) step.early);
       made = made_after c new rules step.before.made step.limits;
       parts = parts_after c new entry (log rules h) step.before.parts step.aside
           (ap (λ (x : Circuit). x.next_hop) step.rest) (ap (λ (x : Circuit). x.create2) step.rest) (ap (λ (x : Circuit). x.addresses) step.rest)

@@ -76,7 +76,7 @@ opened_parts c rules reply keys pad hop packs stands free =
     }
 
 pub opened : (c : Circuit) (rules : Rules) (reply : CircuitCell) (keys : LayerKeys) (pad : Option (List ℕ)) → c.next_hop ≡ Absent
-    → c.early ≡ 0 → IsMadeBy c rules →
+    → c.early_cells ≡ 0 → IsMadeBy c rules →
     ((log : Log) → own log ≡ [] → (born_keys log).db ≡ keys.db → born_pad log ≡ pad → IsPackager c.packager log)
     → HasCountsOf c.windows fresh_window →
     c.places ≡ record { streams = replicate 32 None; next_serial = 0; calls = 0 } → IsCircuit c rules (Born reply keys pad ∷ [])

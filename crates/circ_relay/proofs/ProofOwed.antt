@@ -52,22 +52,22 @@ owed_by log false is =
 
 -- A SENDME is right where the answer to it is Good.
 
-good_by_same : (same : Bool) (given owed : List ℕ) → same ≡ is_good (if same then Good else Wrong owed given)
-good_by_same true given owed = refl
-good_by_same false given owed = refl
+good_by_same : (same : Bool) (sent_proof owed_proof : List ℕ) → same ≡ is_good (if same then Good else Wrong owed_proof sent_proof)
+good_by_same true sent_proof owed_proof = refl
+good_by_same false sent_proof owed_proof = refl
 
 -- Where the proof of a SENDME counts, and where it doesn't.
 abbrev judged_by : Bool → Option (List ℕ) → Option (List ℕ) → ProofAnswer
-judged_by unproved owed given = if unproved then judged owed None else judged_if_read owed given
+judged_by unproved owed_proof sent_proof = if unproved then judged owed_proof None else judged_if_read owed_proof sent_proof
 
-good_by : (unproved whole : Bool) (owed : List ℕ) (given : Option (List ℕ)) →
-    (whole && (unproved || proves owed given)) ≡ is_good (judged_by unproved (if whole then Some owed else None) given)
-good_by true true owed given = refl
-good_by true false owed given = refl
-good_by false true owed None = refl
-good_by false false owed None = refl
-good_by false true owed (Some given) = good_by_same (bytes_eq given owed) given owed
-good_by false false owed (Some given) = refl
+good_by : (unproved whole : Bool) (owed_proof : List ℕ) (sent_proof : Option (List ℕ)) →
+    (whole && (unproved || proves owed_proof sent_proof)) ≡ is_good (judged_by unproved (if whole then Some owed_proof else None) sent_proof)
+good_by true true owed_proof sent_proof = refl
+good_by true false owed_proof sent_proof = refl
+good_by false true owed_proof None = refl
+good_by false false owed_proof None = refl
+good_by false true owed_proof (Some sent_proof) = good_by_same (bytes_eq sent_proof owed_proof) sent_proof owed_proof
+good_by false false owed_proof (Some sent_proof) = refl
 
 pub right_by_answer : (rules : Rules) (log : Log) (payload : List ℕ)
     → is_right_sendme rules log payload ≡ is_good (answer_to rules.least (window_of log) payload)
@@ -76,11 +76,11 @@ right_by_answer rules log payload =
     let whole : Bool = nat_le (100 * (good_sendmes log + 1)) (circuit_packaged log) in
     let unproved : Bool = needs_no_proof rules.least payload in
     good_by unproved whole (proof_with_number log (good_sendmes log + 1)) (sendme_proof payload)
-    ∙ ap (λ owed. is_good (judged_by unproved owed (sendme_proof payload))) (sym (owed_by log whole refl))
+    ∙ ap (λ owed_proof. is_good (judged_by unproved owed_proof (sendme_proof payload))) (sym (owed_by log whole refl))
 
 good_is : (answer : ProofAnswer) → is_good answer ≡ true → answer ≡ Good
 good_is Good is = refl
-good_is (Wrong expected given) is = cc
+good_is (Wrong expected sent_proof) is = cc
 good_is NoneOwed is = cc
 good_is BadForm is = cc
 

@@ -16,7 +16,7 @@ use Rattle.stream_edge.specs.declared.held.Phase.TheVariants.{Reaching as held_r
 use Rattle.stream_edge.specs.PlacesState.{PlacesState, held_at}
 use Rattle.stream_edge.specs.Streams.{is_live_as, is_live_phase as is_live_held, pack_grant, accept_grant, may_package, may_accept, may_credit, sendme_due}
 use Rattle.stream_edge.proofs.Holding.{taken_within}
-use Rattle.circ_relay.specs.PlacesOfLog.{phase_of, key_of, IsOfLog, IsHeld, ArePlaces, AreNamed}
+use Rattle.circ_relay.specs.PlacesOfLog.{model_phase, stream_key, IsOfLog, IsHeld, ArePlaces, AreNamed}
 use Rattle.circ_relay.proofs.Lists.{same_some, nothing_found, IsAmong, found_among}
 use Rattle.circ_relay.proofs.Changing.{same_by}
 use Rattle.circ_relay.proofs.Named.{both, true-false, equal_true, and-left}
@@ -73,7 +73,7 @@ sendme_due_by_the_log state log place h are at =
 
 -- Live streams.
 
-same-liveness : (p : HeldPhase) → is_live_phase (phase_of p) ≡ is_live_held p
+same-liveness : (p : HeldPhase) → is_live_phase (model_phase p) ≡ is_live_held p
 same-liveness held_reaching = refl
 same-liveness held_joined = refl
 same-liveness held_ending = refl
@@ -91,7 +91,7 @@ not_ending-live held_ending other = absurd (other refl)
 abbrev is_live_at : Log → ℕ → Place → Bool
 is_live_at log id p = (p.key.stream == id) && is_live log p
 
-place-live : (log : Log) (h : Held) → IsOfLog log h → (p : Place) → p.key ≡ key_of h → is_live log p ≡ is_live_held h.phase
+place-live : (log : Log) (h : Held) → IsOfLog log h → (p : Place) → p.key ≡ stream_key h → is_live log p ≡ is_live_held h.phase
 place-live log h is p key =
     ap (λ (k : StreamKey). is_live_phase (phase log k.serial)) key ∙ ap is_live_phase is.phase ∙ same-liveness h.phase
 
@@ -200,7 +200,7 @@ none-by state log id are named none (Some q) found =
     let kept : IsHeld state among.place = are.whole among.place (slice_get_within (places log) among.place q among.got) lasts in
     let is : IsOfLog log kept.stream = are.streams kept.place kept.stream kept.holds in
     let same : is.place ≡ q = same_some is.place q (sym is.found ∙ ap (λ n. place_at log n) kept.named ∙ among.got) in
-    let key : q.key ≡ key_of kept.stream = ap (λ (p : Place). p.key) (sym same) ∙ is.key in
+    let key : q.key ≡ stream_key kept.stream = ap (λ (p : Place). p.key) (sym same) ∙ is.key in
     let stream : kept.stream.stream ≡ id = sym (ap (λ (k : StreamKey). k.stream) key) ∙ q_stream in
     let live : is_live_held kept.stream.phase ≡ true = sym (place-live log kept.stream is q key) ∙ q_live in
     absurd (none-passes state id kept.place kept.stream none kept.holds stream live)

@@ -21,7 +21,7 @@ use Rattle.circuit_model.specs.declared.message.Received.TheVariants.{Unrecognis
 use Rattle.circuit_model.specs.Effects.{passed_on, open_effects, effects_after}
 use Rattle.circ_relay.specs.declared.circuit.Circuit.{Circuit}
 use Rattle.circ_relay.specs.declared.message.Message.{Message as CodeMessage}
-use Rattle.circ_relay.specs.BroughtMessages.{IsBrought, IsCell, after_cell}
+use Rattle.circ_relay.specs.BroughtMessages.{IsBrought, IsNextCell, after_cell}
 use Rattle.circ_relay.specs.Packaging.{IsPackagedNext}
 use Rattle.circ_relay.specs.OpenedBodies.{is_data_for_live}
 use Rattle.circ_relay.specs.CircuitOfLog.{HasParts, IsCircuit, IsMadeBy}
@@ -51,7 +51,7 @@ plain_received : (log : Log) (command : ℕ) (plain : List ℕ) (recognised fits
 plain_received log command plain recognised fits few is long = rw (few, is, long) refl
 
 cell_received : (opened : Opened) (log : Log) (command : ℕ) (body : List ℕ) (recognised fits : Bool)
-    → IsCell opened log command body
+    → IsNextCell opened log command body
     → recognises log opened.body ≡ recognised → fits_length opened.body ≡ fits
     → received log command body ≡ (if recognised then (if fits then ForUs (message_in_body log command opened.body) else TooLong) else Unrecognised opened.body)
 unfolding received
@@ -61,28 +61,28 @@ cell_received opened log command body recognised fits cell is long =
 
 -- Whether it is recognised.
 
-recognised_by : (b : Bool) (digest given : List ℕ) → Some given ≡ (if b then Some digest else None)
-    → (b ≡ true) × (given ≡ digest)
-recognised_by true digest given is = (refl, same_some given digest is)
-recognised_by false digest given is = cc
+recognised_by : (b : Bool) (digest recognised_digest : List ℕ) → Some recognised_digest ≡ (if b then Some digest else None)
+    → (b ≡ true) × (recognised_digest ≡ digest)
+recognised_by true digest recognised_digest is = (refl, same_some recognised_digest digest is)
+recognised_by false digest recognised_digest is = cc
 
 unrecognised_by : (b : Bool) (digest : List ℕ) → ◌≡◌ {A = Option (List ℕ)} None (if b then Some digest else None) → b ≡ false
 unrecognised_by true digest is = cc
 unrecognised_by false digest is = refl
 
-opens_as : (opened : Opened) (log : Log) (command : ℕ) (body : List ℕ) → IsCell opened log command body
+opens_as : (opened : Opened) (log : Log) (command : ℕ) (body : List ℕ) → IsNextCell opened log command body
     → opened.recognised ≡ (if recognises log opened.body then Some (digest_with log opened.body) else None)
 opens_as opened log command body cell =
     cell.opens.recognised
     ∙ ap (λ (p : List ℕ). if recognises log p then Some (digest_with log p) else None) (sym cell.opens.plain)
 
-is_recognised : (opened : Opened) (log : Log) (command : ℕ) (body digest : List ℕ) → IsCell opened log command body
+is_recognised : (opened : Opened) (log : Log) (command : ℕ) (body digest : List ℕ) → IsNextCell opened log command body
     → opened.recognised ≡ Some digest
     → (recognises log opened.body ≡ true) × (digest ≡ digest_with log opened.body)
 is_recognised opened log command body digest cell is =
     recognised_by (recognises log opened.body) (digest_with log opened.body) digest (sym is ∙ opens_as opened log command body cell)
 
-is_unrecognised : (opened : Opened) (log : Log) (command : ℕ) (body : List ℕ) → IsCell opened log command body
+is_unrecognised : (opened : Opened) (log : Log) (command : ℕ) (body : List ℕ) → IsNextCell opened log command body
     → opened.recognised ≡ None → recognises log opened.body ≡ false
 is_unrecognised opened log command body cell is =
     unrecognised_by (recognises log opened.body) (digest_with log opened.body) (sym is ∙ opens_as opened log command body cell)
@@ -104,13 +104,13 @@ no_message : (log : Log) (command : ℕ) (body plain : List ℕ) → received lo
     → message_at log (Forward command body) ≡ None
 no_message log command body plain is = none_by (is_closed log) (received log command body) plain is
 
-unrecognised_received : (opened : Opened) (log : Log) (command : ℕ) (body : List ℕ) → IsCell opened log command body
+unrecognised_received : (opened : Opened) (log : Log) (command : ℕ) (body : List ℕ) → IsNextCell opened log command body
     → opened.recognised ≡ None
     → received log command body ≡ Unrecognised opened.body
 unrecognised_received opened log command body cell is =
     cell_received opened log command body false (fits_length opened.body) cell (is_unrecognised opened log command body cell is) refl
 
-pub passed_on_does : (opened : Opened) (rules : Rules) (log : Log) (command : ℕ) (body : List ℕ) → IsCell opened log command body
+pub passed_on_does : (opened : Opened) (rules : Rules) (log : Log) (command : ℕ) (body : List ℕ) → IsNextCell opened log command body
     → opened.recognised ≡ None
     → effects_after rules log (Forward command body) ≡ passed_on (next_hop log) (record { command = command; body = opened.body })
 passed_on_does opened rules log command body cell is =
@@ -130,7 +130,7 @@ passed_on_quiet Dialling cell = record { back = refl; edge = refl; dial = refl; 
 passed_on_quiet Waiting cell = record { back = refl; edge = refl; dial = refl; cut = refl }
 
 pub passed_on_parts : (c : Circuit) (opened : Opened) (rules : Rules) (log : Log) (command : ℕ) (body : List ℕ)
-    → IsCell opened log command body → HasParts c log → opened.recognised ≡ None
+    → IsNextCell opened log command body → HasParts c log → opened.recognised ≡ None
     → HasParts c (after_cell rules log command body)
 passed_on_parts c opened rules log command body cell has is =
     let none : message_at log (Forward command body) ≡ None =
@@ -151,17 +151,17 @@ unfolding open_effects
 long_does rules log command body unclosed is = rw (unclosed, is) refl
 
 pub too_long_does : (opened : Opened) (rules : Rules) (log : Log) (command : ℕ) (body digest : List ℕ)
-    → IsCell opened log command body → opened.recognised ≡ Some digest
+    → IsNextCell opened log command body → opened.recognised ≡ Some digest
     → fits_length opened.body ≡ false → effects_after rules log (Forward command body) ≡ closing 1
 too_long_does opened rules log command body digest cell is long =
     long_does rules log command body cell.unclosed (cell_received opened log command body true false cell (is_recognised opened log command body digest cell is).0 long)
 
 -- A message.
 pub brought : (opened : Opened) (message : CodeMessage) (log : Log) (command : ℕ) (body digest : List ℕ)
-    → IsCell opened log command body → opened.recognised ≡ Some digest
+    → IsNextCell opened log command body → opened.recognised ≡ Some digest
     → fits_length opened.body ≡ true → message.command ≡ (relay_head opened.body).command
     → message.stream ≡ (relay_head opened.body).stream
-    → message.payload.now ≡ payload_of opened.body → message.digest ≡ digest → message.early ≡ (command == relay_early_command)
+    → message.payload.now ≡ payload_of opened.body → message.digest ≡ digest → message.is_early ≡ (command == relay_early_command)
     → IsBrought message log command body (message_in_body log command opened.body)
 brought opened message log command body digest cell is fits commanded streamed paid digested early =
     let recognised = is_recognised opened log command body digest cell is in
@@ -197,16 +197,16 @@ data_for_live opened state command stream digest is fits commanded streamed data
 
 -- The count of RELAY_EARLY cells.
 
-pub early_apart : (c d : Circuit) (early : ℕ) (log : Log) → d ≡ record c { early = early } → HasParts c log → HasParts d log
+pub early_apart : (c d : Circuit) (early : ℕ) (log : Log) → d ≡ record c { early_cells = early } → HasParts c log → HasParts d log
 early_apart c d early log is has =
     subst (λ e. HasParts e log) (sym is)
     (record { hop = has.hop; asked = has.asked; packager = has.packager; windows = has.windows; places = has.places; addresses = has.addresses })
 
-pub made_early : (c d : Circuit) (early : ℕ) (rules : Rules) → d ≡ record c { early = early } → IsMadeBy c rules
+pub made_early : (c d : Circuit) (early : ℕ) (rules : Rules) → d ≡ record c { early_cells = early } → IsMadeBy c rules
     → IsMadeBy d rules
 made_early c d early rules is made = subst (λ e. IsMadeBy e rules) (sym is) (record { start = made.start; least = made.least })
 
-pub limits_early : (c d e : Circuit) (early : ℕ) → d ≡ record c { early = early } → KeepsLimits d.windows e.windows
+pub limits_early : (c d e : Circuit) (early : ℕ) → d ≡ record c { early_cells = early } → KeepsLimits d.windows e.windows
     → KeepsLimits c.windows e.windows
 limits_early c d e early is keeps = record {
   start = keeps.start ∙ ap (λ (x : Circuit). x.windows.start) is;
@@ -214,25 +214,25 @@ limits_early c d e early is keeps = record {
 }
 
 pub too_many : (c : Circuit) (rules : Rules) (h : List Event) (command : ℕ) (counts : Bool) → IsCircuit c rules h
-    → counts ≡ not ((command == relay_early_command) && nat_le relay_early_limit c.early)
+    → counts ≡ not ((command == relay_early_command) && nat_le relay_early_limit c.early_cells)
     → ((command == relay_early_command) && nat_le relay_early_limit (early_count (log rules h))) ≡ not counts
 too_many c rules h command counts is by =
     ap (λ n. (command == relay_early_command) && nat_le relay_early_limit n) (sym is.early)
-    ∙ not-not ((command == relay_early_command) && nat_le relay_early_limit c.early) ∙ ap not (sym by)
+    ∙ not-not ((command == relay_early_command) && nat_le relay_early_limit c.early_cells) ∙ ap not (sym by)
 
 pub cell_of_history : (c : Circuit) (opened : Opened) (rules : Rules) (h : List Event) (command : ℕ) (body : List ℕ) (counts : Bool)
     → IsCircuit c rules h → IsOpened opened (log rules h) body
-    → counts ≡ not ((command == relay_early_command) && nat_le relay_early_limit c.early) → counts ≡ true
-    → IsCell opened (log rules h) command body
+    → counts ≡ not ((command == relay_early_command) && nat_le relay_early_limit c.early_cells) → counts ≡ true
+    → IsNextCell opened (log rules h) command body
 cell_of_history c opened rules h command body counts is opens by so =
     record { unclosed = is.unclosed; named = history_is_named rules h; opens = opens; few = too_many c rules h command counts is by ∙ ap not so }
 
-pub circuit_after : (c d : Circuit) (rules : Rules) (h : List Event) (command : ℕ) (body : List ℕ) (given : Effects)
-    → IsCircuit c rules h → effects_after rules (log rules h) (Forward command body) ≡ given
-    → given.close ≡ None → d.early ≡ (if command == relay_early_command then c.early + 1 else c.early)
+pub circuit_after : (c d : Circuit) (rules : Rules) (h : List Event) (command : ℕ) (body : List ℕ) (outcome : Effects)
+    → IsCircuit c rules h → effects_after rules (log rules h) (Forward command body) ≡ outcome
+    → outcome.close ≡ None → d.early_cells ≡ (if command == relay_early_command then c.early_cells + 1 else c.early_cells)
     → KeepsLimits c.windows d.windows → HasParts d (after_cell rules (log rules h) command body)
     → IsCircuit d rules (Forward command body ∷ h)
-circuit_after c d rules h command body given is does none early limits has = record {
+circuit_after c d rules h command body outcome is does none early limits has = record {
   unclosed =
       unclosed_after (entry_after rules (log rules h) (Forward command body)) (log rules h) (ap (λ (e : Effects). e.close) does ∙ none) is.unclosed;
   early = early ∙ ap (λ n. if command == relay_early_command then n + 1 else n) is.early;

@@ -16,7 +16,7 @@ use Rattle.stream_edge.specs.declared.held.Phase.{Phase as HeldPhase}
 use Rattle.stream_edge.specs.declared.held.Phase.TheVariants.{Reaching as held_reaching, Joined as held_joined, Ending as held_ending}
 use Rattle.stream_edge.specs.PlacesState.{PlacesState, held_at, with_held}
 use Rattle.stream_edge.specs.Streams.{after_packaging, after_draining, may_drain}
-use Rattle.circ_relay.specs.PlacesOfLog.{phase_of, IsOfLog, IsSilent, ArePlaces}
+use Rattle.circ_relay.specs.PlacesOfLog.{model_phase, IsOfLog, IsSilent, ArePlaces}
 use Rattle.circ_relay.proofs.Telling.{place_stays, phase_stays, phase_freed, phase_joined, packaged_stays, packaged_more, sendmes_stay, carried_stays, drained_stays, drained_more, no_message_credits}
 use Rattle.circ_relay.proofs.Changing.{stream_changes, stream_goes}
 
@@ -26,7 +26,7 @@ equal_to n = grind arith
 pub unequal : (n m : ℕ) → m ≢ n → (n == m) ≡ false
 unequal n m apart = grind arith
 
-pub held_lasts : (p : HeldPhase) → phase_of p ≢ Free
+pub held_lasts : (p : HeldPhase) → model_phase p ≢ Free
 held_lasts held_reaching is = cc
 held_lasts held_joined is = cc
 held_lasts held_ending is = cc
@@ -81,7 +81,7 @@ connected_joins state rules log place h are at reaching =
       found = place_stays entry log h.serial makes_none ∙ is.found;
       key = is.key;
       phase =
-          phase_joined entry log h.serial (is.phase ∙ ap phase_of reaching) (equal_to h.serial) refl (ap (closes_place h.serial) none);
+          phase_joined entry log h.serial (is.phase ∙ ap model_phase reaching) (equal_to h.serial) refl (ap (closes_place h.serial) none);
       packed = is.packed ∙ sym (packaged_stays entry log h.serial refl);
       credits = is.credits ∙ sym (sendmes_stay entry log h.serial (quiet h.serial));
       accepted = is.accepted ∙ sym (carried_stays entry log h.serial (ap (carries h.serial) none));

@@ -64,7 +64,7 @@ good_sendme_does rules log m payload answer zero_ paid judged is =
 
 not_good : (answer : ProofAnswer) → (answer ≡ Good → ⊥) → is_good answer ≡ false
 not_good Good other = absurd (other refl)
-not_good (Wrong expected given) other = refl
+not_good (Wrong expected sent_proof) other = refl
 not_good NoneOwed other = refl
 not_good BadForm other = refl
 
@@ -74,8 +74,8 @@ pub other_sendme_does : (rules : Rules) (log : Log) (m : Message) (payload : Lis
 other_sendme_does rules log m payload answer zero_ paid judged other =
     circuit_sendme_does rules log m payload answer false zero_ paid judged (not_good answer other)
 
-pub unclosing : (given : CodeEffects) → effects_of given ≡ closing 1 → given.close ≡ None → ⊥
-unclosing given is none = (let never : ◌≡◌ {A = Option ℕ} None (Some 1) = sym none ∙ ap (λ (e : Effects). e.close) is in cc)
+pub unclosing : (outcome : CodeEffects) → effects_of outcome ≡ closing 1 → outcome.close ≡ None → ⊥
+unclosing outcome is none = (let never : ◌≡◌ {A = Option ℕ} None (Some 1) = sym none ∙ ap (λ (e : Effects). e.close) is in cc)
 
 pub zero_place : (message : CodeMessage) (log : Log) (command : ℕ) (body : List ℕ) (m : Message)
     → IsBrought message log command body m → message.stream ≡ 0 → m.place ≡ None

@@ -14,7 +14,7 @@ use Rattle.stream_edge.specs.declared.held.Held.{Held}
 use Rattle.stream_edge.specs.PlacesState.{PlacesState, held_at}
 use Rattle.stream_edge.specs.Streams.{is_free}
 use Rattle.stream_edge.proofs.Holding.{taken_within}
-use Rattle.circ_relay.specs.PlacesOfLog.{phase_of, taken_count, IsOfLog, IsHeld, ArePlaces, AreNamed}
+use Rattle.circ_relay.specs.PlacesOfLog.{model_phase, taken_count, IsOfLog, IsHeld, ArePlaces, AreNamed}
 use Rattle.circ_relay.proofs.Lists.{same_some}
 use Rattle.circ_relay.proofs.Reports.{held_lasts}
 use Rattle.circ_relay.proofs.NamedNumbers.{AreApart, IsNamed, length-named, same-count}
@@ -82,7 +82,7 @@ held-taken state log are n is =
       element = of_log.place;
       got = of_log.found;
       names = if-true (is_taken_phase (phase log of_log.place.key.serial)) of_log.place.key.serial
-          (ap (λ m. is_taken_phase (phase log m)) serial ∙ ap is_taken_phase of_log.phase ∙ not_free-taken (phase_of named.stream.phase) (held_lasts named.stream.phase))
+          (ap (λ m. is_taken_phase (phase log m)) serial ∙ ap is_taken_phase of_log.phase ∙ not_free-taken (model_phase named.stream.phase) (held_lasts named.stream.phase))
           ∙ ap Some (serial ∙ named.serial);
     }
 

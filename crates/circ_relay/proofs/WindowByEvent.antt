@@ -107,7 +107,7 @@ sendme_by rules log event m false found is other =
 answered : (answer : ProofAnswer) (w : CircuitWindow)
     → (if is_good answer then after_acknowledging w else w) ≡ window_after answer w
 answered Good w = refl
-answered (Wrong expected given) w = refl
+answered (Wrong expected sent_proof) w = refl
 answered NoneOwed w = refl
 answered BadForm w = refl
 

@@ -21,10 +21,10 @@ pub record IsBrought (message : Message) (log : Log) (command : ℕ) (body : Lis
   pub stream : message.stream ≡ m.stream
   pub payload : message.payload.now ≡ m.payload
   pub digest : message.digest ≡ m.digest
-  pub early : message.early ≡ m.early
+  pub early : message.is_early ≡ m.early
 
 -- An opened relay cell is the next behind the log, which has not closed, and is no RELAY_EARLY too many.
-pub record IsCell (opened : Opened) (log : Log) (command : ℕ) (body : List ℕ) : Type 0 where
+pub record IsNextCell (opened : Opened) (log : Log) (command : ℕ) (body : List ℕ) : Type 0 where
   pub unclosed : is_closed log ≡ false
   pub named : AreNamed log
   pub opens : IsOpened opened log body

@@ -52,7 +52,7 @@ pub record IsMadeBy (c : Circuit) (rules : Rules) : Type 0 where
 -- The circuit has not closed after this history, the newest event first, and its state is that of its log.
 pub record IsCircuit (c : Circuit) (rules : Rules) (history : List Event) : Type 0 where
   pub unclosed : is_closed (log rules history) ≡ false
-  pub early : c.early ≡ early_count (log rules history)
+  pub early : c.early_cells ≡ early_count (log rules history)
   pub made : IsMadeBy c rules
   pub parts : HasParts c (log rules history)
 

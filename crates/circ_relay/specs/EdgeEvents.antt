@@ -24,7 +24,7 @@ MayReport c key (Data bytes) = MaySend c key × (1 ≤ length bytes.items) × (l
 MayReport c key (Ended reason) = IsLiveStream c key
 
 -- The stream that an order is for.
-abbrev pub stream_of : EdgeOrder → StreamKey
-stream_of (Reach key to) = key
-stream_of (Carry key bytes) = key
-stream_of (Close key reason) = key
+abbrev pub stream_of_order : EdgeOrder → StreamKey
+stream_of_order (Reach key to) = key
+stream_of_order (Carry key bytes) = key
+stream_of_order (Close key reason) = key

@@ -26,8 +26,8 @@ pub record IsSameCircuit (log longer : Log) : Type 0 where
 -- After this log a body is packaged, or none is: where it is the next of the bodies that the circuit
 -- packaged, the packager is that of the longer log.
 abbrev pub IsPackagedNext : PackagerState → Log → Option (List ℕ) → Type 0
-IsPackagedNext state log back =
-    (longer : Log) → own longer ≡ pushed (own log) back → IsSameCircuit log longer → IsPackager state longer
+IsPackagedNext state log next_body =
+    (longer : Log) → own longer ≡ pushed (own log) next_body → IsSameCircuit log longer → IsPackager state longer
 
 -- This body is packaged, whatever the log.
 abbrev pub Packages : PackagerState → PackagerState → List ℕ → Type 0

@@ -17,22 +17,22 @@ use Rattle.circuit_model.specs.Windows.{stream_packaged, stream_sendmes, carried
 use Rattle.circuit_model.specs.Words.{entry_after}
 
 -- The phase of a stream that is held. A place that was freed holds none.
-abbrev pub phase_of : HeldPhase → Phase
-phase_of held_reaching = Reaching
-phase_of held_joined = Joined
-phase_of held_ending = Ending
+abbrev pub model_phase : HeldPhase → Phase
+model_phase held_reaching = Reaching
+model_phase held_joined = Joined
+model_phase held_ending = Ending
 
 -- The name of a stream that is held.
-abbrev pub key_of : Held → StreamKey
-key_of h = record { stream = h.stream; serial = h.serial }
+abbrev pub stream_key : Held → StreamKey
+stream_key h = record { stream = h.stream; serial = h.serial }
 
 -- The stream is the one of a place of the log that isn't freed: it has the place's StreamID and serial,
 -- and its phase and its counts are those of the place.
 pub record IsOfLog (log : Log) (h : Held) : Type 0 where
   pub place : Place
   pub found : place_at log h.serial ≡ Some place
-  pub key : place.key ≡ key_of h
-  pub phase : phase log h.serial ≡ phase_of h.phase
+  pub key : place.key ≡ stream_key h
+  pub phase : phase log h.serial ≡ model_phase h.phase
   pub packed : h.packed ≡ stream_packaged log h.serial
   pub credits : h.credits ≡ stream_sendmes log h.serial
   pub accepted : h.accepted ≡ carried log h.serial

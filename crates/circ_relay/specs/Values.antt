@@ -31,13 +31,13 @@ order_of (Reach key to) = reach (key_of key) (address_of to)
 order_of (Carry key bytes) = carry (key_of key) bytes.items
 order_of (Close key reason) = close_order (key_of key) reason
 
-abbrev pub cell_of : ℕ × List ℕ → CircuitCell
-cell_of c = record { command = c.0; body = c.1 }
+abbrev pub circuit_cell_of : ℕ × List ℕ → CircuitCell
+circuit_cell_of c = record { command = c.0; body = c.1 }
 
 abbrev pub effects_of : Effects → ModelEffects
 effects_of e = record {
   back = e.back;
-  forth = option_map cell_of e.forth;
+  forth = option_map circuit_cell_of e.forth;
   edge = option_map order_of e.edge;
   dial = option_map address_of e.dial;
   cut = e.cut;

@@ -13,8 +13,8 @@ abbrev pub up_to_each_data : List (List ℕ) → List (List (List ℕ))
 up_to_each_data [] = []
 up_to_each_data (body ∷ bodies) =
     if is_data_body (Some body)
-    then (body ∷ []) ∷ map (λ begun. body ∷ begun) (up_to_each_data bodies)
-    else map (λ begun. body ∷ begun) (up_to_each_data bodies)
+    then (body ∷ []) ∷ map (λ first_bodies. body ∷ first_bodies) (up_to_each_data bodies)
+    else map (λ first_bodies. body ∷ first_bodies) (up_to_each_data bodies)
 
 -- The backward running digest after each DATA that this relay packaged, oldest first.
 abbrev pub data_digests : Log → List (List ℕ)

@@ -10,7 +10,7 @@ ghost use Rattle.circuit_model.specs.Words.{effects, log};
 ghost use Rattle.stream_edge.specs.Streams.{is_live_as, is_free};
 ghost use Rattle.tr_io.specs.declared.names.Dest.{Dest};
 ghost use Rattle.circ_relay.specs.BroughtMessages.{IsBrought, after_cell};
-ghost use Rattle.circ_relay.specs.EdgeEvents.{stream_of};
+ghost use Rattle.circ_relay.specs.EdgeEvents.{stream_of_order};
 ghost use Rattle.circ_relay.specs.CircuitOfLog.{HasCalls, HasParts};
 ghost use Rattle.circ_relay.specs.PlacesOfLog.{AreNamed, ArePlaces};
 ghost use Rattle.circ_relay.specs.Values.{effects_of, rules_of, address_of};
@@ -38,9 +38,9 @@ impl Circuit {
         ensures windows { self.new.windows ≡ self.old.windows }
         ensures places { self.new.places.calls ≤ self.old.places.calls + 1 }
         ensures packaged { self.new.packager.padding.count ≤ self.old.packager.padding.count + 1 }
-        ensures early { self.new.early ≡ self.old.early }
+        ensures early { self.new.early_cells ≡ self.old.early_cells }
         ensures number { self.new.number ≡ self.old.number }
-        ensures order { IfSome result.edge (λ order. (stream_of order).circ ≡ self.old.number) }
+        ensures order { IfSome result.edge (λ order. (stream_of_order order).circ ≡ self.old.number) }
     {
         if !self.may_begin(message.stream) {
             return Effects::closing(destroy_reason::PROTOCOL);
@@ -89,9 +89,9 @@ impl Circuit {
         ensures windows { self.new.windows ≡ self.old.windows }
         ensures places { self.new.places.calls ≤ self.old.places.calls + 1 }
         ensures packager { self.new.packager ≡ self.old.packager }
-        ensures early { self.new.early ≡ self.old.early }
+        ensures early { self.new.early_cells ≡ self.old.early_cells }
         ensures number { self.new.number ≡ self.old.number }
-        ensures order { IfSome result.edge (λ order. (stream_of order).circ ≡ self.old.number) }
+        ensures order { IfSome result.edge (λ order. (stream_of_order order).circ ≡ self.old.number) }
     {
         let Some(place) = self.places.take_place(message.stream) else {
             unreachable!()

@@ -32,7 +32,7 @@ pub type CellPayload = [u8; 509];
 pub struct Circuit {
     pub(crate) number: CircNo,
     /// The RELAY_EARLY cells that came, at most 8 of them.
-    pub(crate) early: u8,
+    pub(crate) early_cells: u8,
     pub(crate) next_hop: NextHop,
     /// The payload of CREATE2 that the last accepted EXTEND2 asked for.
     pub(crate) create2: CellPayload,
@@ -54,7 +54,7 @@ impl Circuit {
     {
         Circuit {
             number,
-            early: 0,
+            early_cells: 0,
             next_hop: NextHop::Absent,
             create2: [0; 509],
             packager: Packager::of(&keys.db, pad),
@@ -138,8 +138,8 @@ impl Circuit {
         ensures count { self.new.packager.padding.count ≡ self.old.packager.padding.count + 1 }
         ensures rest { self.new ≡ record self.old { packager = self.new.packager } }
     {
-        let mut packaged = *body;
-        let _digest = self.packager.package(&mut packaged);
-        outcome.back = Some(packaged);
+        let mut packaged_body = *body;
+        let _digest = self.packager.package(&mut packaged_body);
+        outcome.back = Some(packaged_body);
     }
 }

@@ -9,7 +9,7 @@ ghost use Rattle.circuit_model.specs.Rules.{Rules};
 ghost use Rattle.circuit_model.specs.Streams.{time_to_live};
 ghost use Rattle.circuit_model.specs.Words.{effects, log};
 ghost use Rattle.circ_relay.specs.CircuitOfLog.{IsCircuit, HasCalls, HasStream, HasUndrained, IsLiveStream, MaySend};
-ghost use Rattle.circ_relay.specs.EdgeEvents.{MayReport, event_of, stream_of};
+ghost use Rattle.circ_relay.specs.EdgeEvents.{MayReport, event_of, stream_of_order};
 ghost use Rattle.circ_relay.specs.ShutWindows.{shut_window};
 ghost use Rattle.circ_relay.specs.Values.{effects_of};
 ghost use Rattle.stream_edge.specs.Streams.{is_stream};
@@ -36,7 +36,7 @@ impl Circuit {
             effects_of result ≡ effects rules h (event_of key event.now) }
         ensures circuit { (rules : Rules) (h : List Event) → IsCircuit self.old rules h →
             IsCircuit self.new rules (event_of key event.now ∷ h) }
-        ensures order { IfSome result.edge (λ order. stream_of order ≡ key) }
+        ensures order { IfSome result.edge (λ order. stream_of_order order ≡ key) }
         ensures number { self.new.number ≡ self.old.number }
         ensures windows { self.new.windows.calls ≤ self.old.windows.calls + 1 }
         ensures places { self.new.places.calls ≡ self.old.places.calls + 1 }

@@ -20,7 +20,7 @@ ghost use Rattle.circuit_model.specs.Effects.{effects_after};
 ghost use Rattle.stream_edge.specs.PlacesState.{PlacesState, held_at};
 ghost use Rattle.stream_edge.specs.Streams.{is_free, may_accept, may_credit, sendme_due};
 ghost use Rattle.stream_edge.specs.declared.held.Held.{Held};
-ghost use Rattle.circ_relay.specs.PlacesOfLog.{AreNamed, ArePlaces, key_of};
+ghost use Rattle.circ_relay.specs.PlacesOfLog.{AreNamed, ArePlaces, stream_key};
 
 /// What the edge reports of a held stream.
 pub fn reports_of_a_held_stream()
@@ -34,7 +34,7 @@ pub fn reports_of_a_held_stream()
     ensures ended { (state : PlacesState) (rules : Rules) (log : Log) (place : ℕ) (h : Held) (reason : ℕ) → ArePlaces state log →
         IsFalse (is_closed log) →
         held_at state place ≡ Some h →
-        effects_after rules log (Ended h.serial reason) ≡ record (ending log h.stream reason) { edge = Some (Close (key_of h) reason) } }
+        effects_after rules log (Ended h.serial reason) ≡ record (ending log h.stream reason) { edge = Some (Close (stream_key h) reason) } }
     ensures drained { (state : PlacesState) (rules : Rules) (log : Log) (place : ℕ) (h : Held) (due : Bool) →
         ArePlaces state log → IsFalse (is_closed log) →
         held_at state place ≡ Some h → sendme_due h ≡ Some due →

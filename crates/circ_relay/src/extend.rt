@@ -36,10 +36,10 @@ impl Circuit {
         ensures rest { self.new ≡ record self.old { packager = self.new.packager; next_hop = NextHop.Absent } }
         ensures orderless { result.edge ≡ None }
     {
-        let cut = self.has_next_hop();
+        let had_next_hop = self.has_next_hop();
         self.next_hop = NextHop::Absent;
         Effects {
-            cut,
+            cut: had_next_hop,
             ..self.packaging(&truncated_body(destroy_reason::REQUESTED))
         }
     }
@@ -53,18 +53,18 @@ impl Circuit {
             HasParts self.new (after_cell rules log command body) }
         ensures windows { self.new.windows ≡ self.old.windows }
         ensures places { self.new.places ≡ self.old.places }
-        ensures early { self.new.early ≡ self.old.early }
+        ensures early { self.new.early_cells ≡ self.old.early_cells }
         ensures packager { self.new.packager ≡ self.old.packager }
         ensures orderless { result.edge ≡ None }
         ensures number { self.new.number ≡ self.old.number }
     {
-        if !message.early || self.has_next_hop() {
+        if !message.is_early || self.has_next_hop() {
             return Effects::closing(destroy_reason::PROTOCOL);
         }
-        let Some(asked) = asked(message.payload) else {
+        let Some(extension) = asked(message.payload) else {
             return Effects::closing(destroy_reason::PROTOCOL);
         };
-        let (to, create2) = asked;
+        let (to, create2) = extension;
         self.next_hop = NextHop::Dialling;
         self.create2 = create2;
         Effects {
@@ -84,7 +84,7 @@ impl Circuit {
 // CREATE2 for it.
 fn asked(payload: &[u8]) -> Option<(Dest, CellPayload)>
     requires { length payload.now ≤ 498 }
-    ensures some { IfSome result (λ asked. (request : Extend) × (extend_request payload.now ≡ Some request) × (request.to ≡ Some (address_of asked.0)) × (create2 request ≡ record { command = create2_command; body = asked.1 })) }
+    ensures some { IfSome result (λ extension. (request : Extend) × (extend_request payload.now ≡ Some request) × (request.to ≡ Some (address_of extension.0)) × (create2 request ≡ record { command = create2_command; body = extension.1 })) }
     ensures none { IfNone result (option_and_then (λ (request : Extend). request.to) (extend_request payload.now) ≡ None) }
 {
     let request = read_extend2(payload)?;

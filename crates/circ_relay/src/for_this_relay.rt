@@ -9,9 +9,9 @@ ghost use Rattle.circuit_model.specs.Effects.{effects_after, message_effects};
 ghost use Rattle.circuit_model.specs.Words.{effects, log};
 ghost use Rattle.sendme_windows.specs.WindowsState.{KeepsLimits};
 ghost use Rattle.stream_edge.specs.Streams.{is_live_as};
-ghost use Rattle.circ_relay.specs.BroughtMessages.{IsBrought, IsCell, after_cell};
+ghost use Rattle.circ_relay.specs.BroughtMessages.{IsBrought, IsNextCell, after_cell};
 ghost use Rattle.circ_relay.specs.OpenedBodies.{is_data_for_live};
-ghost use Rattle.circ_relay.specs.EdgeEvents.{stream_of};
+ghost use Rattle.circ_relay.specs.EdgeEvents.{stream_of_order};
 ghost use Rattle.circ_relay.specs.CircuitOfLog.{IsCircuit, IsMadeBy, HasCalls, HasParts};
 ghost use Rattle.circ_relay.specs.OpenedBodies.{IsOpened};
 ghost use Rattle.circ_relay.specs.Values.{effects_of, rules_of};
@@ -52,7 +52,7 @@ impl Circuit {
         ensures packaged { self.new.packager.padding.count ≤ self.old.packager.padding.count + 1 }
         ensures limits { KeepsLimits self.old.windows self.new.windows }
         ensures number { self.new.number ≡ self.old.number }
-        ensures order { IfSome outcome.new.edge (λ order. (stream_of order).circ ≡ self.old.number) }
+        ensures order { IfSome outcome.new.edge (λ order. (stream_of_order order).circ ≡ self.old.number) }
     {
         if !self.counts(command) {
             *outcome = Effects::closing(destroy_reason::PROTOCOL);
@@ -76,19 +76,19 @@ impl Circuit {
         requires empty { room.items ≡ [] }
         requires ample { IsTrue (is_data_for_live opened.now self.old.places) → 498 ≤ room.spare }
         requires blank { effects_of outcome.old ≡ no_effects }
-        ensures effects { (log : Log) (body : List ℕ) → IsCell opened.now log command body →
+        ensures effects { (log : Log) (body : List ℕ) → IsNextCell opened.now log command body →
             IsMadeBy self.old (rules_of rules.now) → HasParts self.old log →
             effects_of outcome.new ≡ effects_after (rules_of rules.now) log (Forward command body) }
-        ensures parts { (log : Log) (body : List ℕ) → IsCell opened.now log command body →
+        ensures parts { (log : Log) (body : List ℕ) → IsNextCell opened.now log command body →
             IsMadeBy self.old (rules_of rules.now) → HasParts self.old log → outcome.new.close ≡ None →
             HasParts self.new (after_cell (rules_of rules.now) log command body) }
         ensures windows { self.new.windows.calls ≤ self.old.windows.calls + 1 }
         ensures places { self.new.places.calls ≤ self.old.places.calls + 1 }
         ensures packaged { self.new.packager.padding.count ≤ self.old.packager.padding.count + 1 }
         ensures limits { KeepsLimits self.old.windows self.new.windows }
-        ensures early { self.new.early ≡ self.old.early }
+        ensures early { self.new.early_cells ≡ self.old.early_cells }
         ensures number { self.new.number ≡ self.old.number }
-        ensures order { IfSome outcome.new.edge (λ order. (stream_of order).circ ≡ self.old.number) }
+        ensures order { IfSome outcome.new.edge (λ order. (stream_of_order order).circ ≡ self.old.number) }
     {
         let Some(head) = read_head(&opened.body) else {
             *outcome = Effects::closing(destroy_reason::PROTOCOL);
@@ -99,7 +99,7 @@ impl Circuit {
             stream: head.stream,
             payload: payload_of(&opened.body),
             digest,
-            early: command == cell_command::RELAY_EARLY,
+            is_early: command == cell_command::RELAY_EARLY,
         };
         self.message(rules, &message, room, outcome);
     }
@@ -120,9 +120,9 @@ impl Circuit {
         ensures places { self.new.places.calls ≤ self.old.places.calls + 1 }
         ensures packaged { self.new.packager.padding.count ≤ self.old.packager.padding.count + 1 }
         ensures limits { KeepsLimits self.old.windows self.new.windows }
-        ensures early { self.new.early ≡ self.old.early }
+        ensures early { self.new.early_cells ≡ self.old.early_cells }
         ensures number { self.new.number ≡ self.old.number }
-        ensures order { IfSome outcome.new.edge (λ order. (stream_of order).circ ≡ self.old.number) }
+        ensures order { IfSome outcome.new.edge (λ order. (stream_of_order order).circ ≡ self.old.number) }
     {
         if message.command == command::DATA {
             self.data(message, room, outcome);
@@ -146,9 +146,9 @@ impl Circuit {
         ensures places { self.new.places.calls ≤ self.old.places.calls + 1 }
         ensures packaged { self.new.packager.padding.count ≤ self.old.packager.padding.count + 1 }
         ensures limits { KeepsLimits self.old.windows self.new.windows }
-        ensures early { self.new.early ≡ self.old.early }
+        ensures early { self.new.early_cells ≡ self.old.early_cells }
         ensures number { self.new.number ≡ self.old.number }
-        ensures order { IfSome result.edge (λ order. (stream_of order).circ ≡ self.old.number) }
+        ensures order { IfSome result.edge (λ order. (stream_of_order order).circ ≡ self.old.number) }
     {
         match message.command {
             command::BEGIN => self.begin(rules, message),

@@ -12,7 +12,7 @@ ghost use Rattle.circuit_model.specs.Received.{relay_early_limit};
 ghost use Rattle.circuit_model.specs.Words.{effects, log};
 ghost use Rattle.sendme_windows.specs.WindowsState.{KeepsLimits};
 ghost use Rattle.circ_relay.specs.OpenedBodies.{is_data_for_live};
-ghost use Rattle.circ_relay.specs.EdgeEvents.{stream_of};
+ghost use Rattle.circ_relay.specs.EdgeEvents.{stream_of_order};
 ghost use Rattle.circ_relay.specs.CircuitOfLog.{IsCircuit, HasCalls, HasParts};
 ghost use Rattle.circ_relay.specs.OpenedBodies.{IsOpened};
 ghost use Rattle.circ_relay.specs.Values.{effects_of, rules_of};
@@ -43,15 +43,15 @@ impl Circuit {
         command: u8,
     ) -> Result<Effects, AllocError>
         requires { HasCalls self.old }
-        ensures effects { IfOk result (λ given. (h : List Event) (body : List ℕ) → IsCircuit self.old (rules_of rules.now) h → IsOpened opened.now (log (rules_of rules.now) h) body → effects_of given ≡ effects (rules_of rules.now) h (Forward command body)) }
-        ensures circuit { IfOk result (λ given. (h : List Event) (body : List ℕ) → IsCircuit self.old (rules_of rules.now) h → IsOpened opened.now (log (rules_of rules.now) h) body → given.close ≡ None → IsCircuit self.new (rules_of rules.now) (Forward command body ∷ h)) }
+        ensures effects { IfOk result (λ outcome. (h : List Event) (body : List ℕ) → IsCircuit self.old (rules_of rules.now) h → IsOpened opened.now (log (rules_of rules.now) h) body → effects_of outcome ≡ effects (rules_of rules.now) h (Forward command body)) }
+        ensures circuit { IfOk result (λ outcome. (h : List Event) (body : List ℕ) → IsCircuit self.old (rules_of rules.now) h → IsOpened opened.now (log (rules_of rules.now) h) body → outcome.close ≡ None → IsCircuit self.new (rules_of rules.now) (Forward command body ∷ h)) }
         ensures windows { self.new.windows.calls ≤ self.old.windows.calls + 1 }
         ensures places { self.new.places.calls ≤ self.old.places.calls + 1 }
         ensures packaged { self.new.packager.padding.count ≤ self.old.packager.padding.count + 1 }
         ensures limits { KeepsLimits self.old.windows self.new.windows }
         ensures err { OnErr result (self.new ≡ self.old) }
         ensures number { self.new.number ≡ self.old.number }
-        ensures order { IfOk result (λ given. IfSome given.edge (λ order. (stream_of order).circ ≡ self.old.number)) }
+        ensures order { IfOk result (λ outcome. IfSome outcome.edge (λ order. (stream_of_order order).circ ≡ self.old.number)) }
         ensures memory { OnErr result (IsTrue (is_data_for_live opened.now self.old.places)) }
     {
         let Some(digest) = opened.recognised else {
@@ -90,7 +90,7 @@ impl Circuit {
         ensures packaged { self.new.packager.padding.count ≤ self.old.packager.padding.count + 1 }
         ensures limits { KeepsLimits self.old.windows self.new.windows }
         ensures number { self.new.number ≡ self.old.number }
-        ensures order { IfSome result.edge (λ order. (stream_of order).circ ≡ self.old.number) }
+        ensures order { IfSome result.edge (λ order. (stream_of_order order).circ ≡ self.old.number) }
     {
         let Some(digest) = opened.recognised else {
             return self.for_next_hop(opened, command);
@@ -122,7 +122,7 @@ impl Circuit {
         ensures circuit { (rules : ModelRules) (h : List Event) (body : List ℕ) → IsCircuit self.old rules h →
             IsOpened opened.now (log rules h) body → result.close ≡ None → IsCircuit self.new rules (Forward command body ∷ h) }
         ensures orderless { result.edge ≡ None }
-        ensures rest { self.new ≡ record self.old { early = self.new.early } }
+        ensures rest { self.new ≡ record self.old { early_cells = self.new.early_cells } }
     {
         if !self.counts(command) {
             return Effects::closing(destroy_reason::PROTOCOL);
@@ -132,18 +132,18 @@ impl Circuit {
 
     // Counts a RELAY_EARLY, unless it is one more than a circuit takes.
     pub(crate) fn counts(&mut self, command: u8) -> bool
-        ensures test { result ≡ not ((command == relay_early_command) && nat_le relay_early_limit self.old.early) }
+        ensures test { result ≡ not ((command == relay_early_command) && nat_le relay_early_limit self.old.early_cells) }
         ensures early { IsTrue result →
-            self.new.early ≡ (if command == relay_early_command then self.old.early + 1 else self.old.early) }
-        ensures rest { self.new ≡ record self.old { early = self.new.early } }
+            self.new.early_cells ≡ (if command == relay_early_command then self.old.early_cells + 1 else self.old.early_cells) }
+        ensures rest { self.new ≡ record self.old { early_cells = self.new.early_cells } }
     {
         if command != cell_command::RELAY_EARLY {
             return true;
         }
-        if self.early >= MOST_EARLY {
+        if self.early_cells >= MOST_EARLY {
             return false;
         }
-        self.early += 1;
+        self.early_cells += 1;
         true
     }
 

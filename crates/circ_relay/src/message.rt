@@ -11,6 +11,6 @@ pub(crate) struct Message<'a> {
     // The forward running digest after this cell.
     pub(crate) digest: [u8; 20],
     // Whether it came in a RELAY_EARLY cell.
-    pub(crate) early: bool,
+    pub(crate) is_early: bool,
     ghost short: { length payload.now ≤ 498 },
 }

@@ -15,7 +15,7 @@ ghost use Rattle.stream_edge.specs.Streams.{is_live_as};
 ghost use Rattle.stream_edge.specs.declared.held.Held.{Held};
 ghost use Rattle.circ_relay.specs.BroughtMessages.{IsBrought, after_cell};
 ghost use Rattle.circ_relay.specs.Packaging.{IsPackagedNext, Packages};
-ghost use Rattle.circ_relay.specs.EdgeEvents.{stream_of};
+ghost use Rattle.circ_relay.specs.EdgeEvents.{stream_of_order};
 ghost use Rattle.circ_relay.specs.CircuitOfLog.{HasCalls, HasParts, IsMadeBy};
 ghost use Rattle.circ_relay.specs.Packaging.{IsPackager};
 ghost use Rattle.circ_relay.specs.PlacesOfLog.{AreNamed, ArePlaces};
@@ -84,9 +84,9 @@ impl Circuit {
         ensures places { self.new.places.calls ≤ self.old.places.calls + 1 }
         ensures packaged { self.new.packager.padding.count ≤ self.old.packager.padding.count + 1 }
         ensures limits { KeepsLimits self.old.windows self.new.windows }
-        ensures early { self.new.early ≡ self.old.early }
+        ensures early { self.new.early_cells ≡ self.old.early_cells }
         ensures number { self.new.number ≡ self.old.number }
-        ensures order { IfSome outcome.new.edge (λ order. (stream_of order).circ ≡ self.old.number) }
+        ensures order { IfSome outcome.new.edge (λ order. (stream_of_order order).circ ≡ self.old.number) }
     {
         let Some(place) = self.live_place(message.stream) else {
             self.acknowledging(&message.digest, outcome);
@@ -138,9 +138,9 @@ impl Circuit {
         ensures windows { self.new.windows ≡ self.old.windows }
         ensures places { self.new.places.calls ≤ self.old.places.calls + 1 }
         ensures packager { self.new.packager ≡ self.old.packager }
-        ensures early { self.new.early ≡ self.old.early }
+        ensures early { self.new.early_cells ≡ self.old.early_cells }
         ensures number { self.new.number ≡ self.old.number }
-        ensures order { IfSome result.edge (λ order. (stream_of order).circ ≡ self.old.number) }
+        ensures order { IfSome result.edge (λ order. (stream_of_order order).circ ≡ self.old.number) }
     {
         let Some(place) = self.live_place(message.stream) else {
             return Effects::none();
@@ -165,9 +165,9 @@ impl Circuit {
         ensures places { self.new.places.calls ≤ self.old.places.calls + 1 }
         ensures packager { self.new.packager ≡ self.old.packager }
         ensures limits { KeepsLimits self.old.windows self.new.windows }
-        ensures early { self.new.early ≡ self.old.early }
+        ensures early { self.new.early_cells ≡ self.old.early_cells }
         ensures number { self.new.number ≡ self.old.number }
-        ensures order { IfSome result.edge (λ order. (stream_of order).circ ≡ self.old.number) }
+        ensures order { IfSome result.edge (λ order. (stream_of_order order).circ ≡ self.old.number) }
     {
         if message.stream == 0 {
             return match self.windows.proof_of(message.payload) {
@@ -191,9 +191,9 @@ fn filled(room: Bytes, bytes: &[u8]) -> Bytes
     requires ample { length bytes.now ≤ room.spare }
     ensures { result.items ≡ bytes.now }
 {
-    let mut filled = room;
-    match filled.extend(bytes) {
-        Ok(()) => filled,
+    let mut contents = room;
+    match contents.extend(bytes) {
+        Ok(()) => contents,
         Err(_) => unreachable!(),
     }
 }

@@ -105,8 +105,8 @@ fn data_of_498_bytes_is_carried(rt: HostRuntime) -> Result<(), Fail> {
     let rules = rules(rt.alloc())?;
     let mut circuit = circuit(&rules);
     let begin = meant(command::BEGIN, 1, b"Echo.Test:7\0", 0);
-    let begun = circuit.forward(rt.alloc(), &rules, &begin, RELAY)?;
-    let Some(EdgeOrder::Reach(key, to)) = begun.edge else {
+    let begin_effects = circuit.forward(rt.alloc(), &rules, &begin, RELAY)?;
+    let Some(EdgeOrder::Reach(key, to)) = begin_effects.edge else {
         // no connection is ordered
         assert!(rt; false);
         return Ok(());
@@ -114,18 +114,18 @@ fn data_of_498_bytes_is_carried(rt: HostRuntime) -> Result<(), Fail> {
     assert_eq!(rt; to, ECHO);
     assert_eq!(rt; key.serial, 0);
     let data = meant(command::DATA, 1, &[7; 498], 0);
-    let carried = circuit.forward(rt.alloc(), &rules, &data, RELAY)?;
-    let Some(EdgeOrder::Carry(to_stream, bytes)) = carried.edge else {
+    let data_effects = circuit.forward(rt.alloc(), &rules, &data, RELAY)?;
+    let Some(EdgeOrder::Carry(to_stream, bytes)) = data_effects.edge else {
         // no bytes are ordered
         assert!(rt; false);
         return Ok(());
     };
     assert_eq!(rt; to_stream, key);
     assert_eq!(rt; bytes.as_slice(), [7; 498].as_slice());
-    let mut longer = data;
-    longer.body[9..11].copy_from_slice(&[1, 0xf3]);
-    let closed = circuit.forward(rt.alloc(), &rules, &longer, RELAY)?;
-    assert_eq!(rt; closed.close, Some(1));
+    let mut longer_cell = data;
+    longer_cell.body[9..11].copy_from_slice(&[1, 0xf3]);
+    let effects = circuit.forward(rt.alloc(), &rules, &longer_cell, RELAY)?;
+    assert_eq!(rt; effects.close, Some(1));
     Ok(())
 }
 
@@ -134,12 +134,12 @@ fn sendmes_that_are_not_owed_close(rt: HostRuntime) -> Result<(), Fail> {
     let rules = rules(rt.alloc())?;
     let mut proof = [0; 23];
     proof[..3].copy_from_slice(&[1, 0, 20]);
-    let none_owed = meant(command::SENDME, 0, &proof, 0);
-    let closed = circuit(&rules).forward(rt.alloc(), &rules, &none_owed, RELAY)?;
-    assert_eq!(rt; closed.close, Some(1));
-    let empty = meant(command::SENDME, 0, &[], 0);
-    let closed = circuit(&rules).forward(rt.alloc(), &rules, &empty, RELAY)?;
-    assert_eq!(rt; closed.close, Some(1));
+    let sendme = meant(command::SENDME, 0, &proof, 0);
+    let effects = circuit(&rules).forward(rt.alloc(), &rules, &sendme, RELAY)?;
+    assert_eq!(rt; effects.close, Some(1));
+    let empty_sendme = meant(command::SENDME, 0, &[], 0);
+    let effects = circuit(&rules).forward(rt.alloc(), &rules, &empty_sendme, RELAY)?;
+    assert_eq!(rt; effects.close, Some(1));
     Ok(())
 }
 
@@ -151,24 +151,24 @@ fn extends_come_in_relay_early(rt: HostRuntime) -> Result<(), Fail> {
     payload[12] = 0x13;
     payload[13..].copy_from_slice(&[8; 19]);
     let extend = meant(command::EXTEND2, 0, &payload, 0);
-    let closed = circuit(&rules).forward(rt.alloc(), &rules, &extend, RELAY)?;
-    assert_eq!(rt; closed.close, Some(1));
+    let effects = circuit(&rules).forward(rt.alloc(), &rules, &extend, RELAY)?;
+    assert_eq!(rt; effects.close, Some(1));
     let mut circuit = circuit(&rules);
-    let asked = circuit.forward(rt.alloc(), &rules, &extend, RELAY_EARLY)?;
+    let extend_effects = circuit.forward(rt.alloc(), &rules, &extend, RELAY_EARLY)?;
     let next = Dest {
         ip: [127, 0, 0, 1],
         port: 9001,
     };
-    assert_eq!(rt; asked.dial, Some(next));
+    assert_eq!(rt; extend_effects.dial, Some(next));
     if circuit.next_hop() != NextHop::Dialling {
         assert!(rt; false);
         return Ok(());
     }
-    let linked = circuit.next_linked();
+    let link_effects = circuit.next_linked();
     let mut create2 = [0; 509];
     create2[..4].copy_from_slice(&[0xff, 0x01, 0, 0x13]);
     create2[4..23].copy_from_slice(&[8; 19]);
-    assert!(rt; linked.forth == Some((10, create2)));
+    assert!(rt; link_effects.forth == Some((10, create2)));
     Ok(())
 }
 
@@ -208,12 +208,12 @@ fn a_circuit_has_room_for_32_places(rt: HostRuntime) -> Result<(), Fail> {
 fn the_ninth_relay_early_closes(rt: HostRuntime) -> Result<(), Fail> {
     let rules = rules(rt.alloc())?;
     let mut circuit = circuit(&rules);
-    let nothing = meant(command::DROP, 0, &[], 0);
+    let drop_cell = meant(command::DROP, 0, &[], 0);
     for _number in 0..8u64 {
-        let effects = circuit.forward(rt.alloc(), &rules, &nothing, RELAY_EARLY)?;
+        let effects = circuit.forward(rt.alloc(), &rules, &drop_cell, RELAY_EARLY)?;
         assert_eq!(rt; effects.close, None);
     }
-    let effects = circuit.forward(rt.alloc(), &rules, &nothing, RELAY_EARLY)?;
+    let effects = circuit.forward(rt.alloc(), &rules, &drop_cell, RELAY_EARLY)?;
     assert_eq!(rt; effects.close, Some(1));
     Ok(())
 }

@@ -34,14 +34,14 @@ fn proof(digest: [u8; 20]) -> [u8; 23] {
 }
 
 // What a circuit does at its SENDME with this payload, behind so many DATA.
-fn answered(alloc: Global, sent: u64, payload: &[u8]) -> Result<Effects, Fail>
-    requires sent { sent < 2 ^ 16 }
+fn answered(alloc: Global, data_count: u64, payload: &[u8]) -> Result<Effects, Fail>
+    requires count { data_count < 2 ^ 16 }
     requires short { length payload.now ≤ 498 }
 {
     let rules = rules(alloc)?;
     let mut circuit = circuit(&rules);
     let key = connected(&mut circuit, alloc, &rules, 1)?;
-    let _all = send(&mut circuit, alloc, key, sent)?;
+    let _count = send(&mut circuit, alloc, key, data_count)?;
     let sendme = meant(command::SENDME, 0, payload, 0);
     Ok(circuit.forward(alloc, &rules, &sendme, RELAY)?)
 }
@@ -92,11 +92,11 @@ fn a_right_proof_does_not_close(rt: HostRuntime) -> Result<(), Fail> {
 
 #[test]
 fn other_proofs_close(rt: HostRuntime) -> Result<(), Fail> {
-    let mut first_flipped = HUNDREDTH;
-    first_flipped[0] ^= 1;
-    let mut last_flipped = HUNDREDTH;
-    last_flipped[19] ^= 0x80;
-    for digest in [first_flipped, last_flipped, [0; 20], NINETY_NINTH] {
+    let mut wrong_first_byte = HUNDREDTH;
+    wrong_first_byte[0] ^= 1;
+    let mut wrong_last_byte = HUNDREDTH;
+    wrong_last_byte[19] ^= 0x80;
+    for digest in [wrong_first_byte, wrong_last_byte, [0; 20], NINETY_NINTH] {
         assert!(rt;
             closes(&answered(rt.alloc(), 100, &proof(digest))?),
             "{digest:?}"
@@ -137,15 +137,15 @@ fn windows_are_those_of_the_rules(rt: HostRuntime) -> Result<(), Fail> {
         };
         assert_eq!(rt; circuit.shut(key), Some((ShutWhy::Circuit, 100)));
 
-        let empty = meant(command::SENDME, 0, &[], 0);
-        let first = circuit.forward(rt.alloc(), &rules, &empty, RELAY)?;
+        let empty_sendme = meant(command::SENDME, 0, &[], 0);
+        let first_effects = circuit.forward(rt.alloc(), &rules, &empty_sendme, RELAY)?;
         if least == 1 {
-            assert!(rt; closes(&first));
+            assert!(rt; closes(&first_effects));
         } else {
-            assert!(rt; first.close.is_none() && first.back.is_none());
+            assert!(rt; first_effects.close.is_none() && first_effects.back.is_none());
             assert_eq!(rt; send(&mut circuit, rt.alloc(), key, 1)?, 1);
-            let second = circuit.forward(rt.alloc(), &rules, &empty, RELAY)?;
-            assert!(rt; closes(&second));
+            let second_effects = circuit.forward(rt.alloc(), &rules, &empty_sendme, RELAY)?;
+            assert!(rt; closes(&second_effects));
         }
     }
     Ok(())

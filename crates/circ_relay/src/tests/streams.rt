@@ -22,14 +22,14 @@ pub(super) fn connected(
     ensures packaged { circuit.new.packager.padding.count ≤ circuit.old.packager.padding.count + 2 }
 {
     let begin = meant(command::BEGIN, id, b"echo.test:7\0", 0);
-    let begun = circuit.forward(alloc, rules, &begin, RELAY)?;
-    let Some(EdgeOrder::Reach(key, _)) = begun.edge else {
+    let begin_effects = circuit.forward(alloc, rules, &begin, RELAY)?;
+    let Some(EdgeOrder::Reach(key, _)) = begin_effects.edge else {
         return Err("no connection is ordered".into());
     };
     let Some(Phase::Reaching) = circuit.phase(key) else {
         return Err("it isn't reached for".into());
     };
-    let _connected = circuit.edge(key, &EdgeEvent::Connected);
+    let _connect_effects = circuit.edge(key, &EdgeEvent::Connected);
     Ok(key)
 }
 
@@ -56,7 +56,7 @@ pub(super) fn send(
         let None = circuit.shut(key) else {
             return Ok(number);
         };
-        let _packaged = circuit.edge(key, &byte);
+        let _data_effects = circuit.edge(key, &byte);
     }
     Ok(most)
 }

@@ -14,7 +14,7 @@ returns-clause-effects c = λ rules h body is opens.
     let cell =
     cell_of_history c.args.self.now c.args.opened.now rules h c.args.command body c.counts.result is opens c.counts.ensures.test c.if-not-counts.false in
     let has =
-    early_apart c.args.self.now c.counts.new.self c.counts.new.self.early (log rules h) c.counts.ensures.rest is.parts in
+    early_apart c.args.self.now c.counts.new.self c.counts.new.self.early_cells (log rules h) c.counts.ensures.rest is.parts in
     c.passed_on.ensures.effects (log rules h) has
     ∙ sym (passed_on_does c.args.opened.now rules (log rules h) c.args.command body cell c.requires)
 
@@ -23,9 +23,9 @@ returns-clause-circuit c = λ rules h body is opens unclosed.
     let cell =
     cell_of_history c.args.self.now c.args.opened.now rules h c.args.command body c.counts.result is opens c.counts.ensures.test c.if-not-counts.false in
     let has =
-    early_apart c.args.self.now c.counts.new.self c.counts.new.self.early (log rules h) c.counts.ensures.rest is.parts in
+    early_apart c.args.self.now c.counts.new.self c.counts.new.self.early_cells (log rules h) c.counts.ensures.rest is.parts in
     circuit_after c.args.self.now c.counts.new.self rules h c.args.command body (effects_of c.passed_on.result) is
     (passed_on_does c.args.opened.now rules (log rules h) c.args.command body cell c.requires ∙ sym (c.passed_on.ensures.effects (log rules h) has)) unclosed
     (c.counts.ensures.early c.if-not-counts.false)
-    (limits_early c.args.self.now c.counts.new.self c.counts.new.self c.counts.new.self.early c.counts.ensures.rest (record { start = refl; least = refl }))
+    (limits_early c.args.self.now c.counts.new.self c.counts.new.self c.counts.new.self.early_cells c.counts.ensures.rest (record { start = refl; least = refl }))
     (passed_on_parts c.counts.new.self c.args.opened.now rules (log rules h) c.args.command body cell has c.requires)

@@ -16,8 +16,8 @@ returns-clause-effects c = λ h body is opens.
     let cell =
     cell_of_history c.args.self.now c.args.opened.now rules h c.args.command body c.counts.result is opens c.counts.ensures.test c.if-not-counts.false in
     let has =
-    early_apart c.args.self.now c.counts.new.self c.counts.new.self.early (log rules h) c.counts.ensures.rest is.parts in
-    let made = made_early c.args.self.now c.counts.new.self c.counts.new.self.early rules c.counts.ensures.rest is.made in
+    early_apart c.args.self.now c.counts.new.self c.counts.new.self.early_cells (log rules h) c.counts.ensures.rest is.parts in
+    let made = made_early c.args.self.now c.counts.new.self c.counts.new.self.early_cells rules c.counts.ensures.rest is.made in
     c.received.ensures.effects (log rules h) body cell made has
 
 pub returns-clause-circuit : goal.returns-clause-circuit
@@ -26,9 +26,9 @@ returns-clause-circuit c = λ h body is opens unclosed.
     let cell =
     cell_of_history c.args.self.now c.args.opened.now rules h c.args.command body c.counts.result is opens c.counts.ensures.test c.if-not-counts.false in
     let has =
-    early_apart c.args.self.now c.counts.new.self c.counts.new.self.early (log rules h) c.counts.ensures.rest is.parts in
-    let made = made_early c.args.self.now c.counts.new.self c.counts.new.self.early rules c.counts.ensures.rest is.made in
+    early_apart c.args.self.now c.counts.new.self c.counts.new.self.early_cells (log rules h) c.counts.ensures.rest is.parts in
+    let made = made_early c.args.self.now c.counts.new.self c.counts.new.self.early_cells rules c.counts.ensures.rest is.made in
     circuit_after c.args.self.now c.received.new.self rules h c.args.command body (effects_of c.received.new.outcome) is (sym (c.received.ensures.effects (log rules h) body cell made has)) unclosed
     (c.received.ensures.early ∙ c.counts.ensures.early c.if-not-counts.false)
-    (limits_early c.args.self.now c.counts.new.self c.received.new.self c.counts.new.self.early c.counts.ensures.rest c.received.ensures.limits)
+    (limits_early c.args.self.now c.counts.new.self c.received.new.self c.counts.new.self.early_cells c.counts.ensures.rest c.received.ensures.limits)
     (c.received.ensures.parts (log rules h) body cell made has unclosed)
