@@ -18,9 +18,9 @@ pub fn first_four(digest: &[u8; 20]) -> [u8; 4] {
 
 /// A body whose Length is this.
 pub fn with_length(body: &[u8; 509], length: u16) -> [u8; 509] {
-    let mut changed = *body;
-    changed[9..11].copy_from_slice(&length.to_be_bytes());
-    changed
+    let mut changed_body = *body;
+    changed_body[9..11].copy_from_slice(&length.to_be_bytes());
+    changed_body
 }
 
 /// EXTEND2 with an empty handshake and a link specifier of each type: 2, 3, 1, one without a meaning,

@@ -13,10 +13,10 @@ use std::process::Abort;
 #[derive(Drop)]
 pub struct Client {
     cipher: Stream,
-    forth: Running,
-    back: Running,
+    forward_digest: Running,
+    backward_digest: Running,
     /// The DATA that came back.
-    data: u64,
+    data_count: u64,
     /// The proofs that it owes the relay: the backward running digest after each 100th DATA that isn't
     /// acknowledged, oldest first.
     owed_proofs: VecDeque<[u8; 20]>,
@@ -26,9 +26,9 @@ impl Client {
     pub fn new(alloc: Global, keys: &LayerKeys) -> Client {
         Client {
             cipher: Stream::of(&keys.kf),
-            forth: Running::seeded(&keys.df),
-            back: Running::seeded(&keys.db),
-            data: 0,
+            forward_digest: Running::seeded(&keys.df),
+            backward_digest: Running::seeded(&keys.db),
+            data_count: 0,
             owed_proofs: VecDeque::new(alloc),
         }
     }
@@ -44,26 +44,26 @@ impl Client {
     /// A body that the relay recognises.
     pub fn sealed(&mut self, rt: &impl Abort, body: &[u8; 509]) -> [u8; 509] {
         let plain = self.digested(body);
-        self.forth.absorb(&plain);
+        self.forward_digest.absorb(&plain);
         self.encrypted(rt, &plain)
     }
 
     /// The body with the Digest that is due to it. The running digest stays.
     pub fn digested(&self, body: &[u8; 509]) -> [u8; 509] {
         let mut plain = *body;
-        put_digest(&mut plain, first_four(&self.forth.look_with(body)));
+        put_digest(&mut plain, first_four(&self.forward_digest.look_with(body)));
         plain
     }
 
     /// A body that the relay packaged came back.
     pub fn came(&mut self, body: &[u8; 509]) -> Result<(), AllocError> {
-        self.back.absorb(body);
+        self.backward_digest.absorb(body);
         if body[0] != command::DATA {
             return Ok(());
         }
-        self.data = self.data.saturating_add(1);
-        if self.data % 100 == 0 {
-            self.owed_proofs.push_back(self.back.digest())?;
+        self.data_count = self.data_count.saturating_add(1);
+        if self.data_count % 100 == 0 {
+            self.owed_proofs.push_back(self.backward_digest.digest())?;
         }
         Ok(())
     }
@@ -75,6 +75,6 @@ impl Client {
 
     /// The next proof was sent.
     pub fn proof_sent(&mut self) {
-        let _sent = self.owed_proofs.pop_front();
+        let _proof = self.owed_proofs.pop_front();
     }
 }

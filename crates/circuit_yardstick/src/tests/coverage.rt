@@ -11,7 +11,7 @@ use tr_io::edges::EdgeOrder;
 
 /// A kind of effect.
 #[derive(Clone, Copy, PartialEq, Eq, Debug)]
-pub enum Outcome {
+pub enum EffectKind {
     Nothing,
     // Packaged bodies.
     Connected,
@@ -39,20 +39,20 @@ pub enum Outcome {
     ConnectFailed,
 }
 
-const OUTCOMES: usize = 20;
+const EFFECT_KINDS: usize = 20;
 
 /// What came so far.
 #[derive(Drop)]
-pub struct Seen {
-    outcomes: [bool; OUTCOMES],
+pub struct Coverage {
+    effect_kinds: [bool; EFFECT_KINDS],
     kinds: [bool; KINDS],
     faults: [bool; FAULTS.len()],
 }
 
-impl Seen {
-    pub fn nothing() -> Seen {
-        Seen {
-            outcomes: [false; OUTCOMES],
+impl Coverage {
+    pub fn empty() -> Coverage {
+        Coverage {
+            effect_kinds: [false; EFFECT_KINDS],
             kinds: [false; KINDS],
             faults: [false; FAULTS.len()],
         }
@@ -68,95 +68,95 @@ impl Seen {
 
     /// What an event had the circuit do.
     pub fn effects(&mut self, event: &Event, effects: &Effects) {
-        let outcomes = [
-            back_outcome(event, effects),
-            forth_outcome(effects),
-            edge_outcome(effects),
+        let effect_kinds = [
+            back_effect(event, effects),
+            forth_effect(effects),
+            edge_effect(effects),
             if effects.dial.is_some() {
-                Some(Outcome::Dial)
+                Some(EffectKind::Dial)
             } else {
                 None
             },
             if effects.cut {
-                Some(Outcome::Cut)
+                Some(EffectKind::Cut)
             } else {
                 None
             },
-            close_outcome(effects),
+            close_effect(effects),
         ];
         let mut did_nothing = true;
-        for outcome in outcomes {
-            if let Some(outcome) = outcome {
+        for effect_kind in effect_kinds {
+            if let Some(effect_kind) = effect_kind {
                 did_nothing = false;
-                mark(&mut self.outcomes, outcome as usize);
+                mark(&mut self.effect_kinds, effect_kind as usize);
             }
         }
         if did_nothing {
-            mark(&mut self.outcomes, Outcome::Nothing as usize);
+            mark(&mut self.effect_kinds, EffectKind::Nothing as usize);
         }
     }
 
     /// Every kind of effect, event and fault has come.
     pub fn assert_all(&self, rt: &impl Abort) {
-        for (n, seen) in self.outcomes.iter().enumerate() {
-            assert!(rt; *seen, "effect {n} never came");
+        for (n, has_come) in self.effect_kinds.iter().enumerate() {
+            assert!(rt; *has_come, "effect {n} never came");
         }
-        for (n, seen) in self.kinds.iter().enumerate() {
-            assert!(rt; *seen, "event {n} never came");
+        for (n, has_come) in self.kinds.iter().enumerate() {
+            assert!(rt; *has_come, "event {n} never came");
         }
-        for (n, seen) in self.faults.iter().enumerate() {
-            assert!(rt; *seen, "fault {n} never came");
+        for (n, has_come) in self.faults.iter().enumerate() {
+            assert!(rt; *has_come, "fault {n} never came");
         }
     }
 }
 
-fn mark(seen: &mut [bool], place: usize) {
-    if let Some(seen) = seen.get_mut(place) {
-        *seen = true;
+fn mark(marks: &mut [bool], place: usize) {
+    if let Some(has_come) = marks.get_mut(place) {
+        *has_come = true;
     }
 }
 
-fn back_outcome(event: &Event, effects: &Effects) -> Option<Outcome> {
+fn back_effect(event: &Event, effects: &Effects) -> Option<EffectKind> {
     let body = effects.back.as_ref()?;
     if let Event::Backward(_) = event {
-        return Some(Outcome::PassedBack);
+        return Some(EffectKind::PassedBack);
     }
     let is_of_circuit = body[3..5] == [0, 0];
     match body[0] {
-        command::CONNECTED => Some(Outcome::Connected),
-        command::DATA => Some(Outcome::Data),
-        command::END => Some(Outcome::End),
-        command::SENDME if is_of_circuit => Some(Outcome::CircuitSendme),
-        command::SENDME => Some(Outcome::StreamSendme),
-        command::TRUNCATED => Some(Outcome::Truncated),
-        command::RESOLVED => Some(Outcome::Resolved),
-        command::EXTENDED2 => Some(Outcome::Extended),
+        command::CONNECTED => Some(EffectKind::Connected),
+        command::DATA => Some(EffectKind::Data),
+        command::END => Some(EffectKind::End),
+        command::SENDME if is_of_circuit => Some(EffectKind::CircuitSendme),
+        command::SENDME => Some(EffectKind::StreamSendme),
+        command::TRUNCATED => Some(EffectKind::Truncated),
+        command::RESOLVED => Some(EffectKind::Resolved),
+        command::EXTENDED2 => Some(EffectKind::Extended),
         _ => None,
     }
 }
 
-fn forth_outcome(effects: &Effects) -> Option<Outcome> {
+fn forth_effect(effects: &Effects) -> Option<EffectKind> {
     match &effects.forth {
-        Some((RELAY, _)) => Some(Outcome::Relay),
-        Some((RELAY_EARLY, _)) => Some(Outcome::RelayEarly),
-        Some(_) => Some(Outcome::Create2),
+        Some((RELAY, _)) => Some(EffectKind::Relay),
+        Some((RELAY_EARLY, _)) => Some(EffectKind::RelayEarly),
+        Some(_) => Some(EffectKind::Create2),
         None => None,
     }
 }
 
-fn edge_outcome(effects: &Effects) -> Option<Outcome> {
+fn edge_effect(effects: &Effects) -> Option<EffectKind> {
     match &effects.edge {
-        Some(EdgeOrder::Reach(_, _)) => Some(Outcome::Reach),
-        Some(EdgeOrder::Carry(_, _)) => Some(Outcome::Carry),
-        Some(EdgeOrder::Close(_, _)) => Some(Outcome::Close),
+        Some(EdgeOrder::Reach(_, _)) => Some(EffectKind::Reach),
+        Some(EdgeOrder::Carry(_, _)) => Some(EffectKind::Carry),
+        Some(EdgeOrder::Close(_, _)) => Some(EffectKind::Close),
         None => None,
     }
 }
 
-fn close_outcome(effects: &Effects) -> Option<Outcome> {
+fn close_effect(effects: &Effects) -> Option<EffectKind> {
     match effects.close {
-        Some(1) => Some(Outcome::Protocol),
-        Some(_) => Some(Outcome::ConnectFailed),
+        Some(1) => Some(EffectKind::Protocol),
+        Some(_) => Some(EffectKind::ConnectFailed),
         None => None,
     }
 }

@@ -94,10 +94,13 @@ impl Driver {
         requires { self.old.calls < 2 ^ 40 }
     {
         let mut body = *body;
-        let recognised = self.opener.take_off(&mut body);
+        let digest = self.opener.take_off(&mut body);
         self.calls += 1;
-        let opened = Opened { body, recognised };
-        let effects = self.circuit.forward(alloc, rules, &opened, command)?;
+        let opened_cell = Opened {
+            body,
+            recognised: digest,
+        };
+        let effects = self.circuit.forward(alloc, rules, &opened_cell, command)?;
         Ok(Some(effects))
     }
 

@@ -157,15 +157,15 @@ impl History {
 
     fn wrong_extend(&mut self, rt: &impl Abort, fault: Fault) -> Option<Event> {
         let is_absent = self.next_hop()? == NextHop::Absent;
-        let right = extend2_body(NEXT_HOP, 2, &[9; 84]);
+        let right_body = extend2_body(NEXT_HOP, 2, &[9; 84]);
         if fault == Fault::ExtendInRelay {
-            return Some(self.meant(rt, RELAY, &right));
+            return Some(self.meant(rt, RELAY, &right_body));
         }
         if self.early >= 8 || is_absent == (fault == Fault::ExtendTwice) {
             return None;
         }
         let body = match fault {
-            Fault::ExtendTwice => right,
+            Fault::ExtendTwice => right_body,
             Fault::ExtendWithoutAddress => extend_without_ipv4(),
             _ => write_body(command::EXTEND2, 0, &[3, 0, 6, 127, 0]),
         };

@@ -5,7 +5,7 @@ use crate::tests::client::Client;
 use crate::tests::driver::Driver;
 use crate::tests::kinds::Theme;
 use crate::tests::random::Random;
-use crate::tests::rules::{Settings, fast_rules};
+use crate::tests::rules::{CircuitSettings, fast_rules};
 use circ_relay::{Effects, NextHop, Rules};
 use circuit_model::{CircuitCell, Event};
 use kdf_tor::{LayerKeys, derive};
@@ -18,7 +18,7 @@ use tr_io::names::StreamKey;
 
 /// A stream as the client knows it.
 #[derive(Clone, Copy)]
-pub struct Begun {
+pub struct ClientStream {
     pub key: StreamKey,
     /// The DATA of the stream that came back, and the SENDMEs that the client sent for them.
     pub data: u64,
@@ -30,12 +30,12 @@ pub struct History {
     pub seed: u64,
     pub random: Random,
     pub theme: Theme,
-    pub settings: Settings,
+    pub settings: CircuitSettings,
     pub client: Client,
     /// The circuit, until it closes.
     pub circuit: Option<Driver>,
     /// The streams that were begun, by their serial.
-    pub streams: Vec<Begun>,
+    pub streams: Vec<ClientStream>,
     /// The RELAY_EARLY cells that came.
     pub early: u64,
     pub events: Vec<Event>,
@@ -49,7 +49,7 @@ fn keys_of(random: &mut Random) -> LayerKeys {
 }
 
 /// The key of the padding, where bodies are padded.
-fn pad_of(random: &mut Random, settings: Settings) -> Option<[u8; 16]> {
+fn pad_of(random: &mut Random, settings: CircuitSettings) -> Option<[u8; 16]> {
     if !settings.is_padded {
         return None;
     }
@@ -64,7 +64,7 @@ impl History {
         alloc: Global,
         seed: u64,
         theme: Theme,
-        settings: Settings,
+        settings: CircuitSettings,
     ) -> Result<History, AllocError> {
         let mut random = Random::seeded(seed);
         let keys = keys_of(&mut random);
@@ -138,7 +138,7 @@ impl History {
             self.client.came(&body)?;
         }
         if let Some(EdgeOrder::Reach(key, _)) = &effects.edge {
-            self.streams.push(Begun {
+            self.streams.push(ClientStream {
                 key: *key,
                 data: 0,
                 sendmes: 0,
@@ -164,7 +164,7 @@ impl History {
     }
 
     /// The phase of the stream with this serial.
-    pub fn phase(&self, stream: &Begun) -> Option<Phase> {
+    pub fn phase(&self, stream: &ClientStream) -> Option<Phase> {
         self.circuit.as_ref()?.phase(stream.key)
     }
 
@@ -180,20 +180,20 @@ impl History {
     }
 
     /// One of the streams in these phases, if there is one.
-    pub fn stream_in(&mut self, phases: &[Phase]) -> Option<Begun> {
+    pub fn stream_in(&mut self, phases: &[Phase]) -> Option<ClientStream> {
         let count = self.count_in(phases);
         if count == 0 {
             return None;
         }
-        let mut skipped = self.random.below(count);
+        let mut skip_count = self.random.below(count);
         for stream in self.streams.iter() {
             if !is_among(self.phase(stream), phases) {
                 continue;
             }
-            if skipped == 0 {
+            if skip_count == 0 {
                 return Some(*stream);
             }
-            skipped -= 1;
+            skip_count -= 1;
         }
         None
     }
@@ -210,9 +210,8 @@ impl History {
     }
 
     /// Whether the StreamID is live.
-    pub fn is_live(&self, stream: u16) -> bool {
-        self.streams.iter().any(|begun| begun.key.id == stream
-            && is_among(self.phase(begun), &LIVE))
+    pub fn is_live(&self, id: u16) -> bool {
+        self.streams.iter().any(|stream| stream.key.id == id && is_among(self.phase(stream), &LIVE))
     }
 }
 

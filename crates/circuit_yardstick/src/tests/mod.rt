@@ -3,13 +3,13 @@
 mod cells;
 mod client;
 mod comparing;
+mod coverage;
 mod driver;
 mod faults;
 mod histories;
 mod history;
 mod kinds;
 mod making;
-mod outcomes;
 mod path;
 mod random;
 mod rules;

@@ -18,7 +18,7 @@ const LINES: [(&[u8], u16, [u8; 4], u16); 3] = [
 /// Where the circuit's window begins, the least SENDME version that is accepted, and whether bodies are
 /// padded.
 #[derive(Clone, Copy)]
-pub struct Settings {
+pub struct CircuitSettings {
     pub window: u32,
     pub least: u8,
     pub is_padded: bool,
@@ -27,28 +27,28 @@ pub struct Settings {
 }
 
 /// The standard's window, each SENDME with its proof, and no padding.
-pub const STANDARD: Settings = Settings {
+pub const STANDARD: CircuitSettings = CircuitSettings {
     window: 1000,
     least: 1,
     is_padded: false,
 };
 
-impl Settings {
+impl CircuitSettings {
     /// The settings of this seed.
-    pub fn of(seed: u64) -> Settings {
+    pub fn of(seed: u64) -> CircuitSettings {
         let is_padded = seed % 2 == 1;
         match seed % 3 {
-            0 => Settings {
+            0 => CircuitSettings {
                 window: 1000,
                 least: 1,
                 is_padded,
             },
-            1 => Settings {
+            1 => CircuitSettings {
                 window: 100,
                 least: 0,
                 is_padded,
             },
-            _ => Settings {
+            _ => CircuitSettings {
                 window: 300,
                 least: 1,
                 is_padded,
@@ -57,7 +57,10 @@ impl Settings {
     }
 }
 
-pub fn fast_rules(alloc: Global, settings: Settings) -> Result<circ_relay::Rules, AllocError> {
+pub fn fast_rules(
+    alloc: Global,
+    settings: CircuitSettings,
+) -> Result<circ_relay::Rules, AllocError> {
     let mut allow = List::new(alloc);
     for (host, port, ip, to_port) in LINES {
         allow.push(circ_relay::Allow {
@@ -75,7 +78,7 @@ pub fn fast_rules(alloc: Global, settings: Settings) -> Result<circ_relay::Rules
 
 pub fn plain_rules(
     alloc: Global,
-    settings: Settings,
+    settings: CircuitSettings,
 ) -> Result<plain_circuit::rules::Rules, AllocError> {
     let mut allow = Vec::new(alloc);
     for (host, port, ip, to_port) in LINES {

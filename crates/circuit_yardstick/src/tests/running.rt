@@ -2,10 +2,10 @@
 
 use crate::tests::cells::RELAY;
 use crate::tests::comparing::are_same;
+use crate::tests::coverage::Coverage;
 use crate::tests::driver::Driver;
 use crate::tests::faults::Fault;
-use crate::tests::history::{Begun, History};
-use crate::tests::outcomes::Seen;
+use crate::tests::history::{ClientStream, History};
 use crate::tests::rules::{fast_rules, plain_rules};
 use circ_relay::Rules;
 use circuit_model::{Event, Payload, Phase as PlainPhase};
@@ -24,7 +24,7 @@ use tr_io::answers::ShutWhy;
 #[derive(Clone, Copy)]
 pub struct PlannedFault {
     pub fault: Fault,
-    pub from: usize,
+    pub first_try: usize,
 }
 
 /// Lets events happen until there are so many, with the opening.
@@ -32,18 +32,18 @@ pub fn play(
     rt: &impl Abort,
     alloc: Global,
     history: &mut History,
-    until: usize,
-    planned: Option<PlannedFault>,
-    seen: &mut Seen,
+    event_count: usize,
+    planned_fault: Option<PlannedFault>,
+    coverage: &mut Coverage,
 ) -> Result<(), AllocError> {
     let rules = fast_rules(alloc, history.settings)?;
     for _try in 0..100_000u32 {
-        if history.events.len() >= until {
+        if history.events.len() >= event_count {
             break;
         }
-        go_on(rt, alloc, &rules, history, planned, seen)?;
+        go_on(rt, alloc, &rules, history, planned_fault, coverage)?;
     }
-    assert_eq!(rt; history.events.len(), until);
+    assert_eq!(rt; history.events.len(), event_count);
     Ok(())
 }
 
@@ -53,17 +53,17 @@ fn go_on(
     alloc: Global,
     rules: &Rules,
     history: &mut History,
-    planned: Option<PlannedFault>,
-    seen: &mut Seen,
+    planned_fault: Option<PlannedFault>,
+    coverage: &mut Coverage,
 ) -> Result<(), AllocError> {
     if history.circuit.is_none() {
         let event = event_of_closed(alloc, history)?;
-        let _happens = history.happens(rt, alloc, rules, event)?;
+        let _has_happened = history.happens(rt, alloc, rules, event)?;
         return Ok(());
     }
-    if let Some(PlannedFault { fault, from }) = planned {
-        if fault_happens(rt, alloc, rules, history, fault, from)? {
-            seen.fault(fault);
+    if let Some(PlannedFault { fault, first_try }) = planned_fault {
+        if fault_happens(rt, alloc, rules, history, fault, first_try)? {
+            coverage.fault(fault);
             return Ok(());
         }
     }
@@ -72,7 +72,7 @@ fn go_on(
     let kind = history.random.one_of(kinds);
     if let Some(event) = history.make(rt, alloc, kind)? {
         if history.happens(rt, alloc, rules, event)? {
-            seen.kind(kind);
+            coverage.kind(kind);
         }
     }
     Ok(())
@@ -85,17 +85,17 @@ fn fault_happens(
     rules: &Rules,
     history: &mut History,
     fault: Fault,
-    from: usize,
+    first_try: usize,
 ) -> Result<bool, AllocError> {
-    if history.events.len() < from {
+    if history.events.len() < first_try {
         return Ok(false);
     }
     let Some(event) = history.make_fault(rt, fault) else {
         return Ok(false);
     };
-    let happens = history.happens(rt, alloc, rules, event)?;
+    let has_happened = history.happens(rt, alloc, rules, event)?;
     assert!(rt;
-        happens && history.circuit.is_none(),
+        has_happened && history.circuit.is_none(),
         "{fault:?} doesn't close"
     );
     Ok(true)
@@ -122,7 +122,7 @@ pub fn compare(
     rt: &impl Abort,
     alloc: Global,
     history: &History,
-    seen: &mut Seen,
+    coverage: &mut Coverage,
 ) -> Result<(), AllocError> {
     let rules = plain_rules(alloc, history.settings)?;
     let seed = history.seed;
@@ -130,7 +130,7 @@ pub fn compare(
     assert_eq!(rt; log.len(), history.effects.len());
     for (n, (entry, effects)) in log.iter().zip(history.effects.iter()).enumerate() {
         assert!(rt; are_same(effects, &entry.effects), "seed {seed}, event {n}");
-        seen.effects(entry.event, effects);
+        coverage.effects(entry.event, effects);
     }
     let Some(driver) = &history.circuit else {
         return Ok(());
@@ -147,7 +147,12 @@ pub fn compare(
 }
 
 /// Both programs have the stream in one phase, and its bytes may be packaged in both or in none.
-fn is_same_stream(driver: &Driver, stream: &Begun, rules: &PlainRules, log: &[Entry<'_>]) -> bool {
+fn is_same_stream(
+    driver: &Driver,
+    stream: &ClientStream,
+    rules: &PlainRules,
+    log: &[Entry<'_>],
+) -> bool {
     let serial = stream.key.serial as usize;
     let is_same_phase = matches!(
         (driver.phase(stream.key), phase_at(log, serial)),
