@@ -10,43 +10,43 @@ use run_digest::Running;
 pub fn layers(count: u32) -> Report {
     let mut stream = Stream::of(&KEYS.kf);
     let mut body = [0; 509];
-    for _done in 0..count {
+    for _round in 0..count {
         stream.apply(&mut body);
     }
     Report {
         cells: u64::from(count),
-        last: first_of(&body),
+        last_bytes: first_of(&body),
     }
 }
 
 /// Lets the same body go by a running digest, which is asked each time.
 pub fn digests(count: u32) -> Report {
     let body = [7; 509];
-    let mut running = Running::seeded(&KEYS.db);
-    let mut last = [0; 20];
-    for _done in 0..count {
-        running.absorb(&body);
-        last = running.digest();
+    let mut running_digest = Running::seeded(&KEYS.db);
+    let mut last_bytes = [0; 20];
+    for _round in 0..count {
+        running_digest.absorb(&body);
+        last_bytes = running_digest.digest();
     }
     Report {
         cells: u64::from(count),
-        last,
+        last_bytes,
     }
 }
 
 /// Both, one behind the other.
 pub fn layers_and_digests(count: u32) -> Report {
     let mut stream = Stream::of(&KEYS.kf);
-    let mut running = Running::seeded(&KEYS.df);
+    let mut running_digest = Running::seeded(&KEYS.df);
     let mut body = [0; 509];
-    let mut last = [0; 20];
-    for _done in 0..count {
+    let mut last_bytes = [0; 20];
+    for _round in 0..count {
         stream.apply(&mut body);
-        running.absorb(&body);
-        last = running.digest();
+        running_digest.absorb(&body);
+        last_bytes = running_digest.digest();
     }
     Report {
         cells: u64::from(count),
-        last,
+        last_bytes,
     }
 }

@@ -23,7 +23,7 @@ pub const ECHO: Dest = Dest {
 #[derive(Clone, Copy)]
 pub struct Report {
     pub cells: u64,
-    pub last: [u8; 20],
+    pub last_bytes: [u8; 20],
 }
 
 /// A cell that was recognised.

@@ -49,12 +49,12 @@ pub fn extend(circuit: &mut Circuit, alloc: Global, rules: &Rules) -> Result<(),
     payload[..12].copy_from_slice(&[1, 0, 6, 127, 0, 0, 1, 0x23, 0x29, 0, 2, 0]);
     payload[12] = 19;
     let extend = recognised(command::EXTEND2, 0, &payload);
-    let _dialled = circuit.forward(alloc, rules, &extend, RELAY_EARLY)?;
+    let _extend_effects = circuit.forward(alloc, rules, &extend, RELAY_EARLY)?;
     if circuit.next_hop() == NextHop::Dialling {
-        let _created = circuit.next_linked();
+        let _link_effects = circuit.next_linked();
         let mut reply = [0; 509];
         reply[1] = 64;
-        let _extended = circuit.next_answered(&reply);
+        let _answer_effects = circuit.next_answered(&reply);
     }
     Ok(())
 }
@@ -73,13 +73,13 @@ pub fn join(
     ensures packaged { circuit.new.packager.padding.count ≤ 2 }
 {
     let begin = recognised(command::BEGIN, 1, b"echo.test:7\0");
-    let begun = circuit.forward(alloc, rules, &begin, RELAY)?;
-    let Some(EdgeOrder::Reach(key, _)) = begun.edge else {
+    let begin_effects = circuit.forward(alloc, rules, &begin, RELAY)?;
+    let Some(EdgeOrder::Reach(key, _)) = begin_effects.edge else {
         return Ok(None);
     };
     let Some(Phase::Reaching) = circuit.phase(key) else {
         return Ok(None);
     };
-    let _connected = circuit.edge(key, &EdgeEvent::Connected);
+    let _connect_effects = circuit.edge(key, &EdgeEvent::Connected);
     Ok(Some(key))
 }

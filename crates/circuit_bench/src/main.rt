@@ -60,8 +60,8 @@ fn main(rt: HostRuntime) -> io::Result<ExitCode> {
     if let Some((name, count)) = asked(&words)
         && let Some(report) = worked(rt.alloc(), name, count)?
     {
-        let last = hex::encode(rt.alloc(), report.last.as_slice())?;
-        println!(rt; "{} cells {last}", report.cells)?;
+        let last_bytes = hex::encode(rt.alloc(), report.last_bytes.as_slice())?;
+        println!(rt; "{} cells {last_bytes}", report.cells)?;
         return Ok(ExitCode::SUCCESS);
     }
     rt.println(USAGE)?;

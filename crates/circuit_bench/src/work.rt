@@ -22,22 +22,22 @@ pub fn pass_on(alloc: Global, count: u32) -> Result<Report, AllocError> {
     let mut circuit = fresh(None, &rules);
     extend(&mut circuit, alloc, &rules)?;
     let mut opener = Opener::of(&KEYS);
-    let mut opened = Opened {
+    let mut opened_cell = Opened {
         body: [0; 509],
         recognised: None,
     };
     let mut cells = 0u64;
-    for _passed in 0..count {
-        opened.recognised = opener.take_off(&mut opened.body);
-        let effects = circuit.forward(alloc, &rules, &opened, RELAY)?;
-        if let Some(passed) = passed_on(&effects) {
-            opened.body.copy_from_slice(passed);
+    for _cell in 0..count {
+        opened_cell.recognised = opener.take_off(&mut opened_cell.body);
+        let effects = circuit.forward(alloc, &rules, &opened_cell, RELAY)?;
+        if let Some(next_body) = passed_on(&effects) {
+            opened_cell.body.copy_from_slice(next_body);
             cells = cells.saturating_add(1);
         }
     }
     Ok(Report {
         cells,
-        last: first_of(&opened.body),
+        last_bytes: first_of(&opened_cell.body),
     })
 }
 
@@ -56,12 +56,12 @@ const HUNDRED: usize = 100;
 /// DATA cells of stream 1, as the client seals them for the relay alone.
 fn sealed() -> [[u8; 509]; FIVE_HUNDRED] {
     let mut stream = Stream::of(&KEYS.kf);
-    let mut running = Running::seeded(&KEYS.df);
+    let mut running_digest = Running::seeded(&KEYS.df);
     let mut bodies = [[0; 509]; FIVE_HUNDRED];
     for number in 0..FIVE_HUNDRED {
         let mut body = data_body(1, &[7; 498]);
-        running.absorb(&body);
-        let [a, b, c, d, ..] = running.digest();
+        running_digest.absorb(&body);
+        let [a, b, c, d, ..] = running_digest.digest();
         put_digest(&mut body, [a, b, c, d]);
         stream.apply(&mut body);
         bodies[number] = body;
@@ -75,13 +75,13 @@ pub fn accept(alloc: Global, count: u32) -> Result<Report, AllocError> {
     let rules = rules(alloc)?;
     let bodies = sealed();
     let mut cells = 0u64;
-    let mut last = [0; 20];
+    let mut last_bytes = [0; 20];
     for _five_hundred in 0..count / 500 {
-        let accepted = accept_all(alloc, &rules, &bodies)?;
-        cells = cells.saturating_add(accepted.cells);
-        last = accepted.last;
+        let batch_report = accept_all(alloc, &rules, &bodies)?;
+        cells = cells.saturating_add(batch_report.cells);
+        last_bytes = batch_report.last_bytes;
     }
-    Ok(Report { cells, last })
+    Ok(Report { cells, last_bytes })
 }
 
 fn accept_all(
@@ -94,18 +94,18 @@ fn accept_all(
     let mut opener = Opener::of(&KEYS);
     let mut report = Report {
         cells: 0,
-        last: [0; 20],
+        last_bytes: [0; 20],
     };
     for number in 0..FIVE_HUNDRED {
-        let mut opened = Opened {
+        let mut opened_cell = Opened {
             body: bodies[number],
             recognised: None,
         };
-        opened.recognised = opener.take_off(&mut opened.body);
-        let effects = circuit.forward(alloc, rules, &opened, RELAY)?;
+        opened_cell.recognised = opener.take_off(&mut opened_cell.body);
+        let effects = circuit.forward(alloc, rules, &opened_cell, RELAY)?;
         if effects.edge.is_some() {
             report.cells = report.cells.saturating_add(1);
-            report.last = first_of(&opened.body);
+            report.last_bytes = first_of(&opened_cell.body);
         }
     }
     Ok(report)
@@ -116,16 +116,16 @@ pub fn package(alloc: Global, pad: Option<[u8; 16]>, count: u32) -> Result<Repor
     let rules = rules(alloc)?;
     let mut circuit = fresh(pad, &rules);
     let mut cells = 0u64;
-    let mut last = [0; 20];
+    let mut last_bytes = [0; 20];
     if let Some(key) = join(&mut circuit, alloc, &rules)? {
         for _hundred in 0..count / 100 {
-            let packaged = package_all(&mut circuit, alloc, key, &[7; 498])?;
+            let batch_report = package_all(&mut circuit, alloc, key, &[7; 498])?;
             acknowledge(&mut circuit, alloc, &rules)?;
-            cells = cells.saturating_add(packaged.cells);
-            last = packaged.last;
+            cells = cells.saturating_add(batch_report.cells);
+            last_bytes = batch_report.last_bytes;
         }
     }
-    Ok(Report { cells, last })
+    Ok(Report { cells, last_bytes })
 }
 
 /// As many DATA with these bytes as a SENDME of the circuit is for, where the windows allow them. Each body
@@ -146,10 +146,10 @@ fn package_all(
     ensures packaged { circuit.new.packager.padding.count ≤ circuit.old.packager.padding.count + 100 }
 {
     let data = EdgeEvent::Data(Bytes::of(alloc, bytes)?);
-    let mut sent = [0; 509];
+    let mut sent_body = [0; 509];
     let mut report = Report {
         cells: 0,
-        last: [0; 20],
+        last_bytes: [0; 20],
     };
     for number in 0..HUNDRED {
         let Some(Phase::Joined) = circuit.phase(key) else {
@@ -159,11 +159,11 @@ fn package_all(
             return Ok(report);
         };
         if let Some(body) = circuit.edge(key, &data).back {
-            sent.copy_from_slice(&body);
+            sent_body.copy_from_slice(&body);
             report.cells = report.cells.saturating_add(1);
         }
     }
-    report.last.copy_from_slice(&sent[5..25]);
+    report.last_bytes.copy_from_slice(&sent_body[5..25]);
     Ok(report)
 }
 
@@ -177,9 +177,9 @@ fn acknowledge(circuit: &mut Circuit, alloc: Global, rules: &Rules) -> Result<()
     ensures packaged { circuit.new.packager.padding.count ≤ circuit.old.packager.padding.count + 3 }
 {
     let of_stream = recognised(command::SENDME, 1, &[]);
-    let _first = circuit.forward(alloc, rules, &of_stream, RELAY)?;
-    let _second = circuit.forward(alloc, rules, &of_stream, RELAY)?;
+    let _first_effects = circuit.forward(alloc, rules, &of_stream, RELAY)?;
+    let _second_effects = circuit.forward(alloc, rules, &of_stream, RELAY)?;
     let of_circuit = recognised(command::SENDME, 0, &[]);
-    let _raised = circuit.forward(alloc, rules, &of_circuit, RELAY)?;
+    let _raise_effects = circuit.forward(alloc, rules, &of_circuit, RELAY)?;
     Ok(())
 }

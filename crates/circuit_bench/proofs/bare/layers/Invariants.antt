@@ -1,5 +1,5 @@
 use Rattle.std.proofs.Common.{◌≡◌, ◌*◌}
 use Rattle.circuit_bench.proofs.bare.layers.Given as goal
 
-abbrev pub invariant-loop-done : goal.invariant-loop-done
-invariant-loop-done l = l.stream.position ≡ 509 * l._done
+abbrev pub invariant-loop-round : goal.invariant-loop-round
+invariant-loop-round l = l.stream.position ≡ 509 * l._round
