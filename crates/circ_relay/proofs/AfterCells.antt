@@ -32,7 +32,8 @@ effects_of_cell rules log command body m unclosed got = rw (unclosed, got) refl
 
 -- All parts, where the next hop stays.
 pub cell_parts : (c d : Circuit) (rules : Rules) (log : Log) (command : ℕ) (body : List ℕ) (outcome : Effects) → HasParts c log
-    → effects_after rules log (Forward command body) ≡ outcome → outcome.dial ≡ None → outcome.cut ≡ false → place_of outcome.edge ≡ None
+    → effects_after rules log (Forward command body) ≡ outcome → outcome.dial ≡ None → outcome.cut ≡ false
+    → place_of outcome.edge ≡ None
     → d.next_hop ≡ c.next_hop → d.create2 ≡ c.create2 → d.addresses ≡ c.addresses → IsPackagedNext d.packager log outcome.back
     → HasCountsOf d.windows (window_of (after_cell rules log command body))
     → ArePlaces d.places (after_cell rules log command body) → KeepsStreams c.places d.places

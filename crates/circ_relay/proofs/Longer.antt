@@ -210,7 +210,8 @@ step_goes_on c new rules h e place g holds step =
     let changed : new.places ≡ with_held c.places place holds = ap (λ (x : Circuit). x.places) step.rest in
     record {
       unclosed = unclosed_after entry (log rules h) step.close step.before.unclosed;
-      early = ap (λ (x : Circuit). x.early_cells) step.rest ∙ step.before.early ∙ sym (early_after entry (log rules h) step.early);
+      early = ap (λ (x : Circuit). x.early_cells) step.rest ∙ step.before.early
+          ∙ sym (early_after entry (log rules h) step.early);
       made = made_after c new rules step.before.made step.limits;
       parts = parts_after c new entry (log rules h) step.before.parts step.aside
           (ap (λ (x : Circuit). x.next_hop) step.rest) (ap (λ (x : Circuit). x.create2) step.rest) (ap (λ (x : Circuit). x.addresses) step.rest)

@@ -52,7 +52,8 @@ owed_by log false is =
 
 -- A SENDME is right where the answer to it is Good.
 
-good_by_same : (same : Bool) (sent_proof owed_proof : List ℕ) → same ≡ is_good (if same then Good else Wrong owed_proof sent_proof)
+good_by_same : (same : Bool) (sent_proof owed_proof : List ℕ)
+    → same ≡ is_good (if same then Good else Wrong owed_proof sent_proof)
 good_by_same true sent_proof owed_proof = refl
 good_by_same false sent_proof owed_proof = refl
 
@@ -61,7 +62,8 @@ abbrev judged_by : Bool → Option (List ℕ) → Option (List ℕ) → ProofAns
 judged_by unproved owed_proof sent_proof = if unproved then judged owed_proof None else judged_if_read owed_proof sent_proof
 
 good_by : (unproved whole : Bool) (owed_proof : List ℕ) (sent_proof : Option (List ℕ)) →
-    (whole && (unproved || proves owed_proof sent_proof)) ≡ is_good (judged_by unproved (if whole then Some owed_proof else None) sent_proof)
+    (whole && (unproved || proves owed_proof sent_proof)) ≡
+    is_good (judged_by unproved (if whole then Some owed_proof else None) sent_proof)
 good_by true true owed_proof sent_proof = refl
 good_by true false owed_proof sent_proof = refl
 good_by false true owed_proof None = refl

@@ -110,7 +110,8 @@ unrecognised_received : (opened : Opened) (log : Log) (command : ℕ) (body : Li
 unrecognised_received opened log command body cell is =
     cell_received opened log command body false (fits_length opened.body) cell (is_unrecognised opened log command body cell is) refl
 
-pub passed_on_does : (opened : Opened) (rules : Rules) (log : Log) (command : ℕ) (body : List ℕ) → IsNextCell opened log command body
+pub passed_on_does : (opened : Opened) (rules : Rules) (log : Log) (command : ℕ) (body : List ℕ)
+    → IsNextCell opened log command body
     → opened.recognised ≡ None
     → effects_after rules log (Forward command body) ≡ passed_on (next_hop log) (record { command = command; body = opened.body })
 passed_on_does opened rules log command body cell is =
