@@ -31,7 +31,7 @@ struct Times {
     layer: Section,
     layer_and_digest: Section,
     clock: Section,
-    taken: Section,
+    taken_section: Section,
     dropped: Section,
     answered: Section,
 }
@@ -46,7 +46,7 @@ fn add_round(
     times.layer = times.layer.with(layer(rt)?);
     times.layer_and_digest = times.layer_and_digest.with(layer_and_digest(rt)?);
     times.clock = times.clock.with(clock_alone(rt, request)?);
-    times.taken = times.taken.with(taken(rt, alloc)?);
+    times.taken_section = times.taken_section.with(taken(rt, alloc)?);
     times.dropped = times.dropped.with(dropped(rt, alloc, request)?);
     times.answered = times.answered.with(answered(rt, alloc, request)?);
     Ok(())
@@ -70,7 +70,7 @@ fn run(rt: &(impl CpuClock + Print), alloc: Global, request: Request) -> io::Res
         layer: NOTHING,
         layer_and_digest: NOTHING,
         clock: NOTHING,
-        taken: NOTHING,
+        taken_section: NOTHING,
         dropped: NOTHING,
         answered: NOTHING,
     };
@@ -81,7 +81,7 @@ fn run(rt: &(impl CpuClock + Print), alloc: Global, request: Request) -> io::Res
     print_time(rt, "layer", times.layer, rounds)?;
     print_time(rt, "layer_and_digest", times.layer_and_digest, rounds)?;
     print_time(rt, "clock", times.clock, rounds)?;
-    print_time(rt, "taken", times.taken, rounds)?;
+    print_time(rt, "taken", times.taken_section, rounds)?;
     print_time(rt, "dropped", times.dropped, rounds)?;
     print_time(rt, "answered", times.answered, rounds)
 }

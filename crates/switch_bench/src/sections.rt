@@ -25,9 +25,9 @@ pub(crate) fn taken(rt: &impl CpuClock, alloc: Global) -> io::Result<Section> {
     let rounds = sealed_rounds(alloc, &drop_body())?;
     let mut switch = with_room(alloc, rounds.untimed.as_slice())?;
     let start = now(rt)?;
-    let waiting = take_all(&mut switch, rounds.timed.as_slice());
+    let waiting_count = take_all(&mut switch, rounds.timed.as_slice());
     let end = now(rt)?;
-    Ok(Section::between(start, end, waiting))
+    Ok(Section::between(start, end, waiting_count))
 }
 
 /// Cells forth that nothing comes of: DROPs.

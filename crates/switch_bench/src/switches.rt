@@ -68,13 +68,13 @@ pub(crate) fn take_all(switch: &mut Switch, cells: &[Brought]) -> u32
     requires cells { length cells.now ≤ 512 }
     ensures { switch.new.state.steps ≤ switch.old.state.steps + 512 }
 {
-    let mut waiting = 0u32;
+    let mut waiting_count = 0u32;
     for brought in cells {
         if switch.take(CHANNEL, &brought.cell) == TakeAnswer::Queued {
-            waiting = waiting.saturating_add(1);
+            waiting_count = waiting_count.saturating_add(1);
         }
     }
-    waiting
+    waiting_count
 }
 
 /// A claim is worked and comes home: how many bodies it had.
@@ -113,13 +113,13 @@ fn leave(switch: &mut Switch, most: u32) -> u32
     requires most { most ≤ 512 }
     ensures { switch.new.state.steps ≤ switch.old.state.steps + most }
 {
-    let mut left = 0u32;
+    let mut left_count = 0u32;
     for _cell in 0..most {
         if switch.next_cell(CHANNEL, 0).is_some() {
-            left = left.saturating_add(1);
+            left_count = left_count.saturating_add(1);
         }
     }
-    left
+    left_count
 }
 
 /// Cells are taken, and each batch of them is worked and comes home: how many bodies came home.
@@ -128,13 +128,13 @@ pub(crate) fn forth(switch: &mut Switch, cells: &[Brought], batch: u32) -> Resul
     requires cells { length cells.now ≤ 512 }
 {
     let mut home = 0u32;
-    let mut taken = 0u32;
+    let mut taken_count = 0u32;
     for brought in cells {
         let _answer = switch.take(CHANNEL, &brought.cell);
-        taken = taken.saturating_add(1);
-        if taken >= batch {
+        taken_count = taken_count.saturating_add(1);
+        if taken_count >= batch {
             home = home.saturating_add(come_home(switch)?);
-            taken = 0;
+            taken_count = 0;
         }
     }
     Ok(home)
@@ -153,18 +153,18 @@ pub(crate) fn back(
     requires batch { batch ≤ 32 }
 {
     let mut section = NOTHING;
-    let mut taken = 0u32;
+    let mut taken_count = 0u32;
     for brought in cells {
         let _answer = switch.take(CHANNEL, &brought.cell);
-        taken = taken.saturating_add(1);
-        if taken >= batch {
+        taken_count = taken_count.saturating_add(1);
+        if taken_count >= batch {
             let _forth = come_home(switch)?;
             let start = now(rt)?;
             let _back = come_home(switch)?;
-            let left = leave(switch, batch);
+            let left_count = leave(switch, batch);
             let end = now(rt)?;
-            section = section.with(Section::between(start, end, left));
-            taken = 0;
+            section = section.with(Section::between(start, end, left_count));
+            taken_count = 0;
         }
     }
     Ok(section)
