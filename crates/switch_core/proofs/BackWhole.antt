@@ -32,7 +32,7 @@ use Rattle.switch_model.specs.History.EdgePast.{EdgePast, edge_past}
 use Rattle.switch_model.specs.History.Legs.{holds_id}
 use Rattle.switch_model.specs.History.Past.{Past, past}
 use Rattle.switch_model.specs.Answers.EdgeOut.{Ordered}
-use Rattle.switch_model.specs.Start.{Start}
+use Rattle.switch_model.specs.Start.{SwitchStart}
 use Rattle.switch_model.proofs.Common.{self_eq}
 use Rattle.switch_machine.specs.Adds.{AddsTo}
 use Rattle.switch_machine.specs.Calls.GiveBack.{done_result, first_kept, give_back_result, give_back_state, return_result_on, sealed_cells}
@@ -60,7 +60,7 @@ pub record IsHomeBack (name : ℕ) (s : State) (relays : List (Option Relay)) (d
   pub inside : done.note.circ.0 < length s.circuits
   pub live : slot_at s.circuits done.note.circ.0 ≡ Some x
   pub back : done.note.dir ≡ Back
-  pub out : x.back.kept ≡ Some k
+  pub out : x.back.claim_out ≡ Some k
   pub its : k.note ≡ done.note
   pub noted : is_note done.note (Some k.note) ≡ true
   pub relay_there : slot_at relays done.note.circ.0 ≡ Some relay
@@ -69,28 +69,28 @@ pub record IsHomeBack (name : ℕ) (s : State) (relays : List (Option Relay)) (d
   pub input : done.input.items ≡ map body_of k.cells
 
 -- no more is out than was claimed
-pub back_out : (start : Start) (s : State) (h : List Step) (c : ℕ) (x : CircuitState) → Stands start s h → slot_at s.circuits c ≡ Some x → kept_length x.back.kept ≤ x.back.claimed
+pub back_out : (start : SwitchStart) (s : State) (h : List Step) (c : ℕ) (x : CircuitState) → Stands start s h → slot_at s.circuits c ≡ Some x → kept_length x.back.claim_out ≤ x.back.claimed_count
 back_out start s h c x st live =
     let own = circuit_stands start s h c x st live in
-    omega (arith, own.back.out, kept-count x.back.kept)
+    omega (arith, own.back.out, kept-count x.back.claim_out)
 
 -- the answer
 
 passed-result : (name : ℕ) (rules : Rules) (ev : ℕ → List Event) (s : State) (note : ClaimNote) (x : CircuitState) → (note.switch == name) ≡ true → nat_lt note.circ.0 (length s.circuits) ≡ true → slot_at s.circuits note.circ.0 ≡ Some x → note.dir ≡ Back →
-    is_note note (kept_note x.back.kept) ≡ true → give_back_result name rules ev s note None ≡ BackAnswer.Settled
+    is_note note (kept_note x.back.claim_out) ≡ true → give_back_result name rules ev s note None ≡ BackAnswer.Settled
 passed-result name rules ev s note x same inside live back noted =
-    let way_noted : is_note note (kept_note (way_of_circuit x note.dir).kept) ≡ true = ap (λ d. is_note note (kept_note (way_of_circuit x d).kept)) back ∙ noted in
+    let way_noted : is_note note (kept_note (way_of_circuit x note.dir).claim_out) ≡ true = ap (λ d. is_note note (kept_note (way_of_circuit x d).claim_out)) back ∙ noted in
     ap (λ b. if not b then BackAnswer.Stranger (Difference.Note None note) else (if not (nat_lt note.circ.0 (length s.circuits)) then BackAnswer.Stranger (Difference.Note None note) else return_result_on note None (slot_at s.circuits note.circ.0) (λ y. done_result rules (ev note.circ.0) y note.dir))) same
     ∙ ap (λ b. if not b then BackAnswer.Stranger (Difference.Note None note) else return_result_on note None (slot_at s.circuits note.circ.0) (λ y. done_result rules (ev note.circ.0) y note.dir)) inside
     ∙ ap (λ o. return_result_on note None o (λ y. done_result rules (ev note.circ.0) y note.dir)) live
-    ∙ ap (λ b. if not b then BackAnswer.Stranger (Difference.Note (kept_note (way_of_circuit x note.dir).kept) note) else done_result rules (ev note.circ.0) x note.dir) way_noted
+    ∙ ap (λ b. if not b then BackAnswer.Stranger (Difference.Note (kept_note (way_of_circuit x note.dir).claim_out) note) else done_result rules (ev note.circ.0) x note.dir) way_noted
     ∙ ap (done_result rules (ev note.circ.0) x) back
 
 result-is : (name : ℕ) (rules : Rules) (ev : ℕ → List Event) (s : State) (relays : List (Option Relay)) (done : DoneParts) (x : CircuitState) (k : KeptClaim) (relay : Relay) → IsHomeBack name s relays done x k relay → give_back_result name rules ev s done.note None ≡ BackAnswer.Settled
 result-is name rules ev s relays done x k relay home =
     let same : (done.note.switch == name) ≡ true = grind (arith, nat_tests, home.name_is) in
     let inside : nat_lt done.note.circ.0 (length s.circuits) ≡ true = grind (arith, nat_tests, home.inside) in
-    let noted : is_note done.note (kept_note x.back.kept) ≡ true = ap (λ o. is_note done.note (kept_note o)) home.out ∙ home.noted in
+    let noted : is_note done.note (kept_note x.back.claim_out) ≡ true = ap (λ o. is_note done.note (kept_note o)) home.out ∙ home.noted in
     passed-result name rules ev s done.note x same inside home.live home.back noted
 
 -- the cells that leave
@@ -115,16 +115,16 @@ end-is key n count done is start its =
     (worked-by key n done.start done.input.items done.output.items done.end is.worked start).1 ∙ ap (λ m. back_cipher (record { key = key; position = m })) place
 
 -- they are numbered from those that were sealed before
-first-by : (c sealed : ℕ) (l : List CircuitCell) (kept : Option KeptClaim) (k : KeptClaim) → IsNoted c Back (length (take sealed l)) kept → kept ≡ Some k → sealed ≤ length l → k.note.first ≡ sealed
+first-by : (c sealed : ℕ) (l : List CircuitCell) (claim_out : Option KeptClaim) (k : KeptClaim) → IsNoted c Back (length (take sealed l)) claim_out → claim_out ≡ Some k → sealed ≤ length l → k.note.first ≡ sealed
 first-by c sealed l None k noted is few = cc
 first-by c sealed l (Some other) k noted is few =
     let same : other ≡ k = cc in
     ap (λ (x : KeptClaim). x.note.first) (sym same) ∙ noted.first ∙ length-take-le sealed l few
 
-sealed-first : (rules : Rules) (closes : List Ordered) (x : CircuitState) (c : ℕ) (p : Past) (has_id : ℕ → Bool) (e : EdgePast) (k : KeptClaim) → CircuitStands rules closes x c p has_id e → x.back.kept ≡ Some k → k.note.first ≡ p.sealed_count
+sealed-first : (rules : Rules) (closes : List Ordered) (x : CircuitState) (c : ℕ) (p : Past) (has_id : ℕ → Bool) (e : EdgePast) (k : KeptClaim) → CircuitStands rules closes x c p has_id e → x.back.claim_out ≡ Some k → k.note.first ≡ p.sealed_count
 sealed-first rules closes x c p has_id e k own out =
     let few : p.sealed_count ≤ length (relay_cells (behind (log rules p.events))) = omega (arith, own.sealed, length-map {B = CircuitCell} (behind (log rules p.events)) (λ body. record { command = 3; body = body })) in
-    first-by c p.sealed_count (relay_cells (behind (log rules p.events))) x.back.kept k own.back.noted out few
+    first-by c p.sealed_count (relay_cells (behind (log rules p.events))) x.back.claim_out k own.back.noted out few
 
 -- what the history says of the circuit
 
@@ -145,10 +145,10 @@ relay-sealed rules ev n count relay next done is stands start its circuit forth 
 -- the step
 
 state-by : (name : ℕ) (rules : Rules) (ev : ℕ → List Event) (s : State) (note : ClaimNote) (x : CircuitState) (cells : List CircuitCell) → slot_at s.circuits note.circ.0 ≡ Some x → note.dir ≡ Back → give_back_result name rules ev s note None ≡ BackAnswer.Settled →
-    cells ≡ sealed_cells (born_keys (log rules (ev note.circ.0))).kb (first_kept x.back.kept) (kept_cells x.back.kept) → sealed_by s note.circ.0 cells ≡ give_back_state name rules ev s note None
+    cells ≡ sealed_cells (born_keys (log rules (ev note.circ.0))).kb (first_kept x.back.claim_out) (kept_cells x.back.claim_out) → sealed_by s note.circ.0 cells ≡ give_back_state name rules ev s note None
 state-by name rules ev s note x cells live back result is = rw (result, live, back, is) refl
 
-pub back_whole : (start : Start) (old new : State) (relays after : List (Option Relay)) (done : DoneParts) (x : CircuitState) (k : KeptClaim) (relay next : Relay) → IsHomeBack start.name old relays done x k relay → new ≡ sealed_by old done.note.circ.0 (sealed_cells_of done.output.items) →
+pub back_whole : (start : SwitchStart) (old new : State) (relays after : List (Option Relay)) (done : DoneParts) (x : CircuitState) (k : KeptClaim) (relay next : Relay) → IsHomeBack start.name old relays done x k relay → new ≡ sealed_by old done.note.circ.0 (sealed_cells_of done.output.items) →
     next.circuit ≡ relay.circuit → next.forth ≡ relay.forth → next.back ≡ done.end → PutsRelay relays after done.note.circ.0 next → SwitchAdds (started start old relays) (started start new after) (GiveBack done.note None BackAnswer.Settled)
 unfolding SwitchAdds AddsTo
 back_whole start old new relays after done x k relay next home state_is circuit forth back puts = record {
@@ -162,7 +162,7 @@ back_whole start old new relays after done x k relay next home state_is circuit 
       let stands : RelayStands relay start.rules ev p.sealed_count = relay_of _ (slot_at relays c) relay start.rules ev _ (st.relays.relay c) own.live home.relay_there in
       let key = (born_keys (log start.rules ev)).kb in
       let cells = cells-are key p.sealed_count k.cells done home.job (home.start ∙ stands.back) home.input in
-      let put : sealed_cells_of done.output.items ≡ sealed_cells key (first_kept x.back.kept) (kept_cells x.back.kept) =
+      let put : sealed_cells_of done.output.items ≡ sealed_cells key (first_kept x.back.claim_out) (kept_cells x.back.claim_out) =
       cells ∙ ap (λ n. all_sealed key n (map body_of k.cells)) (sym (sealed-first start.rules old.last_closes x c p (λ j. holds_id h c j) (edge_past start.rules h c) k own home.out)) ∙ ap (λ o. sealed_cells key (first_kept o) (kept_cells o)) (sym home.out) in
       let result = result-is start.name start.rules (λ d. events start.rules h d) old relays done x k relay home in
       let state : new ≡ give_back_state start.name start.rules (λ d. events start.rules h d) old done.note None =

@@ -7,7 +7,7 @@ use Rattle.tr_io.specs.declared.answers.ClaimAnswer.TheVariants as Claims
 use Rattle.tr_io.specs.declared.names.ClaimNote.{ClaimNote}
 use Rattle.tr_io.specs.declared.step.Step.TheVariants.{Claim}
 use Rattle.switch_model.specs.Limits.{worker_limit}
-use Rattle.switch_model.specs.Start.{Start}
+use Rattle.switch_model.specs.Start.{SwitchStart}
 use Rattle.switch_machine.specs.Calls.Claim.{claim_result, claim_state, claim_state_by, claimed_circuit}
 use Rattle.switch_machine.specs.Machine.{way_of_circuit}
 use Rattle.switch_machine.specs.State.{ChannelState, CircuitState, State, slot_at, with_slot}
@@ -45,7 +45,7 @@ taken-with n note None may few = tt
 taken-with n note (Some x) may few =
     let there : Some x ≡ Some may.circuit = may.live in
     let same : may.circuit ≡ x = cc in
-    let enough : note.count ≤ length (way_of_circuit x note.dir).waiting = subst (λ (y : CircuitState). note.count ≤ length (way_of_circuit y note.dir).waiting) same may.enough in
+    let enough : note.count ≤ length (way_of_circuit x note.dir).waiting_bodies = subst (λ (y : CircuitState). note.count ≤ length (way_of_circuit y note.dir).waiting_bodies) same may.enough in
     omega (arith, taken_stays note x enough, few)
 
 pub fits_claimed : (k : Counters) (channels : List ChannelState) (circuits : List (Option CircuitState)) (c : ℕ) (note : ClaimNote) (old new : Option CircuitState) → StepsFit k channels circuits → c < length circuits → old ≡ get_or circuits c old →
@@ -61,13 +61,13 @@ fits_claimed k channels circuits c note old new fits below is may claimed = reco
 }
 
 -- what was taken on a circuit fits 64 bits
-pub forth_fits : (n : ℕ) (x : Option CircuitState) → IfSome x (λ y. taken_count y ≤ n) → n < 2 ^ 62 → IfSome x (λ y. y.forth.claimed + length y.forth.waiting < 2 ^ 64)
+pub forth_fits : (n : ℕ) (x : Option CircuitState) → IfSome x (λ y. taken_count y ≤ n) → n < 2 ^ 62 → IfSome x (λ y. y.forth.claimed_count + length y.forth.waiting_bodies < 2 ^ 64)
 forth_fits n None few below = tt
 forth_fits n (Some x) few below = omega (arith, few, below)
 
 -- the history
 
-pub claimed_whole : (start : Start) (old new : State) (relays : List (Option Relay)) (worker : ℕ) (a : ClaimAnswer JobParts) → worker < worker_limit →
+pub claimed_whole : (start : SwitchStart) (old new : State) (relays : List (Option Relay)) (worker : ℕ) (a : ClaimAnswer JobParts) → worker < worker_limit →
     ClaimCase a (new ≡ old) (new ≡ claim_state start.name old worker) → ClaimCase a ⊤ (given_note a ≡ claim_result start.name old worker) →
     ClaimCase a (started start new relays ≡ started start old relays) (SwitchAdds (started start old relays) (started start new relays) (Claim worker (given_note a)))
 claimed_whole start old new relays worker Claims.Memory known state answer = ap (λ s. started start s relays) state

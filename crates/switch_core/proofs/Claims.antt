@@ -15,50 +15,50 @@ use Rattle.switch_core.proofs.Taken.{taken_count}
 
 -- a direction
 
-pub no_claim : (claimed : ℕ) (claim : Option ClaimNote) (bodies : List WaitingCell) → (way_of claimed claim bodies).kept ≡ None → claim ≡ None
-no_claim claimed None bodies none = refl
-no_claim claimed (Some note) bodies none = cc
+pub no_claim : (claimed_count : ℕ) (claim : Option ClaimNote) (bodies : List WaitingCell) → (way_of claimed_count claim bodies).claim_out ≡ None → claim ≡ None
+no_claim claimed_count None bodies none = refl
+no_claim claimed_count (Some note) bodies none = cc
 
-pub all_wait : (claimed : ℕ) (claim : Option ClaimNote) (bodies : List WaitingCell) → (way_of claimed claim bodies).kept ≡ None → (way_of claimed claim bodies).waiting ≡ bodies
-all_wait claimed None bodies none = refl
-all_wait claimed (Some note) bodies none = cc
+pub all_wait : (claimed_count : ℕ) (claim : Option ClaimNote) (bodies : List WaitingCell) → (way_of claimed_count claim bodies).claim_out ≡ None → (way_of claimed_count claim bodies).waiting_bodies ≡ bodies
+all_wait claimed_count None bodies none = refl
+all_wait claimed_count (Some note) bodies none = cc
 
-pub claimed_as : (claimed : ℕ) (claim : Option ClaimNote) (bodies : List WaitingCell) → (way_of claimed claim bodies).claimed ≡ claimed
-claimed_as claimed None bodies = refl
-claimed_as claimed (Some note) bodies = refl
+pub claimed_as : (claimed_count : ℕ) (claim : Option ClaimNote) (bodies : List WaitingCell) → (way_of claimed_count claim bodies).claimed_count ≡ claimed_count
+claimed_as claimed_count None bodies = refl
+claimed_as claimed_count (Some note) bodies = refl
 
 -- what it offers
 
-pub offer_out : (claimed : ℕ) (claim : Option ClaimNote) (bodies : List WaitingCell) → is_some claim ≡ true → offered_by (Some (way_of claimed claim bodies)) ≡ None
-offer_out claimed None bodies out = absurd cc
-offer_out claimed (Some note) bodies out = refl
+pub offer_out : (claimed_count : ℕ) (claim : Option ClaimNote) (bodies : List WaitingCell) → is_some claim ≡ true → offered_by (Some (way_of claimed_count claim bodies)) ≡ None
+offer_out claimed_count None bodies out = absurd cc
+offer_out claimed_count (Some note) bodies out = refl
 
-pub offer_first : (claimed : ℕ) (claim : Option ClaimNote) (bodies : List WaitingCell) (first : WaitingCell) → is_some claim ≡ false → 0 < length bodies → first ≡ get_or bodies 0 first →
-    offered_by (Some (way_of claimed claim bodies)) ≡ Some first.number
-offer_first claimed (Some note) bodies first out some is = absurd cc
-offer_first claimed None [] first out some is = absurd (omega arith)
-offer_first claimed None (x ∷ bodies) first out some is = ap (λ (w : WaitingCell). Some w.number) (sym is)
+pub offer_first : (claimed_count : ℕ) (claim : Option ClaimNote) (bodies : List WaitingCell) (first : WaitingCell) → is_some claim ≡ false → 0 < length bodies → first ≡ get_or bodies 0 first →
+    offered_by (Some (way_of claimed_count claim bodies)) ≡ Some first.number
+offer_first claimed_count (Some note) bodies first out some is = absurd cc
+offer_first claimed_count None [] first out some is = absurd (omega arith)
+offer_first claimed_count None (x ∷ bodies) first out some is = ap (λ (w : WaitingCell). Some w.number) (sym is)
 
 pub empty_by : (n : ℕ) → (0 < n → false ≡ true) → n ≡ 0
 empty_by zero none = refl
 empty_by (suc n) none = let some : false ≡ true = none (omega arith) in absurd cc
 
-pub offer_empty : (claimed : ℕ) (claim : Option ClaimNote) (bodies : List WaitingCell) → length bodies ≡ 0 → offered_by (Some (way_of claimed claim bodies)) ≡ None
-offer_empty claimed (Some note) bodies none = refl
-offer_empty claimed None [] none = refl
-offer_empty claimed None (x ∷ bodies) none = absurd (omega arith)
+pub offer_empty : (claimed_count : ℕ) (claim : Option ClaimNote) (bodies : List WaitingCell) → length bodies ≡ 0 → offered_by (Some (way_of claimed_count claim bodies)) ≡ None
+offer_empty claimed_count (Some note) bodies none = refl
+offer_empty claimed_count None [] none = refl
+offer_empty claimed_count None (x ∷ bodies) none = absurd (omega arith)
 
 -- how many bodies are out
 
-pub out_some : (claimed : ℕ) (claim : Option ClaimNote) (bodies : List WaitingCell) (note : ClaimNote) → IfSome claim (λ n. n.count ≤ length bodies) → claim ≡ Some note → kept_length (way_of claimed claim bodies).kept ≡ note.count
-out_some claimed None bodies note fits is = absurd cc
-out_some claimed (Some n) bodies note fits is =
+pub out_some : (claimed_count : ℕ) (claim : Option ClaimNote) (bodies : List WaitingCell) (note : ClaimNote) → IfSome claim (λ n. n.count ≤ length bodies) → claim ≡ Some note → kept_length (way_of claimed_count claim bodies).claim_out ≡ note.count
+out_some claimed_count None bodies note fits is = absurd cc
+out_some claimed_count (Some n) bodies note fits is =
     let same : n ≡ note = cc in
     length-map (take n.count bodies) _ ∙ length-take-le n.count bodies fits ∙ ap (λ (m : ClaimNote). m.count) same
 
-pub out_none : (claimed : ℕ) (claim : Option ClaimNote) (bodies : List WaitingCell) → claim ≡ None → kept_length (way_of claimed claim bodies).kept ≡ 0
-out_none claimed None bodies is = refl
-out_none claimed (Some n) bodies is = absurd cc
+pub out_none : (claimed_count : ℕ) (claim : Option ClaimNote) (bodies : List WaitingCell) → claim ≡ None → kept_length (way_of claimed_count claim bodies).claim_out ≡ 0
+out_none claimed_count None bodies is = refl
+out_none claimed_count (Some n) bodies is = absurd cc
 
 -- one body more of the first
 taken-suc : (bodies : List WaitingCell) (n : ℕ) (d : WaitingCell) → n < length bodies → first_bodies (suc n) bodies ≡ first_bodies n bodies ++ (get_or bodies n d).cell.body ∷ []
@@ -70,9 +70,9 @@ pub taken_more : (bodies : List WaitingCell) (n : ℕ) (d : WaitingCell) → n <
 taken_more bodies n d here = rw (add-one n) (taken-suc bodies n d here)
 
 -- a copy of one more
-pub one_copied : (items waiting : List WaitingCell) (n : ℕ) (d : WaitingCell) (payload : List ℕ) (old new : List (List ℕ)) → items ≡ waiting → n < length items → d ≡ get_or items n d → payload ≡ d.cell.body →
-    old ≡ first_bodies n waiting → new ≡ old ++ payload ∷ [] → new ≡ first_bodies (n + 1) waiting
-one_copied items waiting n d payload old new same below item body old_is new_is =
+pub one_copied : (items waiting_bodies : List WaitingCell) (n : ℕ) (d : WaitingCell) (payload : List ℕ) (old new : List (List ℕ)) → items ≡ waiting_bodies → n < length items → d ≡ get_or items n d → payload ≡ d.cell.body →
+    old ≡ first_bodies n waiting_bodies → new ≡ old ++ payload ∷ [] → new ≡ first_bodies (n + 1) waiting_bodies
+one_copied items waiting_bodies n d payload old new same below item body old_is new_is =
     new_is
     ∙ ap (λ (l : List (List ℕ)). l ++ payload ∷ []) (old_is ∙ ap (first_bodies n) (sym same))
     ∙ ap (λ (p : List ℕ). first_bodies n items ++ p ∷ []) (body ∙ ap (λ (w : WaitingCell). w.cell.body) item)
@@ -80,22 +80,22 @@ one_copied items waiting n d payload old new same below item body old_is new_is 
     ∙ ap (first_bodies (n + 1)) same
 
 -- the first bodies that wait go out
-pub given_out : (note : ClaimNote) (claimed : ℕ) (claim : Option ClaimNote) (bodies : List WaitingCell) → (way_of claimed claim bodies).kept ≡ None →
-    way_of (claimed + note.count) (Some note) bodies ≡ claimed_way note (way_of claimed claim bodies)
-given_out note claimed None bodies none = refl
-given_out note claimed (Some other) bodies none = absurd cc
+pub given_out : (note : ClaimNote) (claimed_count : ℕ) (claim : Option ClaimNote) (bodies : List WaitingCell) → (way_of claimed_count claim bodies).claim_out ≡ None →
+    way_of (claimed_count + note.count) (Some note) bodies ≡ claimed_way note (way_of claimed_count claim bodies)
+given_out note claimed_count None bodies none = refl
+given_out note claimed_count (Some other) bodies none = absurd cc
 
 -- how many are out then
-pub out_length : (note : ClaimNote) (w : WayState) → note.count ≤ length w.waiting → kept_length (claimed_way note w).kept ≡ note.count
-out_length note w enough = length-map (take note.count w.waiting) (λ (x : WaitingCell). x.cell) ∙ length-take-le note.count w.waiting enough
+pub out_length : (note : ClaimNote) (w : WayState) → note.count ≤ length w.waiting_bodies → kept_length (claimed_way note w).claim_out ≡ note.count
+out_length note w enough = length-map (take note.count w.waiting_bodies) (λ (x : WaitingCell). x.cell) ∙ length-take-le note.count w.waiting_bodies enough
 
 pub none_length : (k : Option KeptClaim) → k ≡ None → kept_length k ≡ 0
 none_length None none = refl
 none_length (Some k) none = cc
 
 -- as many came home as before
-pub home_stays : (note : ClaimNote) (w : WayState) → w.kept ≡ None → note.count ≤ length w.waiting → home_count (claimed_way note w) ≡ home_count w
-home_stays note w none enough = let out = out_length note w enough in let zero_out = none_length w.kept none in omega (arith, out, zero_out)
+pub home_stays : (note : ClaimNote) (w : WayState) → w.claim_out ≡ None → note.count ≤ length w.waiting_bodies → home_count (claimed_way note w) ≡ home_count w
+home_stays note w none enough = let out = out_length note w enough in let zero_out = none_length w.claim_out none in omega (arith, out, zero_out)
 
 -- a circuit with a claim out
 
@@ -111,7 +111,7 @@ sent-as : (leg : LegState) (forth back : WayState) (orders : OrdersState) (note 
     ◌≡◌ {A = CircuitState} (record (circuit_of leg forth (claimed_way note back) orders) { sent_count = 1 + m - length leg.queue }) (record (circuit_of leg forth back orders) { back = claimed_way note back })
 sent-as leg forth back orders note m same = rw same refl
 
-pub given_back : (x : CircuitState) (leg leg_now : LegState) (forth back back_now : WayState) (orders : OrdersState) (note : ClaimNote) → circuit_of leg forth back orders ≡ x → back_now ≡ claimed_way note back → leg_now ≡ leg → back.kept ≡ None → note.count ≤ length back.waiting →
+pub given_back : (x : CircuitState) (leg leg_now : LegState) (forth back back_now : WayState) (orders : OrdersState) (note : ClaimNote) → circuit_of leg forth back orders ≡ x → back_now ≡ claimed_way note back → leg_now ≡ leg → back.claim_out ≡ None → note.count ≤ length back.waiting_bodies →
     circuit_of leg_now forth back_now orders ≡ record x { back = claimed_way note x.back }
 given_back x leg leg_now forth back back_now orders note is out same none enough =
     ap {A = WayState} (λ w. circuit_of leg_now forth w orders) out
@@ -125,9 +125,9 @@ given_back x leg leg_now forth back back_now orders note is out same none enough
 pub fits_more : (leg : WithRoom LegState) (forth back back_now : WithRoom WayState) (orders orders_now : RoomyOrders) → CircuitFits leg forth back orders → back_now.state ≡ back.state → back.spare ≤ back_now.spare → orders.spare ≤ orders_now.spare → orders.rooms ≤ orders_now.rooms →
     CircuitFits leg forth back_now orders_now
 fits_more leg forth back back_now orders orders_now fits same room orders_room rooms =
-    let claimed_same : back_now.state.claimed ≡ back.state.claimed = ap (λ (w : WayState). w.claimed) same in
-    let waiting_same : length back_now.state.waiting ≡ length back.state.waiting = ap (λ (w : WayState). length w.waiting) same in
-    let out_same : kept_length back_now.state.kept ≡ kept_length back.state.kept = ap (λ (w : WayState). kept_length w.kept) same in
+    let claimed_same : back_now.state.claimed_count ≡ back.state.claimed_count = ap (λ (w : WayState). w.claimed_count) same in
+    let waiting_same : length back_now.state.waiting_bodies ≡ length back.state.waiting_bodies = ap (λ (w : WayState). length w.waiting_bodies) same in
+    let out_same : kept_length back_now.state.claim_out ≡ kept_length back.state.claim_out = ap (λ (w : WayState). kept_length w.claim_out) same in
     record {
       queued = omega (arith, fits.queued, claimed_same, out_same);
       packaged = omega (arith, fits.packaged, claimed_same, waiting_same);
@@ -138,14 +138,14 @@ fits_more leg forth back back_now orders orders_now fits same room orders_room r
     }
 
 pub fits_forth : (leg : WithRoom LegState) (forth forth_now back back_now : WithRoom WayState) (orders orders_now : RoomyOrders) (note : ClaimNote) → CircuitFits leg forth back orders → forth_now.state ≡ claimed_way note forth.state → back_now.state ≡ back.state →
-    note.count ≤ back_now.spare → note.count ≤ orders_now.spare → note.count ≤ orders_now.rooms → forth.state.kept ≡ None → note.count ≤ length forth.state.waiting → CircuitFits leg forth_now back_now orders_now
+    note.count ≤ back_now.spare → note.count ≤ orders_now.spare → note.count ≤ orders_now.rooms → forth.state.claim_out ≡ None → note.count ≤ length forth.state.waiting_bodies → CircuitFits leg forth_now back_now orders_now
 fits_forth leg forth forth_now back back_now orders orders_now note fits out same room orders_room rooms none enough =
-    let out_now : kept_length forth_now.state.kept ≡ note.count = ap (λ (w : WayState). kept_length w.kept) out ∙ out_length note forth.state enough in
-    let claimed_now : forth_now.state.claimed ≡ forth.state.claimed + note.count = ap (λ (w : WayState). w.claimed) out in
-    let none_before : kept_length forth.state.kept ≡ 0 = none_length forth.state.kept none in
-    let claimed_same : back_now.state.claimed ≡ back.state.claimed = ap (λ (w : WayState). w.claimed) same in
-    let waiting_same : length back_now.state.waiting ≡ length back.state.waiting = ap (λ (w : WayState). length w.waiting) same in
-    let out_same : kept_length back_now.state.kept ≡ kept_length back.state.kept = ap (λ (w : WayState). kept_length w.kept) same in
+    let out_now : kept_length forth_now.state.claim_out ≡ note.count = ap (λ (w : WayState). kept_length w.claim_out) out ∙ out_length note forth.state enough in
+    let claimed_now : forth_now.state.claimed_count ≡ forth.state.claimed_count + note.count = ap (λ (w : WayState). w.claimed_count) out in
+    let none_before : kept_length forth.state.claim_out ≡ 0 = none_length forth.state.claim_out none in
+    let claimed_same : back_now.state.claimed_count ≡ back.state.claimed_count = ap (λ (w : WayState). w.claimed_count) same in
+    let waiting_same : length back_now.state.waiting_bodies ≡ length back.state.waiting_bodies = ap (λ (w : WayState). length w.waiting_bodies) same in
+    let out_same : kept_length back_now.state.claim_out ≡ kept_length back.state.claim_out = ap (λ (w : WayState). kept_length w.claim_out) same in
     record {
       queued = omega (arith, fits.queued, claimed_same, out_same);
       packaged = omega (arith, fits.packaged, claimed_same, waiting_same, out_now, claimed_now, none_before);
@@ -156,12 +156,12 @@ fits_forth leg forth forth_now back back_now orders orders_now note fits out sam
     }
 
 pub fits_back : (leg leg_now : WithRoom LegState) (forth back back_now : WithRoom WayState) (orders : RoomyOrders) (note : ClaimNote) → CircuitFits leg forth back orders → back_now.state ≡ claimed_way note back.state → back_now.spare ≡ back.spare →
-    leg_now.state ≡ leg.state → note.count ≤ leg_now.spare → back.state.kept ≡ None → note.count ≤ length back.state.waiting → CircuitFits leg_now forth back_now orders
+    leg_now.state ≡ leg.state → note.count ≤ leg_now.spare → back.state.claim_out ≡ None → note.count ≤ length back.state.waiting_bodies → CircuitFits leg_now forth back_now orders
 fits_back leg leg_now forth back back_now orders note fits out spare same room none enough =
-    let out_now : kept_length back_now.state.kept ≡ note.count = ap (λ (w : WayState). kept_length w.kept) out ∙ out_length note back.state enough in
-    let claimed_now : back_now.state.claimed ≡ back.state.claimed + note.count = ap (λ (w : WayState). w.claimed) out in
-    let waiting_now : length back_now.state.waiting ≡ length back.state.waiting - note.count = ap (λ (w : WayState). length w.waiting) out ∙ length-drop note.count back.state.waiting in
-    let none_before : kept_length back.state.kept ≡ 0 = none_length back.state.kept none in
+    let out_now : kept_length back_now.state.claim_out ≡ note.count = ap (λ (w : WayState). kept_length w.claim_out) out ∙ out_length note back.state enough in
+    let claimed_now : back_now.state.claimed_count ≡ back.state.claimed_count + note.count = ap (λ (w : WayState). w.claimed_count) out in
+    let waiting_now : length back_now.state.waiting_bodies ≡ length back.state.waiting_bodies - note.count = ap (λ (w : WayState). length w.waiting_bodies) out ∙ length-drop note.count back.state.waiting_bodies in
+    let none_before : kept_length back.state.claim_out ≡ 0 = none_length back.state.claim_out none in
     let queue_same : length leg_now.state.queue ≡ length leg.state.queue = ap (λ (l : LegState). length l.queue) same in
     record {
       queued = omega (arith, fits.queued, out_now, claimed_now, none_before, queue_same);
@@ -174,24 +174,24 @@ fits_back leg leg_now forth back back_now orders note fits out spare same room n
 
 -- what may be claimed of a live circuit
 pub record ClaimOf (x : CircuitState) (note : ClaimNote) : Type 0 where
-  pub none_out : (way_of_circuit x note.dir).kept ≡ None
-  pub enough : note.count ≤ length (way_of_circuit x note.dir).waiting
+  pub none_out : (way_of_circuit x note.dir).claim_out ≡ None
+  pub enough : note.count ≤ length (way_of_circuit x note.dir).waiting_bodies
 
 pub claim_of : (slot : Option CircuitState) (x : CircuitState) (note : ClaimNote) → slot ≡ Some x → MayClaim slot note → ClaimOf x note
 claim_of slot x note live may =
     let there : slot ≡ Some may.circuit = may.live in
     let same : may.circuit ≡ x = cc in
     record {
-      none_out = subst (λ (y : CircuitState). (way_of_circuit y note.dir).kept ≡ None) same may.none_out;
-      enough = subst (λ (y : CircuitState). note.count ≤ length (way_of_circuit y note.dir).waiting) same may.enough;
+      none_out = subst (λ (y : CircuitState). (way_of_circuit y note.dir).claim_out ≡ None) same may.none_out;
+      enough = subst (λ (y : CircuitState). note.count ≤ length (way_of_circuit y note.dir).waiting_bodies) same may.enough;
     }
 
 -- the claims of its directions leave what was taken on a circuit
-taken-by : (note : ClaimNote) (x : CircuitState) (dir : Dir) → note.dir ≡ dir → note.count ≤ length (way_of_circuit x note.dir).waiting → taken_count (with_claim note x) ≡ taken_count x
+taken-by : (note : ClaimNote) (x : CircuitState) (dir : Dir) → note.dir ≡ dir → note.count ≤ length (way_of_circuit x note.dir).waiting_bodies → taken_count (with_claim note x) ≡ taken_count x
 taken-by note x Forth is enough =
-    let few : note.count ≤ length x.forth.waiting = subst (λ d. note.count ≤ length (way_of_circuit x d).waiting) is enough in
-    rw is (omega (arith, few, length-drop note.count x.forth.waiting))
+    let few : note.count ≤ length x.forth.waiting_bodies = subst (λ d. note.count ≤ length (way_of_circuit x d).waiting_bodies) is enough in
+    rw is (omega (arith, few, length-drop note.count x.forth.waiting_bodies))
 taken-by note x Back is enough = rw is refl
 
-pub taken_stays : (note : ClaimNote) (x : CircuitState) → note.count ≤ length (way_of_circuit x note.dir).waiting → taken_count (with_claim note x) ≡ taken_count x
+pub taken_stays : (note : ClaimNote) (x : CircuitState) → note.count ≤ length (way_of_circuit x note.dir).waiting_bodies → taken_count (with_claim note x) ≡ taken_count x
 taken_stays note x enough = taken-by note x note.dir refl enough

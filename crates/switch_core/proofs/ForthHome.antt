@@ -36,7 +36,7 @@ use Rattle.switch_model.specs.History.Legs.{holds_id}
 use Rattle.switch_model.specs.History.Past.{Past, past}
 use Rattle.switch_model.specs.History.Relayed.{settled_forth}
 use Rattle.switch_model.specs.Answers.EdgeOut.{Ordered}
-use Rattle.switch_model.specs.Start.{Start}
+use Rattle.switch_model.specs.Start.{SwitchStart}
 use Rattle.switch_machine.specs.Machine.{kept_cells}
 use Rattle.switch_machine.specs.Stands.{Stands}
 use Rattle.switch_machine.specs.Stands.OneCircuit.{CircuitAt, CircuitStands, relay_cells}
@@ -54,39 +54,39 @@ stands-by : (rules : Rules) (closes : List Ordered) (slot : Option CircuitState)
 stands-by rules closes None x c p has_id e own is = cc
 stands-by rules closes (Some y) x c p has_id e own is = let same : y ≡ x = cc in subst (λ z. CircuitStands rules closes z c p has_id e) same own
 
-pub circuit_stands : (start : Start) (s : State) (h : List Step) (c : ℕ) (x : CircuitState) → Stands start s h → slot_at s.circuits c ≡ Some x →
+pub circuit_stands : (start : SwitchStart) (s : State) (h : List Step) (c : ℕ) (x : CircuitState) → Stands start s h → slot_at s.circuits c ≡ Some x →
     CircuitStands start.rules s.last_closes x c (past start.rules h c) (λ k. holds_id h c k) (edge_past start.rules h c)
 circuit_stands start s h c x st live = stands-by start.rules s.last_closes (slot_at s.circuits c) x c (past start.rules h c) (λ k. holds_id h c k) (edge_past start.rules h c) (st.circuits.circuit c) live
 
 -- its relay
-pub relay_of : (live : Bool) (kept : Option Relay) (relay : Relay) (rules : Rules) (ev : List Event) (sealed : ℕ) → RelayAt live kept rules ev sealed → live ≡ true → kept ≡ Some relay → RelayStands relay rules ev sealed
-relay_of false kept relay rules ev sealed at up is = cc
+pub relay_of : (live : Bool) (kept_relay : Option Relay) (relay : Relay) (rules : Rules) (ev : List Event) (sealed : ℕ) → RelayAt live kept_relay rules ev sealed → live ≡ true → kept_relay ≡ Some relay → RelayStands relay rules ev sealed
+relay_of false kept_relay relay rules ev sealed at up is = cc
 relay_of true None relay rules ev sealed at up is = absurd at
 relay_of true (Some other) relay rules ev sealed at up is = let same : other ≡ relay = cc in subst (λ r. RelayStands r rules ev sealed) same at
 
 -- how many of a direction's bodies came home
 pub home_is : (c : ℕ) (dir : Dir) (way : WayState) (home given : List CircuitCell) (count : ℕ) (known : Option ClaimNote) (all : List ℕ) → WayStands c dir way home given count known all → home_count way ≡ length home
-home_is c dir way home given count known all stands = omega (arith, stands.out, kept-count way.kept)
+home_is c dir way home given count known all stands = omega (arith, stands.out, kept-count way.claim_out)
 
-given-count : (c : ℕ) (dir : Dir) (way : WayState) (home given : List CircuitCell) (count : ℕ) (known : Option ClaimNote) (all : List ℕ) → WayStands c dir way home given count known all → length given ≡ way.claimed + length way.waiting
+given-count : (c : ℕ) (dir : Dir) (way : WayState) (home given : List CircuitCell) (count : ℕ) (known : Option ClaimNote) (all : List ℕ) → WayStands c dir way home given count known all → length given ≡ way.claimed_count + length way.waiting_bodies
 given-count c dir way home given count known all stands =
-    let both : length (home ++ kept_cells way.kept) ≡ length home + length (kept_cells way.kept) = length-append home (kept_cells way.kept) in
-    let all_cells : length (home ++ kept_cells way.kept ++ map cell_waiting way.waiting) ≡ length (home ++ kept_cells way.kept) + length (map cell_waiting way.waiting) = length-append (home ++ kept_cells way.kept) (map cell_waiting way.waiting) in
-    omega (arith, stands.out, both, all_cells, length-map way.waiting cell_waiting, ap length stands.cells)
+    let both : length (home ++ kept_cells way.claim_out) ≡ length home + length (kept_cells way.claim_out) = length-append home (kept_cells way.claim_out) in
+    let all_cells : length (home ++ kept_cells way.claim_out ++ map cell_waiting way.waiting_bodies) ≡ length (home ++ kept_cells way.claim_out) + length (map cell_waiting way.waiting_bodies) = length-append (home ++ kept_cells way.claim_out) (map cell_waiting way.waiting_bodies) in
+    omega (arith, stands.out, both, all_cells, length-map way.waiting_bodies cell_waiting, ap length stands.cells)
 
 -- what the bodies need of the relay
 pub calls_fit : (rules : Rules) (closes : List Ordered) (x : CircuitState) (c : ℕ) (p : Past) (has_id : ℕ → Bool) (e : EdgePast) (relay : Relay) → CircuitStands rules closes x c p has_id e → RelayStands relay rules p.events p.sealed_count → CallsFit (home_count x.forth) relay.circuit
 calls_fit rules closes x c p has_id e relay own stands =
-    subst (λ n. CallsFit n relay.circuit) (sym (home_is c Forth x.forth (settled_forth (log rules p.events)) p.taken_forth (p.claimed Forth) (p.kept Forth) (e.numbers Forth) own.forth)) stands.calls
+    subst (λ n. CallsFit n relay.circuit) (sym (home_is c Forth x.forth (settled_forth (log rules p.events)) p.taken_forth (p.claimed_count Forth) (p.claim_out Forth) (e.numbers Forth) own.forth)) stands.calls
 
 pub relay_is : (rules : Rules) (closes : List Ordered) (x : CircuitState) (c : ℕ) (p : Past) (has_id : ℕ → Bool) (e : EdgePast) (relay : Relay) → CircuitStands rules closes x c p has_id e → p.hops ≡ 0 → RelayStands relay rules p.events p.sealed_count → RelayIs relay.circuit rules p.events x.back
 relay_is rules closes x c p has_id e relay own none stands =
-    let given = given-count c Back x.back (take p.sealed_count (relay_cells (behind (log rules p.events)))) (relay_cells (behind (log rules p.events))) (p.claimed Back) (p.kept Back) (e.numbers Back) own.back in
+    let given = given-count c Back x.back (take p.sealed_count (relay_cells (behind (log rules p.events)))) (relay_cells (behind (log rules p.events))) (p.claimed_count Back) (p.claim_out Back) (e.numbers Back) own.back in
     record {
       circuit = stands.circuit;
       unlinked = own.linked ∙ none;
       behind_is = omega (arith, given, length-map {B = CircuitCell} (behind (log rules p.events)) (λ body. record { command = 3; body = body }));
-      out = omega (arith, own.back.out, kept-count x.back.kept);
+      out = omega (arith, own.back.out, kept-count x.back.claim_out);
     }
 
 -- what came out of the cipher
@@ -94,18 +94,18 @@ worked-by : (layer_log : Log) (start : Cipher) (input : List (List ℕ)) (output
     (output ≡ map opened_from (opened_all (next_layer layer_log) input)) × (end ≡ forth_cipher (opener_of (after_opening_all (next_layer layer_log) input)))
 worked-by layer_log start input output end worked is = subst (λ s. IsWorked s input output end) is worked (next_layer layer_log) refl
 
-pub are_opened : (rules : Rules) (ev : List Event) (x : CircuitState) (done : DoneParts) → IsDoneJob done → done.start ≡ forth_cipher (opener_of (next_layer (log rules ev))) → done.input.items ≡ map body_of (kept_cells x.forth.kept) → AreOpened done.output.items rules ev x
+pub are_opened : (rules : Rules) (ev : List Event) (x : CircuitState) (done : DoneParts) → IsDoneJob done → done.start ≡ forth_cipher (opener_of (next_layer (log rules ev))) → done.input.items ≡ map body_of (kept_cells x.forth.claim_out) → AreOpened done.output.items rules ev x
 are_opened rules ev x done is start input =
     (worked-by (log rules ev) done.start done.input.items done.output.items done.end is.worked start).0
     ∙ ap (λ bodies. map opened_from (opened_all (next_layer (log rules ev)) bodies)) input
-    ∙ ap (map opened_from) (batch_opened rules ev (kept_cells x.forth.kept))
+    ∙ ap (map opened_from) (batch_opened rules ev (kept_cells x.forth.claim_out))
 
-pub end_is : (rules : Rules) (ev : List Event) (x : CircuitState) (done : DoneParts) → IsDoneJob done → done.start ≡ forth_cipher (opener_of (next_layer (log rules ev))) → done.input.items ≡ map body_of (kept_cells x.forth.kept) →
-    done.end ≡ forth_cipher (opener_of (next_layer (log rules (events_behind ev (kept_cells x.forth.kept)))))
+pub end_is : (rules : Rules) (ev : List Event) (x : CircuitState) (done : DoneParts) → IsDoneJob done → done.start ≡ forth_cipher (opener_of (next_layer (log rules ev))) → done.input.items ≡ map body_of (kept_cells x.forth.claim_out) →
+    done.end ≡ forth_cipher (opener_of (next_layer (log rules (events_behind ev (kept_cells x.forth.claim_out)))))
 end_is rules ev x done is start input =
     (worked-by (log rules ev) done.start done.input.items done.output.items done.end is.worked start).1
     ∙ ap (λ bodies. forth_cipher (opener_of (after_opening_all (next_layer (log rules ev)) bodies))) input
-    ∙ ap (λ l. forth_cipher (opener_of l)) (batch_layer rules ev (kept_cells x.forth.kept))
+    ∙ ap (λ l. forth_cipher (opener_of l)) (batch_layer rules ev (kept_cells x.forth.claim_out))
 
 -- the relay has room to count them
 
@@ -142,7 +142,7 @@ done-none None is = refl
 done-none (Some reason) is = cc
 
 -- the circuit's events behind a return that settled
-pub events_settled : (start : Start) (s : State) (h : List Step) (n : ClaimNote) (x : CircuitState) (k : KeptClaim) → Stands start s h → slot_at s.circuits n.circ.0 ≡ Some x → n.dir ≡ Forth → x.forth.kept ≡ Some k → k.note ≡ n →
+pub events_settled : (start : SwitchStart) (s : State) (h : List Step) (n : ClaimNote) (x : CircuitState) (k : KeptClaim) → Stands start s h → slot_at s.circuits n.circ.0 ≡ Some x → n.dir ≡ Forth → x.forth.claim_out ≡ Some k → k.note ≡ n →
     done_by (settling_reason start.rules x.sent_count (events start.rules h n.circ.0) k.cells) ≡ BackAnswer.Settled →
     events start.rules (GiveBack n None BackAnswer.Settled ∷ h) n.circ.0 ≡ events_behind (events start.rules h n.circ.0) k.cells
 events_settled start s h n x k st live forth out its settled_is =

@@ -27,7 +27,7 @@ use Rattle.switch_model.specs.History.Legs.{circuits, holds_id}
 use Rattle.switch_model.specs.History.Past.{past}
 use Rattle.switch_model.specs.History.Relayed.{settled_forth}
 use Rattle.switch_model.specs.History.Returns.{settling_reason}
-use Rattle.switch_model.specs.Start.{Start}
+use Rattle.switch_model.specs.Start.{SwitchStart}
 use Rattle.switch_model.proofs.Common.{self_eq, same-number}
 use Rattle.switch_model.proofs.Others.{other_pasts}
 use Rattle.switch_model.proofs.Returning.{forth-behind}
@@ -52,7 +52,7 @@ pub record IsHomeForth (name : ℕ) (s : State) (relays : List (Option Relay)) (
   pub inside : done.note.circ.0 < length s.circuits
   pub live : slot_at s.circuits done.note.circ.0 ≡ Some x
   pub forth : done.note.dir ≡ Forth
-  pub out : x.forth.kept ≡ Some k
+  pub out : x.forth.claim_out ≡ Some k
   pub its : k.note ≡ done.note
   pub noted : is_note done.note (Some k.note) ≡ true
   pub relay_there : slot_at relays done.note.circ.0 ≡ Some relay
@@ -63,21 +63,21 @@ pub record IsHomeForth (name : ℕ) (s : State) (relays : List (Option Relay)) (
 -- the answer, and the state
 
 passed-result : (name : ℕ) (rules : Rules) (ev : ℕ → List Event) (s : State) (note : ClaimNote) (x : CircuitState) → (note.switch == name) ≡ true → nat_lt note.circ.0 (length s.circuits) ≡ true → slot_at s.circuits note.circ.0 ≡ Some x → note.dir ≡ Forth →
-    is_note note (kept_note x.forth.kept) ≡ true → give_back_result name rules ev s note None ≡ done_by (settling_reason rules x.sent_count (ev note.circ.0) (kept_cells x.forth.kept))
+    is_note note (kept_note x.forth.claim_out) ≡ true → give_back_result name rules ev s note None ≡ done_by (settling_reason rules x.sent_count (ev note.circ.0) (kept_cells x.forth.claim_out))
 passed-result name rules ev s note x same inside live forth noted =
-    let way_noted : is_note note (kept_note (way_of_circuit x note.dir).kept) ≡ true = ap (λ d. is_note note (kept_note (way_of_circuit x d).kept)) forth ∙ noted in
+    let way_noted : is_note note (kept_note (way_of_circuit x note.dir).claim_out) ≡ true = ap (λ d. is_note note (kept_note (way_of_circuit x d).claim_out)) forth ∙ noted in
     ap (λ b. if not b then BackAnswer.Stranger (Difference.Note None note) else (if not (nat_lt note.circ.0 (length s.circuits)) then BackAnswer.Stranger (Difference.Note None note) else return_result_on note None (slot_at s.circuits note.circ.0) (λ y. done_result rules (ev note.circ.0) y note.dir))) same
     ∙ ap (λ b. if not b then BackAnswer.Stranger (Difference.Note None note) else return_result_on note None (slot_at s.circuits note.circ.0) (λ y. done_result rules (ev note.circ.0) y note.dir)) inside
     ∙ ap (λ o. return_result_on note None o (λ y. done_result rules (ev note.circ.0) y note.dir)) live
-    ∙ ap (λ b. if not b then BackAnswer.Stranger (Difference.Note (kept_note (way_of_circuit x note.dir).kept) note) else done_result rules (ev note.circ.0) x note.dir) way_noted
+    ∙ ap (λ b. if not b then BackAnswer.Stranger (Difference.Note (kept_note (way_of_circuit x note.dir).claim_out) note) else done_result rules (ev note.circ.0) x note.dir) way_noted
     ∙ ap (done_result rules (ev note.circ.0) x) forth
 
 result-is : (name : ℕ) (rules : Rules) (ev : ℕ → List Event) (s : State) (relays : List (Option Relay)) (done : DoneParts) (x : CircuitState) (k : KeptClaim) (relay : Relay) → IsHomeForth name s relays done x k relay →
-    give_back_result name rules ev s done.note None ≡ done_by (settling_reason rules x.sent_count (ev done.note.circ.0) (kept_cells x.forth.kept))
+    give_back_result name rules ev s done.note None ≡ done_by (settling_reason rules x.sent_count (ev done.note.circ.0) (kept_cells x.forth.claim_out))
 result-is name rules ev s relays done x k relay home =
     let same : (done.note.switch == name) ≡ true = grind (arith, nat_tests, home.name_is) in
     let inside : nat_lt done.note.circ.0 (length s.circuits) ≡ true = grind (arith, nat_tests, home.inside) in
-    let noted : is_note done.note (kept_note x.forth.kept) ≡ true = ap (λ o. is_note done.note (kept_note o)) home.out ∙ home.noted in
+    let noted : is_note done.note (kept_note x.forth.claim_out) ≡ true = ap (λ o. is_note done.note (kept_note o)) home.out ∙ home.noted in
     passed-result name rules ev s done.note x same inside home.live home.forth noted
 
 state-by : (name : ℕ) (rules : Rules) (ev : ℕ → List Event) (s : State) (note : ClaimNote) (x : CircuitState) (reason : Option ℕ) → slot_at s.circuits note.circ.0 ≡ Some x → note.dir ≡ Forth → give_back_result name rules ev s note None ≡ done_by reason →
@@ -141,8 +141,8 @@ other-past rules h n (BackAnswer.Stranger why) d other =
 
 -- the relays behind it
 
-pub home_at : (rules : Rules) (live : Bool) (kept : Option Relay) (relay : Relay) (ev : List Event) (sealed : ℕ) → live ≡ true → kept ≡ Some relay → RelayStands relay rules ev sealed → RelayAt live kept rules ev sealed
-home_at rules live kept relay ev sealed up is stands = rw (up, is) stands
+pub home_at : (rules : Rules) (live : Bool) (kept_relay : Option Relay) (relay : Relay) (ev : List Event) (sealed : ℕ) → live ≡ true → kept_relay ≡ Some relay → RelayStands relay rules ev sealed → RelayAt live kept_relay rules ev sealed
+home_at rules live kept_relay relay ev sealed up is stands = rw (up, is) stands
 
 relays-at : (rules : Rules) (h : List Step) (n : ClaimNote) (relays after : List (Option Relay)) (next : Relay) (d : ℕ) (b : Bool) → (d == n.circ.0) ≡ b → PutsRelay relays after n.circ.0 next →
     RelayOfPast (Some next) rules (past rules (GiveBack n None BackAnswer.Settled ∷ h) n.circ.0) → RelayOfPast (slot_at relays d) rules (past rules h d) →
@@ -162,7 +162,7 @@ relays_put rules h n relays after next puts own old = record {
   relay = λ d. relays-at rules h n relays after next d (d == n.circ.0) refl puts own (old.relay d);
 }
 
-relays-settled : (start : Start) (s : State) (h : List Step) (relays after : List (Option Relay)) (done : DoneParts) (x : CircuitState) (k : KeptClaim) (relay next : Relay) → IsHomeForth start.name s relays done x k relay → Stands start s h →
+relays-settled : (start : SwitchStart) (s : State) (h : List Step) (relays after : List (Option Relay)) (done : DoneParts) (x : CircuitState) (k : KeptClaim) (relay next : Relay) → IsHomeForth start.name s relays done x k relay → Stands start s h →
     RelaysStand start.rules relays (circuits h) (λ e. past start.rules h e) → done_by (settling_reason start.rules x.sent_count (events start.rules h done.note.circ.0) k.cells) ≡ BackAnswer.Settled →
     IsCircuit next.circuit start.rules (events_behind (events start.rules h done.note.circ.0) k.cells) → next.forth ≡ done.end → next.back ≡ relay.back → CallsGrow (length k.cells) relay.circuit next.circuit → PutsRelay relays after done.note.circ.0 next →
     RelaysStand start.rules after (circuits h) (λ e. past start.rules (GiveBack done.note None BackAnswer.Settled ∷ h) e)
@@ -171,7 +171,7 @@ relays-settled start s h relays after done x k relay next home st old settled_is
     let ev = events start.rules h c in
     let own = circuit_stands start s h c x st home.live in
     let stands : RelayStands relay start.rules ev (past start.rules h c).sealed_count = relay_of _ (slot_at relays c) relay start.rules ev _ (old.relay c) own.live home.relay_there in
-    let cells : kept_cells x.forth.kept ≡ k.cells = ap kept_cells home.out in
+    let cells : kept_cells x.forth.claim_out ≡ k.cells = ap kept_cells home.out in
     let end : done.end ≡ forth_cipher (opener_of (next_layer (log start.rules (events_behind ev k.cells)))) =
     end_is start.rules ev x done home.job (home.start ∙ stands.forth) (home.input ∙ ap (map body_of) (sym cells)) ∙ ap (λ l. forth_cipher (opener_of (next_layer (log start.rules (events_behind ev l))))) cells in
     let behind_is = events_settled start s h done.note x k st home.live home.forth home.out home.its settled_is in
@@ -190,7 +190,7 @@ no_stranger : (reason : Option ℕ) (why : Difference) → BackAnswer.Stranger w
 no_stranger None why is = cc
 no_stranger (Some reason) why is = cc
 
-relays-by : (start : Start) (s : State) (h : List Step) (relays after : List (Option Relay)) (done : DoneParts) (x : CircuitState) (k : KeptClaim) (relay next : Relay) (a : BackAnswer) → IsHomeForth start.name s relays done x k relay → Stands start s h →
+relays-by : (start : SwitchStart) (s : State) (h : List Step) (relays after : List (Option Relay)) (done : DoneParts) (x : CircuitState) (k : KeptClaim) (relay next : Relay) (a : BackAnswer) → IsHomeForth start.name s relays done x k relay → Stands start s h →
     RelaysStand start.rules relays (circuits h) (λ e. past start.rules h e) → a ≡ done_by (settling_reason start.rules x.sent_count (events start.rules h done.note.circ.0) k.cells) →
     (a ≡ BackAnswer.Settled → IsCircuit next.circuit start.rules (events_behind (events start.rules h done.note.circ.0) k.cells)) → next.forth ≡ done.end → next.back ≡ relay.back → CallsGrow (length k.cells) relay.circuit next.circuit →
     RelayHome a relays after done.note.circ.0 next → RelaysStand start.rules after (circuits h) (λ e. past start.rules (GiveBack done.note None a ∷ h) e)
@@ -204,7 +204,7 @@ relays-by start s h relays after done x k relay next (BackAnswer.Stranger why) h
 
 -- what came out of the bodies, and what they make of the circuit
 
-outputs-are : (start : Start) (old : State) (h : List Step) (relays : List (Option Relay)) (done : DoneParts) (x : CircuitState) (k : KeptClaim) (relay : Relay) → IsHomeForth start.name old relays done x k relay → SwitchStands (started start old relays) h →
+outputs-are : (start : SwitchStart) (old : State) (h : List Step) (relays : List (Option Relay)) (done : DoneParts) (x : CircuitState) (k : KeptClaim) (relay : Relay) → IsHomeForth start.name old relays done x k relay → SwitchStands (started start old relays) h →
     AreOpened done.output.items start.rules (events start.rules h done.note.circ.0) x
 outputs-are start old h relays done x k relay home st =
     let c = done.note.circ.0 in
@@ -213,7 +213,7 @@ outputs-are start old h relays done x k relay home st =
     let stands : RelayStands relay start.rules ev (past start.rules h c).sealed_count = relay_of _ (slot_at relays c) relay start.rules ev _ (st.relays.relay c) own.live home.relay_there in
     are_opened start.rules ev x done home.job (home.start ∙ stands.forth) (home.input ∙ ap (map body_of) (sym (ap kept_cells home.out)))
 
-pub settles_of : (start : Start) (old new : State) (h : List Step) (relays : List (Option Relay)) (done : DoneParts) (x : CircuitState) (k : KeptClaim) (relay next : Relay) (a : BackAnswer) → IsHomeForth start.name old relays done x k relay → SwitchStands (started start old relays) h →
+pub settles_of : (start : SwitchStart) (old new : State) (h : List Step) (relays : List (Option Relay)) (done : DoneParts) (x : CircuitState) (k : KeptClaim) (relay next : Relay) (a : BackAnswer) → IsHomeForth start.name old relays done x k relay → SwitchStands (started start old relays) h →
     PartsSettle start.rules old new done.note.circ.0 relay.circuit next.circuit done.output.items a → Settles start.rules (events start.rules h done.note.circ.0) old new done.note.circ.0 x next.circuit a
 settles_of start old new h relays done x k relay next a home st parts =
     let c = done.note.circ.0 in
@@ -225,7 +225,7 @@ settles_of start old new h relays done x k relay next a home st parts =
 
 -- the step
 
-pub forth_whole : (start : Start) (old new : State) (relays after : List (Option Relay)) (done : DoneParts) (x : CircuitState) (k : KeptClaim) (relay next : Relay) (a : BackAnswer) → IsHomeForth start.name old relays done x k relay →
+pub forth_whole : (start : SwitchStart) (old new : State) (relays after : List (Option Relay)) (done : DoneParts) (x : CircuitState) (k : KeptClaim) (relay next : Relay) (a : BackAnswer) → IsHomeForth start.name old relays done x k relay →
     PartsSettle start.rules old new done.note.circ.0 relay.circuit next.circuit done.output.items a → new.steps ≡ old.steps + 1 → next.forth ≡ done.end → next.back ≡ relay.back → CallsGrow (length done.output.items) relay.circuit next.circuit →
     RelayHome a relays after done.note.circ.0 next → SwitchAdds (started start old relays) (started start new after) (GiveBack done.note None a)
 unfolding SwitchAdds AddsTo
@@ -235,16 +235,16 @@ forth_whole start old new relays after done x k relay next a home parts steps fo
   stands = λ h st.
       let c = done.note.circ.0 in
       let ev = events start.rules h c in
-      let cells : kept_cells x.forth.kept ≡ k.cells = ap kept_cells home.out in
+      let cells : kept_cells x.forth.claim_out ≡ k.cells = ap kept_cells home.out in
       let outputs : AreOpened done.output.items start.rules ev x = outputs-are start old h relays done x k relay home st in
       let settles = settles_of start old new h relays done x k relay next a home st parts in
       let result = result-is start.name start.rules (λ d. events start.rules h d) old relays done x k relay home in
       let answer : a ≡ give_back_result start.name start.rules (λ d. events start.rules h d) old done.note None = settles.answer_is ∙ sym result in
       let state : new ≡ give_back_state start.name start.rules (λ d. events start.rules h d) old done.note None =
       settles.state ∙ ap (settled_by start.rules ev old c x) settles.answer_is
-      ∙ state-by start.name start.rules (λ d. events start.rules h d) old done.note x (settling_reason start.rules x.sent_count ev (kept_cells x.forth.kept)) home.live home.forth result in
+      ∙ state-by start.name start.rules (λ d. events start.rules h d) old done.note x (settling_reason start.rules x.sent_count ev (kept_cells x.forth.claim_out)) home.live home.forth result in
       let count : length done.output.items ≡ length k.cells =
-      ap length outputs ∙ length-map (opened_each start.rules ev (kept_cells x.forth.kept)) opened_from ∙ opened-count start.rules ev (kept_cells x.forth.kept) ∙ ap length cells in
+      ap length outputs ∙ length-map (opened_each start.rules ev (kept_cells x.forth.claim_out)) opened_from ∙ opened-count start.rules ev (kept_cells x.forth.claim_out) ∙ ap length cells in
       record {
         state = (give_back_adds start h old new done.note None a state answer).stands st.state;
         relays = relays-by start old h relays after done x k relay next a home st.state st.relays (settles.answer_is ∙ ap (λ l. done_by (settling_reason start.rules x.sent_count ev l)) cells)

@@ -21,7 +21,7 @@ use Rattle.switch_model.specs.History.EdgePast.{edge_past}
 use Rattle.switch_model.specs.History.Legs.{circuits, holds_id}
 use Rattle.switch_model.specs.History.Past.{past}
 use Rattle.switch_model.specs.Names.{same_dir}
-use Rattle.switch_model.specs.Start.{Start}
+use Rattle.switch_model.specs.Start.{SwitchStart}
 use Rattle.switch_model.proofs.Common.{and-false, same-number}
 use Rattle.switch_machine.specs.Adds.{AddsTo}
 use Rattle.switch_machine.specs.Calls.GiveBack.{done_result, give_back_state_of}
@@ -71,7 +71,7 @@ relays-refused rules h note place (BackAnswer.Stranger why) relays of old = reco
 relays-refused rules h note place BackAnswer.Settled relays of old = absurd of
 relays-refused rules h note place (BackAnswer.Down reason) relays of old = absurd of
 
-pub refused_whole : (start : Start) (old new : State) (relays : List (Option Relay)) (note : ClaimNote) (place : Option ℕ) (a : BackAnswer) → refusal start.name old note place ≡ Some a → new ≡ counted old →
+pub refused_whole : (start : SwitchStart) (old new : State) (relays : List (Option Relay)) (note : ClaimNote) (place : Option ℕ) (a : BackAnswer) → refusal start.name old note place ≡ Some a → new ≡ counted old →
     SwitchAdds (started start old relays) (started start new relays) (GiveBack note place a)
 unfolding SwitchAdds AddsTo
 refused_whole start old new relays note place a refused state = record {
@@ -97,23 +97,23 @@ refused_case (BackAnswer.Down reason) P p = tt
 
 -- a job that is what the switch gave out, worked
 
-pub record IsHome (start : Start) (s : State) (relays : List (Option Relay)) (done : DoneParts) : Type 0 where
+pub record IsHome (start : SwitchStart) (s : State) (relays : List (Option Relay)) (done : DoneParts) : Type 0 where
   pub circuit : CircuitState
-  pub kept : KeptClaim
+  pub claim_out : KeptClaim
   pub relay : Relay
   pub name_is : done.note.switch ≡ start.name
   pub inside : done.note.circ.0 < length s.circuits
   pub live : slot_at s.circuits done.note.circ.0 ≡ Some circuit
-  pub out : (way_of_circuit circuit done.note.dir).kept ≡ Some kept
-  pub its : kept.note ≡ done.note
-  pub noted : is_note done.note (Some kept.note) ≡ true
+  pub out : (way_of_circuit circuit done.note.dir).claim_out ≡ Some claim_out
+  pub its : claim_out.note ≡ done.note
+  pub noted : is_note done.note (Some claim_out.note) ≡ true
   pub there : slot_at relays done.note.circ.0 ≡ Some relay
   pub job : IsDoneJob done
   pub begins : Some done.start ≡ start_out (Some relay) done.note.dir
-  pub input : done.input.items ≡ map body_of kept.cells
-  pub count : length done.output.items ≡ kept_length (way_of_circuit circuit done.note.dir).kept
+  pub input : done.input.items ≡ map body_of claim_out.cells
+  pub count : length done.output.items ≡ kept_length (way_of_circuit circuit done.note.dir).claim_out
   pub calls : CallsFit (home_count circuit.forth) relay.circuit
-  pub sealed : kept_length circuit.back.kept ≤ circuit.back.claimed
+  pub sealed : kept_length circuit.back.claim_out ≤ circuit.back.claimed_count
 
 name-by : (note : ClaimNote) (place : Option ℕ) (x : Option CircuitState) (b d : Bool) →
     (if not b then Some (BackAnswer.Stranger (Difference.Note None note)) else if not d then Some (BackAnswer.Stranger (Difference.Note None note)) else refusal_on note place x) ≡ None → (b ≡ true) × (d ≡ true)
@@ -131,7 +131,7 @@ there-by false slot rules ev sealed at up = cc
 there-by true None rules ev sealed at up = absurd at
 there-by true (Some relay) rules ev sealed at up = record { relay = relay; there = refl }
 
-pub is_home : (start : Start) (s : State) (relays : List (Option Relay)) (h : List Step) (done : DoneParts) (place : Option ℕ) → SwitchStands (started start s relays) h → IsDoneJob done → length done.output.items ≡ length done.input.items →
+pub is_home : (start : SwitchStart) (s : State) (relays : List (Option Relay)) (h : List Step) (done : DoneParts) (place : Option ℕ) → SwitchStands (started start s relays) h → IsDoneJob done → length done.output.items ≡ length done.input.items →
     IsPlace relays s done.note done.start done.input.items place → refusal start.name s done.note place ≡ None → IsHome start s relays done
 is_home start s relays h done place st job many first passes =
     let c = done.note.circ.0 in
@@ -141,12 +141,12 @@ is_home start s relays h done place st job many first passes =
     let there = there-by (is_live_circuit start.rules h c) (slot_at relays c) start.rules (events start.rules h c) (past start.rules h c).sealed_count (st.relays.relay c) own.live in
     let stands : RelayStands there.relay start.rules (events start.rules h c) (past start.rules h c).sealed_count =
     relay_of _ (slot_at relays c) there.relay start.rules (events start.rules h c) _ (st.relays.relay c) own.live there.there in
-    let k = is-kept done.note (way_of_circuit by.circuit done.note.dir).kept by.is_kept in
+    let k = is-kept done.note (way_of_circuit by.circuit done.note.dir).claim_out by.is_kept in
     let same : IsPlace relays s done.note done.start done.input.items None = subst (λ p. IsPlace relays s done.note done.start done.input.items p) by.no_place first in
-    let bodies : done.input.items ≡ map body_of (kept_cells (way_of_circuit by.circuit done.note.dir).kept) = same.1 ∙ ap (λ o. bodies_out o done.note.dir) by.live in
+    let bodies : done.input.items ≡ map body_of (kept_cells (way_of_circuit by.circuit done.note.dir).claim_out) = same.1 ∙ ap (λ o. bodies_out o done.note.dir) by.live in
     record {
       circuit = by.circuit;
-      kept = k.0;
+      claim_out = k.0;
       relay = there.relay;
       name_is = named.0;
       inside = named.1;
@@ -171,13 +171,13 @@ starts-back : (relay : Relay) (dir : Dir) (start : Cipher) → dir ≡ Back → 
 starts-back relay Forth start is begins = cc
 starts-back relay Back start is begins = cc
 
-pub home_forth : (start : Start) (s : State) (relays : List (Option Relay)) (done : DoneParts) → done.note.dir ≡ Forth → (home : IsHome start s relays done) → IsHomeForth start.name s relays done home.circuit home.kept home.relay
+pub home_forth : (start : SwitchStart) (s : State) (relays : List (Option Relay)) (done : DoneParts) → done.note.dir ≡ Forth → (home : IsHome start s relays done) → IsHomeForth start.name s relays done home.circuit home.claim_out home.relay
 home_forth start s relays done forth home = record {
   name_is = home.name_is;
   inside = home.inside;
   live = home.live;
   forth = forth;
-  out = sym (ap (λ d. (way_of_circuit home.circuit d).kept) forth) ∙ home.out;
+  out = sym (ap (λ d. (way_of_circuit home.circuit d).claim_out) forth) ∙ home.out;
   its = home.its;
   noted = home.noted;
   relay_there = home.there;
@@ -186,13 +186,13 @@ home_forth start s relays done forth home = record {
   input = home.input;
 }
 
-pub home_back : (start : Start) (s : State) (relays : List (Option Relay)) (done : DoneParts) → done.note.dir ≡ Back → (home : IsHome start s relays done) → IsHomeBack start.name s relays done home.circuit home.kept home.relay
+pub home_back : (start : SwitchStart) (s : State) (relays : List (Option Relay)) (done : DoneParts) → done.note.dir ≡ Back → (home : IsHome start s relays done) → IsHomeBack start.name s relays done home.circuit home.claim_out home.relay
 home_back start s relays done back home = record {
   name_is = home.name_is;
   inside = home.inside;
   live = home.live;
   back = back;
-  out = sym (ap (λ d. (way_of_circuit home.circuit d).kept) back) ∙ home.out;
+  out = sym (ap (λ d. (way_of_circuit home.circuit d).claim_out) back) ∙ home.out;
   its = home.its;
   noted = home.noted;
   relay_there = home.there;
@@ -211,13 +211,13 @@ of_done s done parts relays bodies place P same there all first fact =
 
 -- the steps
 
-record IsGiven (start : Start) (s : State) (relays : List (Option Relay)) (done : DoneParts) (place : Option ℕ) : Type 0 where
+record IsGiven (start : SwitchStart) (s : State) (relays : List (Option Relay)) (done : DoneParts) (place : Option ℕ) : Type 0 where
   history : List Step
   stands : SwitchStands (started start s relays) history
   home : IsHome start s relays done
   no_place : place ≡ None
 
-is-given : (start : Start) (s : State) (relays : List (Option Relay)) (done : DoneParts) (bodies : List (List ℕ)) (place : Option ℕ) → SwitchStandsForSome (started start s relays) → IsDoneJob done → length done.output.items ≡ length done.input.items → bodies ≡ done.input.items →
+is-given : (start : SwitchStart) (s : State) (relays : List (Option Relay)) (done : DoneParts) (bodies : List (List ℕ)) (place : Option ℕ) → SwitchStandsForSome (started start s relays) → IsDoneJob done → length done.output.items ≡ length done.input.items → bodies ≡ done.input.items →
     IsPlace relays s done.note done.start bodies place → refusal start.name s done.note place ≡ None → IsGiven start s relays done place
 is-given start s relays done bodies place some job many all first passes = record {
   history = some.history;
@@ -229,16 +229,16 @@ is-given start s relays done bodies place some job many all first passes = recor
 same-relay : (slot : Option Relay) (a b : Relay) → slot ≡ Some a → slot ≡ Some b → a ≡ b
 same-relay slot a b one other = let same : Some a ≡ Some b = sym one ∙ other in cc
 
-pub forth_given : (start : Start) (old mid new : State) (relays after : List (Option Relay)) (done : DoneParts) (bodies : List (List ℕ)) (opened : List Opened) (place : Option ℕ) (a : BackAnswer) → SwitchStandsForSome (started start old relays) → IsDoneJob done →
-    length done.output.items ≡ length done.input.items → bodies ≡ done.input.items → IsPlace relays old done.note done.start bodies place → refusal start.name old done.note place ≡ None → mid ≡ old → done.note.dir ≡ Forth → opened ≡ done.output.items →
-    HomeForth start.rules mid new relays after done.note.circ.0 done.end opened a → SwitchAdds (started start old relays) (started start new after) (GiveBack done.note place a)
-forth_given start old mid new relays after done bodies opened place a some job many all first passes same forth outputs behind =
+pub forth_given : (start : SwitchStart) (old mid new : State) (relays after : List (Option Relay)) (done : DoneParts) (bodies : List (List ℕ)) (opened_bodies : List Opened) (place : Option ℕ) (a : BackAnswer) → SwitchStandsForSome (started start old relays) → IsDoneJob done →
+    length done.output.items ≡ length done.input.items → bodies ≡ done.input.items → IsPlace relays old done.note done.start bodies place → refusal start.name old done.note place ≡ None → mid ≡ old → done.note.dir ≡ Forth → opened_bodies ≡ done.output.items →
+    HomeForth start.rules mid new relays after done.note.circ.0 done.end opened_bodies a → SwitchAdds (started start old relays) (started start new after) (GiveBack done.note place a)
+forth_given start old mid new relays after done bodies opened_bodies place a some job many all first passes same forth outputs behind =
     let given = is-given start old relays done bodies place some job many all first passes in
     let home = home_forth start old relays done forth given.home in
     let relay : given.home.relay ≡ behind.relay = same-relay (slot_at relays done.note.circ.0) given.home.relay behind.relay given.home.there behind.there in
     subst (λ p. SwitchAdds (started start old relays) (started start new after) (GiveBack done.note p a)) (sym given.no_place)
-    (forth_whole start old new relays after done given.home.circuit given.home.kept behind.relay behind.next a
-    (subst (λ r. IsHomeForth start.name old relays done given.home.circuit given.home.kept r) relay home)
+    (forth_whole start old new relays after done given.home.circuit given.home.claim_out behind.relay behind.next a
+    (subst (λ r. IsHomeForth start.name old relays done given.home.circuit given.home.claim_out r) relay home)
     (subst (λ s. PartsSettle start.rules s new done.note.circ.0 behind.relay.circuit behind.next.circuit done.output.items a) same
     (subst (λ l. PartsSettle start.rules mid new done.note.circ.0 behind.relay.circuit behind.next.circuit l a) outputs behind.settles))
     (behind.steps ∙ ap (λ (s : State). s.steps + 1) same) behind.forth behind.back (subst (λ (l : List Opened). CallsGrow (length l) behind.relay.circuit behind.next.circuit) outputs behind.grown) behind.home)
@@ -247,21 +247,21 @@ settled-case : (reason : Option ℕ) (P : Type 0) → RefusedCase (done_by reaso
 settled-case None P = tt
 settled-case (Some reason) P = tt
 
-pub forth_case : (start : Start) (old mid new : State) (relays after : List (Option Relay)) (done : DoneParts) (bodies : List (List ℕ)) (opened : List Opened) (place : Option ℕ) (a : BackAnswer) (P : Type 0) → SwitchStandsForSome (started start old relays) → IsDoneJob done →
-    length done.output.items ≡ length done.input.items → bodies ≡ done.input.items → IsPlace relays old done.note done.start bodies place → refusal start.name old done.note place ≡ None → mid ≡ old → done.note.dir ≡ Forth → opened ≡ done.output.items →
-    HomeForth start.rules mid new relays after done.note.circ.0 done.end opened a → RefusedCase a P
-forth_case start old mid new relays after done bodies opened place a P some job many all first passes same forth outputs behind =
+pub forth_case : (start : SwitchStart) (old mid new : State) (relays after : List (Option Relay)) (done : DoneParts) (bodies : List (List ℕ)) (opened_bodies : List Opened) (place : Option ℕ) (a : BackAnswer) (P : Type 0) → SwitchStandsForSome (started start old relays) → IsDoneJob done →
+    length done.output.items ≡ length done.input.items → bodies ≡ done.input.items → IsPlace relays old done.note done.start bodies place → refusal start.name old done.note place ≡ None → mid ≡ old → done.note.dir ≡ Forth → opened_bodies ≡ done.output.items →
+    HomeForth start.rules mid new relays after done.note.circ.0 done.end opened_bodies a → RefusedCase a P
+forth_case start old mid new relays after done bodies opened_bodies place a P some job many all first passes same forth outputs behind =
     let given = is-given start old relays done bodies place some job many all first passes in
     let home = home_forth start old relays done forth given.home in
     let relay : given.home.relay ≡ behind.relay = same-relay (slot_at relays done.note.circ.0) given.home.relay behind.relay given.home.there behind.there in
     let settles =
-    settles_of start old new given.history relays done given.home.circuit given.home.kept behind.relay behind.next a
-    (subst (λ r. IsHomeForth start.name old relays done given.home.circuit given.home.kept r) relay home) given.stands
+    settles_of start old new given.history relays done given.home.circuit given.home.claim_out behind.relay behind.next a
+    (subst (λ r. IsHomeForth start.name old relays done given.home.circuit given.home.claim_out r) relay home) given.stands
     (subst (λ s. PartsSettle start.rules s new done.note.circ.0 behind.relay.circuit behind.next.circuit done.output.items a) same
     (subst (λ l. PartsSettle start.rules mid new done.note.circ.0 behind.relay.circuit behind.next.circuit l a) outputs behind.settles)) in
     subst (λ b. RefusedCase b P) (sym settles.answer_is) (settled-case _ P)
 
-pub back_given : (start : Start) (old mid new : State) (relays after : List (Option Relay)) (done : DoneParts) (bodies : List (List ℕ)) (sealed : List Opened) (place : Option ℕ) → SwitchStandsForSome (started start old relays) → IsDoneJob done →
+pub back_given : (start : SwitchStart) (old mid new : State) (relays after : List (Option Relay)) (done : DoneParts) (bodies : List (List ℕ)) (sealed : List Opened) (place : Option ℕ) → SwitchStandsForSome (started start old relays) → IsDoneJob done →
     length done.output.items ≡ length done.input.items → bodies ≡ done.input.items → IsPlace relays old done.note done.start bodies place → refusal start.name old done.note place ≡ None → mid ≡ old → done.note.dir ≡ Back → sealed ≡ done.output.items →
     HomeBack mid new relays after done.note.circ.0 done.end sealed → SwitchAdds (started start old relays) (started start new after) (GiveBack done.note place BackAnswer.Settled)
 back_given start old mid new relays after done bodies sealed place some job many all first passes same back outputs behind =
@@ -269,6 +269,6 @@ back_given start old mid new relays after done bodies sealed place some job many
     let home = home_back start old relays done back given.home in
     let relay : given.home.relay ≡ behind.relay = same-relay (slot_at relays done.note.circ.0) given.home.relay behind.relay given.home.there behind.there in
     subst (λ p. SwitchAdds (started start old relays) (started start new after) (GiveBack done.note p BackAnswer.Settled)) (sym given.no_place)
-    (back_whole start old new relays after done given.home.circuit given.home.kept behind.relay (record behind.relay { back = done.end })
-    (subst (λ r. IsHomeBack start.name old relays done given.home.circuit given.home.kept r) relay home)
+    (back_whole start old new relays after done given.home.circuit given.home.claim_out behind.relay (record behind.relay { back = done.end })
+    (subst (λ r. IsHomeBack start.name old relays done given.home.circuit given.home.claim_out r) relay home)
     (behind.state ∙ ap (λ s. sealed_by s done.note.circ.0 (sealed_cells_of sealed)) same ∙ ap (λ l. sealed_by old done.note.circ.0 (sealed_cells_of l)) outputs) refl refl refl behind.puts)

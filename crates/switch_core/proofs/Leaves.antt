@@ -125,34 +125,34 @@ destroy_leaves s t chan old new (Some cell) live is leaves = record {
 
 -- the machine's call, by what leaves
 
-ticked-with : (s : State) (given now : ℕ) (leg : Leg) (x : Option CircuitState) (y : Option LegState) → ticked (with_leg s now leg x y) given ≡ with_leg (ticked s given) now leg x y
-ticked-with s given now leg (Some x) (Some y) = refl
-ticked-with s given now leg (Some x) None = refl
-ticked-with s given now leg None y = refl
+ticked-with : (s : State) (new_tick now : ℕ) (leg : Leg) (x : Option CircuitState) (y : Option LegState) → ticked (with_leg s now leg x y) new_tick ≡ with_leg (ticked s new_tick) now leg x y
+ticked-with s new_tick now leg (Some x) (Some y) = refl
+ticked-with s new_tick now leg (Some x) None = refl
+ticked-with s new_tick now leg None y = refl
 
-ticked-from : (s : State) (given now : ℕ) (o : Option Leg) → ticked (sent_from s now o) given ≡ sent_from (ticked s given) now o
-ticked-from s given now (Some leg) = ticked-with s given now leg (slot_at s.circuits leg.circ) (leg_in s leg)
-ticked-from s given now None = refl
+ticked-from : (s : State) (new_tick now : ℕ) (o : Option Leg) → ticked (sent_from s now o) new_tick ≡ sent_from (ticked s new_tick) now o
+ticked-from s new_tick now (Some leg) = ticked-with s new_tick now leg (slot_at s.circuits leg.circ) (leg_in s leg)
+ticked-from s new_tick now None = refl
 
-pub none_left : (s : State) (chan given : ℕ) → slot_at s.channels chan ≡ None → ticked s given ≡ next_cell_state s chan given
-none_left s chan given none = rw none refl
+pub none_left : (s : State) (chan new_tick : ℕ) → slot_at s.channels chan ≡ None → ticked s new_tick ≡ next_cell_state s chan new_tick
+none_left s chan new_tick none = rw none refl
 
-pub none_said : (s : State) (chan given : ℕ) → slot_at s.channels chan ≡ None → None ≡ next_cell_result s chan given
-none_said s chan given none = rw none refl
+pub none_said : (s : State) (chan new_tick : ℕ) → slot_at s.channels chan ≡ None → None ≡ next_cell_result s chan new_tick
+none_said s chan new_tick none = rw none refl
 
-pub picked_left : (s t : State) (chan given : ℕ) (channel : ChannelState) → slot_at s.channels chan ≡ Some channel → channel.lane ≡ [] → t ≡ sent_from s (max s.tick given) (picked_leg s chan given) →
-    ticked t given ≡ next_cell_state s chan given
-picked_left s t chan given channel live quiet is = rw (is, live, quiet) (ticked-from s given (max s.tick given) (picked_leg s chan given))
+pub picked_left : (s t : State) (chan new_tick : ℕ) (channel : ChannelState) → slot_at s.channels chan ≡ Some channel → channel.lane ≡ [] → t ≡ sent_from s (max s.tick new_tick) (picked_leg s chan new_tick) →
+    ticked t new_tick ≡ next_cell_state s chan new_tick
+picked_left s t chan new_tick channel live quiet is = rw (is, live, quiet) (ticked-from s new_tick (max s.tick new_tick) (picked_leg s chan new_tick))
 
-pub picked_said : (s : State) (chan given : ℕ) (channel : ChannelState) → slot_at s.channels chan ≡ Some channel → channel.lane ≡ [] → cell_of_leg s (picked_leg s chan given) ≡ next_cell_result s chan given
-picked_said s chan given channel live quiet = rw (live, quiet) refl
+pub picked_said : (s : State) (chan new_tick : ℕ) (channel : ChannelState) → slot_at s.channels chan ≡ Some channel → channel.lane ≡ [] → cell_of_leg s (picked_leg s chan new_tick) ≡ next_cell_result s chan new_tick
+picked_said s chan new_tick channel live quiet = rw (live, quiet) refl
 
-pub destroy_left : (s t : State) (chan given : ℕ) (channel : ChannelState) (o : Option Cell) → slot_at s.channels chan ≡ Some channel → (channel.lane ≡ [] → ⊥) →
-    IfSome o (λ cell. DestroyLeaves s t chan cell) → IfNone o (lane_of (slot_at s.channels chan) ≡ []) → ticked t given ≡ next_cell_state s chan given
-destroy_left s t chan given channel None live waits leaves none = absurd (waits (ap lane_of (sym live) ∙ none))
-destroy_left s t chan given channel (Some cell) live waits leaves none = rw (leaves.left, leaves.live, leaves.lane) refl
+pub destroy_left : (s t : State) (chan new_tick : ℕ) (channel : ChannelState) (o : Option Cell) → slot_at s.channels chan ≡ Some channel → (channel.lane ≡ [] → ⊥) →
+    IfSome o (λ cell. DestroyLeaves s t chan cell) → IfNone o (lane_of (slot_at s.channels chan) ≡ []) → ticked t new_tick ≡ next_cell_state s chan new_tick
+destroy_left s t chan new_tick channel None live waits leaves none = absurd (waits (ap lane_of (sym live) ∙ none))
+destroy_left s t chan new_tick channel (Some cell) live waits leaves none = rw (leaves.left, leaves.live, leaves.lane) refl
 
-pub destroy_said : (s t : State) (chan given : ℕ) (channel : ChannelState) (o : Option Cell) → slot_at s.channels chan ≡ Some channel → (channel.lane ≡ [] → ⊥) →
-    IfSome o (λ cell. DestroyLeaves s t chan cell) → IfNone o (lane_of (slot_at s.channels chan) ≡ []) → o ≡ next_cell_result s chan given
-destroy_said s t chan given channel None live waits leaves none = absurd (waits (ap lane_of (sym live) ∙ none))
-destroy_said s t chan given channel (Some cell) live waits leaves none = rw (leaves.live, leaves.lane) (ap Some leaves.is)
+pub destroy_said : (s t : State) (chan new_tick : ℕ) (channel : ChannelState) (o : Option Cell) → slot_at s.channels chan ≡ Some channel → (channel.lane ≡ [] → ⊥) →
+    IfSome o (λ cell. DestroyLeaves s t chan cell) → IfNone o (lane_of (slot_at s.channels chan) ≡ []) → o ≡ next_cell_result s chan new_tick
+destroy_said s t chan new_tick channel None live waits leaves none = absurd (waits (ap lane_of (sym live) ∙ none))
+destroy_said s t chan new_tick channel (Some cell) live waits leaves none = rw (leaves.live, leaves.lane) (ap Some leaves.is)

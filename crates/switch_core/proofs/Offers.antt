@@ -48,27 +48,27 @@ one_claimed name s worker offer x note is live noted =
     ∙ ap (claim_result_of name s worker) is
 
 pub noted_as : (name : ℕ) (s : State) (worker : ℕ) (offer : Offering) (x : Option CircuitState) (circuit : CircuitState) (w : WayState) (claims first count : ℕ) → x ≡ Some circuit → w ≡ way_of_circuit circuit offer.dir →
-    claims ≡ s.claims → first ≡ w.claimed → count ≡ min claim_limit (length w.waiting) →
+    claims ≡ s.claims → first ≡ w.claimed_count → count ≡ min claim_limit (length w.waiting_bodies) →
     ◌≡◌ {A = Option ClaimNote} (Some (record { switch = name; claim = claims; worker = worker; circ = circ_no offer.circ; dir = offer.dir; first = first; count = count }))
     (note_at name s worker (offer_of offer).way (way_at x offer.dir))
 noted_as name s worker offer x circuit w claims first count live way claims_is first_is count_is = rw (live, claims_is, first_is, count_is, way) refl
 
 -- the note of a claim
 
-record ReadyWay (kept : Option KeptClaim) (waiting : List WaitingCell) : Type 0 where
-  none_out : kept ≡ None
-  some : 1 ≤ length waiting
+record ReadyWay (claim_out : Option KeptClaim) (waiting_bodies : List WaitingCell) : Type 0 where
+  none_out : claim_out ≡ None
+  some : 1 ≤ length waiting_bodies
 
-ready-by : (kept : Option KeptClaim) (waiting : List WaitingCell) (n : ℕ) → (if is_none kept then first_number waiting else None) ≡ Some n → ReadyWay kept waiting
+ready-by : (claim_out : Option KeptClaim) (waiting_bodies : List WaitingCell) (n : ℕ) → (if is_none claim_out then first_number waiting_bodies else None) ≡ Some n → ReadyWay claim_out waiting_bodies
 ready-by None [] n offers = absurd cc
-ready-by None (w ∷ waiting) n offers = record { none_out = refl; some = omega arith }
-ready-by (Some k) waiting n offers = absurd cc
+ready-by None (w ∷ waiting_bodies) n offers = record { none_out = refl; some = omega arith }
+ready-by (Some k) waiting_bodies n offers = absurd cc
 
 noted : (name : ℕ) (s : State) (worker : ℕ) (x : Option CircuitState) (way : Way) (n : ℕ) (note : ClaimNote) → slot_at s.circuits way.circ ≡ x → offered_by (way_at x way.dir) ≡ Some n →
     note_at name s worker way (way_at x way.dir) ≡ Some note → MayClaim (slot_at s.circuits note.circ.0) note
 noted name s worker None way n note live offers is = absurd cc
 noted name s worker (Some x) way n note live offers is =
-    let ready : ReadyWay (way_of_circuit x way.dir).kept (way_of_circuit x way.dir).waiting = ready-by (way_of_circuit x way.dir).kept (way_of_circuit x way.dir).waiting n offers in
+    let ready : ReadyWay (way_of_circuit x way.dir).claim_out (way_of_circuit x way.dir).waiting_bodies = ready-by (way_of_circuit x way.dir).claim_out (way_of_circuit x way.dir).waiting_bodies n offers in
     let same : claim_note name s worker way (way_of_circuit x way.dir) ≡ note = cc in
     subst (λ (m : ClaimNote). MayClaim (slot_at s.circuits m.circ.0) m) same
     (record {

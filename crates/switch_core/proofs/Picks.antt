@@ -6,61 +6,61 @@ use Rattle.switch_machine.specs.Machine.{leg_at}
 use Rattle.switch_machine.specs.Calls.NextCell.{waits_on, cell_count_in, waiting_before}
 use Rattle.switch_machine.proofs.PlainLists.{better, least_of-last}
 use Rattle.switch_core.proofs.Gone.{waiting-by}
-use Rattle.switch_core.specs.declared.pick.Waiting.{Waiting}
+use Rattle.switch_core.specs.declared.pick.WaitingLeg.{WaitingLeg}
 use Rattle.switch_core.specs.Picking.{better_of, first_leg_of, leg_of, HasOneLeg, IsWaiting, Picks}
 
-further : (s : State) (given n : ℕ) (least : Option Waiting) → IfSome least (IsWaiting s given n) → IfSome least (IsWaiting s given (n + 1))
-further s given n None waits = tt
-further s given n (Some least) waits = record { inside = omega (arith, waits.inside); count = waits.count }
+further : (s : State) (new_tick n : ℕ) (least : Option WaitingLeg) → IfSome least (IsWaiting s new_tick n) → IfSome least (IsWaiting s new_tick (n + 1))
+further s new_tick n None waits = tt
+further s new_tick n (Some least) waits = record { inside = omega (arith, waits.inside); count = waits.count }
 
-either : (P : Waiting → Type 0) (b : Bool) (x y : Waiting) → P x → P y → P (if b then x else y)
+either : (P : WaitingLeg → Type 0) (b : Bool) (x y : WaitingLeg) → P x → P y → P (if b then x else y)
 either P true x y px py = px
 either P false x y px py = py
 
-chosen : (s : State) (given n : ℕ) (least : Option Waiting) (next : Waiting) → IfSome least (IsWaiting s given n) → IsWaiting s given (n + 1) next → IsWaiting s given (n + 1) (better_of least next)
-chosen s given n None next waits is = is
-chosen s given n (Some least) next waits is = either (IsWaiting s given (n + 1)) (nat_lt next.count least.count) next least is (further s given n (Some least) waits)
+chosen : (s : State) (new_tick n : ℕ) (least : Option WaitingLeg) (next : WaitingLeg) → IfSome least (IsWaiting s new_tick n) → IsWaiting s new_tick (n + 1) next → IsWaiting s new_tick (n + 1) (better_of least next)
+chosen s new_tick n None next waits is = is
+chosen s new_tick n (Some least) next waits is = either (IsWaiting s new_tick (n + 1)) (nat_lt next.count least.count) next least is (further s new_tick n (Some least) waits)
 
-either-leg : (b : Bool) (x y : Waiting) → (if b then first_leg_of x.number else first_leg_of y.number) ≡ first_leg_of (if b then x else y).number
+either-leg : (b : Bool) (x y : WaitingLeg) → (if b then first_leg_of x.number else first_leg_of y.number) ≡ first_leg_of (if b then x else y).number
 either-leg true x y = refl
 either-leg false x y = refl
 
-same_choice : (s : State) (given n : ℕ) (least : Option Waiting) (next : Waiting) → IfSome least (IsWaiting s given n) → next.count ≡ cell_count_in s given (first_leg_of next.number) →
-    better (cell_count_in s given) (leg_of least) (first_leg_of next.number) ≡ first_leg_of (better_of least next).number
-same_choice s given n None next waits count = refl
-same_choice s given n (Some least) next waits count =
-    let same : nat_lt (cell_count_in s given (first_leg_of next.number)) (cell_count_in s given (first_leg_of least.number)) ≡ nat_lt next.count least.count = rw (waits.count, count) refl in
+same_choice : (s : State) (new_tick n : ℕ) (least : Option WaitingLeg) (next : WaitingLeg) → IfSome least (IsWaiting s new_tick n) → next.count ≡ cell_count_in s new_tick (first_leg_of next.number) →
+    better (cell_count_in s new_tick) (leg_of least) (first_leg_of next.number) ≡ first_leg_of (better_of least next).number
+same_choice s new_tick n None next waits count = refl
+same_choice s new_tick n (Some least) next waits count =
+    let same : nat_lt (cell_count_in s new_tick (first_leg_of next.number)) (cell_count_in s new_tick (first_leg_of least.number)) ≡ nat_lt next.count least.count = rw (waits.count, count) refl in
     ap (λ (b : Bool). if b then first_leg_of next.number else first_leg_of least.number) same
     ∙ either-leg (nat_lt next.count least.count) next least
 
 -- no circuit was looked at
-pub none_yet : (s : State) (chan given : ℕ) → Picks s given 0 None (least_of (cell_count_in s given) (waiting_before s chan 0))
-none_yet s chan given = record { same = refl; waits = tt }
+pub none_yet : (s : State) (chan new_tick : ℕ) → Picks s new_tick 0 None (least_of (cell_count_in s new_tick) (waiting_before s chan 0))
+none_yet s chan new_tick = record { same = refl; waits = tt }
 
 -- a circuit that doesn't wait
-pub one_quiet : (s : State) (chan given n : ℕ) (least : Option Waiting) → HasOneLeg (slot_at s.circuits n) → waits_on chan (leg_at (slot_at s.circuits n) 0) ≡ false →
-    Picks s given n least (least_of (cell_count_in s given) (waiting_before s chan n)) → Picks s given (n + 1) least (least_of (cell_count_in s given) (waiting_before s chan (n + 1)))
-one_quiet s chan given n least one quiet picks = record {
+pub one_quiet : (s : State) (chan new_tick n : ℕ) (least : Option WaitingLeg) → HasOneLeg (slot_at s.circuits n) → waits_on chan (leg_at (slot_at s.circuits n) 0) ≡ false →
+    Picks s new_tick n least (least_of (cell_count_in s new_tick) (waiting_before s chan n)) → Picks s new_tick (n + 1) least (least_of (cell_count_in s new_tick) (waiting_before s chan (n + 1)))
+one_quiet s chan new_tick n least one quiet picks = record {
   same =
-      ap (least_of (cell_count_in s given))
+      ap (least_of (cell_count_in s new_tick))
       (waiting-by s chan n (slot_at s.circuits n) refl one
       ∙ ap (λ b. waiting_before s chan n ++ (if b then first_leg_of n ∷ [] else [])) quiet
       ∙ append-nil (waiting_before s chan n))
       ∙ picks.same;
-  waits = further s given n least picks.waits;
+  waits = further s new_tick n least picks.waits;
 }
 
 -- a circuit that waits
-pub one_waits : (s : State) (chan given n count : ℕ) (least : Option Waiting) → HasOneLeg (slot_at s.circuits n) → waits_on chan (leg_at (slot_at s.circuits n) 0) ≡ true →
-    count ≡ cell_count_in s given (first_leg_of n) → Picks s given n least (least_of (cell_count_in s given) (waiting_before s chan n)) →
-    Picks s given (n + 1) (Some (better_of least (record { number = n; count = count }))) (least_of (cell_count_in s given) (waiting_before s chan (n + 1)))
-one_waits s chan given n count least one waits counted picks = record {
+pub one_waits : (s : State) (chan new_tick n count : ℕ) (least : Option WaitingLeg) → HasOneLeg (slot_at s.circuits n) → waits_on chan (leg_at (slot_at s.circuits n) 0) ≡ true →
+    count ≡ cell_count_in s new_tick (first_leg_of n) → Picks s new_tick n least (least_of (cell_count_in s new_tick) (waiting_before s chan n)) →
+    Picks s new_tick (n + 1) (Some (better_of least (record { number = n; count = count }))) (least_of (cell_count_in s new_tick) (waiting_before s chan (n + 1)))
+one_waits s chan new_tick n count least one waits counted picks = record {
   same =
-      ap (least_of (cell_count_in s given))
+      ap (least_of (cell_count_in s new_tick))
       (waiting-by s chan n (slot_at s.circuits n) refl one
       ∙ ap (λ b. waiting_before s chan n ++ (if b then first_leg_of n ∷ [] else [])) waits)
-      ∙ least_of-last (cell_count_in s given) (waiting_before s chan n) (first_leg_of n)
-      ∙ ap (λ o. Some (better (cell_count_in s given) o (first_leg_of n))) picks.same
-      ∙ ap Some (same_choice s given n least (record { number = n; count = count }) picks.waits counted);
-  waits = chosen s given n least (record { number = n; count = count }) picks.waits (record { inside = omega arith; count = counted });
+      ∙ least_of-last (cell_count_in s new_tick) (waiting_before s chan n) (first_leg_of n)
+      ∙ ap (λ o. Some (better (cell_count_in s new_tick) o (first_leg_of n))) picks.same
+      ∙ ap Some (same_choice s new_tick n least (record { number = n; count = count }) picks.waits counted);
+  waits = chosen s new_tick n least (record { number = n; count = count }) picks.waits (record { inside = omega arith; count = counted });
 }

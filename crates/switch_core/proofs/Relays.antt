@@ -56,15 +56,15 @@ new-relay rules h chan id reply keys pad n relay fresh stands =
     (events-born rules h chan id reply keys pad n fresh) (ap (λ (p : Past). p.sealed_count) fresh) stands
 
 -- one more circuit
-pushed-by : (rules : Rules) (h : List Step) (chan id : ℕ) (reply : Cell) (keys : LayerKeys) (pad : Option (List ℕ)) (n : ℕ) (relay : Relay) (kept : Option Relay) (c : ℕ) (b : Bool) → (c == n) ≡ b → past rules h n ≡ no_past →
-    RelayStands relay rules (Born (circuit_cell reply) keys pad ∷ []) 0 → RelayOfPast kept rules (past rules h c) →
-    RelayOfPast (if b then Some relay else kept) rules (past rules (opening chan id reply keys pad n ∷ h) c)
-pushed-by rules h chan id reply keys pad n relay kept c true same fresh stands old =
+pushed-by : (rules : Rules) (h : List Step) (chan id : ℕ) (reply : Cell) (keys : LayerKeys) (pad : Option (List ℕ)) (n : ℕ) (relay : Relay) (kept_relay : Option Relay) (c : ℕ) (b : Bool) → (c == n) ≡ b → past rules h n ≡ no_past →
+    RelayStands relay rules (Born (circuit_cell reply) keys pad ∷ []) 0 → RelayOfPast kept_relay rules (past rules h c) →
+    RelayOfPast (if b then Some relay else kept_relay) rules (past rules (opening chan id reply keys pad n ∷ h) c)
+pushed-by rules h chan id reply keys pad n relay kept_relay c true same fresh stands old =
     subst (λ m. RelayOfPast (Some relay) rules (past rules (opening chan id reply keys pad n ∷ h) m)) (sym (same-number c n same))
     (new-relay rules h chan id reply keys pad n relay fresh stands)
-pushed-by rules h chan id reply keys pad n relay kept c false other fresh stands old =
+pushed-by rules h chan id reply keys pad n relay kept_relay c false other fresh stands old =
     let apart : (n == c) ≡ false = grind (arith, nat_tests) in
-    subst (λ p. RelayOfPast kept rules p) (sym (past-other rules h chan id reply keys pad n c apart)) old
+    subst (λ p. RelayOfPast kept_relay rules p) (sym (past-other rules h chan id reply keys pad n c apart)) old
 
 pub opened_relays : (rules : Rules) (h : List Step) (chan id : ℕ) (reply : Cell) (keys : LayerKeys) (pad : Option (List ℕ)) (n : ℕ) (relay : Relay) (relays : List (Option Relay)) → n ≡ length relays → past rules h n ≡ no_past →
     RelayStands relay rules (Born (circuit_cell reply) keys pad ∷ []) 0 → RelaysStand rules relays (circuits h) (λ c. past rules h c) →
@@ -79,8 +79,8 @@ opened_relays rules h chan id reply keys pad n relay relays is fresh stands old 
 
 -- a relay that was forgotten
 
-gone-at : (live : Bool) (kept : Option Relay) (rules : Rules) (ev : List Event) (sealed : ℕ) → live ≡ false → kept ≡ None → RelayAt live kept rules ev sealed
-gone-at live kept rules ev sealed gone none = rw gone none
+gone-at : (live : Bool) (kept_relay : Option Relay) (rules : Rules) (ev : List Event) (sealed : ℕ) → live ≡ false → kept_relay ≡ None → RelayAt live kept_relay rules ev sealed
+gone-at live kept_relay rules ev sealed gone none = rw gone none
 
 torn-by : (rules : Rules) (h : List Step) (step : Step) (c d : ℕ) (relays after : List (Option Relay)) (b : Bool) → (d == c) ≡ b → is_live_circuit rules (step ∷ h) c ≡ false →
     ((e : ℕ) → (e == c) ≡ false → past rules (step ∷ h) e ≡ past rules h e) → Forgets relays after c → RelayOfPast (slot_at relays d) rules (past rules h d) →

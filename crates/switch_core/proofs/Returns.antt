@@ -17,7 +17,7 @@ use Rattle.tr_io.specs.declared.answers.Difference.{Difference}
 use Rattle.tr_io.specs.declared.names.ClaimNote.{ClaimNote}
 use Rattle.tr_io.specs.declared.names.Dir.{Dir}
 use Rattle.switch_model.specs.Answers.GiveBack.{is_note, returned}
-use Rattle.switch_model.specs.Start.{Start}
+use Rattle.switch_model.specs.Start.{SwitchStart}
 use Rattle.switch_model.specs.Waiting.Contents.{DiffersAt}
 use Rattle.switch_machine.specs.Calls.Abandon.{abandon_result, abandon_state, abandon_state_of}
 use Rattle.switch_machine.specs.Calls.Claim.{waiting_cells}
@@ -74,20 +74,20 @@ get-front [] (suc n) i inside = refl
 get-front (x ∷ xs) (suc n) zero inside = refl
 get-front (x ∷ xs) (suc n) (suc i) inside = get-front xs n i (omega (arith, inside))
 
-pub out_length : (claimed : ℕ) (note : ClaimNote) (bodies : List WaitingCell) → note.count ≤ length bodies → length (bodies_out_of (way_of claimed (Some note) bodies)) ≡ note.count
-out_length claimed note bodies fits =
+pub out_length : (claimed_count : ℕ) (note : ClaimNote) (bodies : List WaitingCell) → note.count ≤ length bodies → length (bodies_out_of (way_of claimed_count (Some note) bodies)) ≡ note.count
+out_length claimed_count note bodies fits =
     length-map (waiting_cells (take note.count bodies)) body_of ∙ length-map (take note.count bodies) (λ w. w.cell) ∙ length-take-le note.count bodies fits
 
-pub out_inside : (claimed : ℕ) (claim : Option ClaimNote) (bodies : List WaitingCell) (i : ℕ) → IfSome claim (λ note. note.count ≤ length bodies) → i < length (bodies_out_of (way_of claimed claim bodies)) → i < length bodies
-out_inside claimed None bodies i fits inside = absurd (omega (arith, inside))
-out_inside claimed (Some note) bodies i fits inside = omega (arith, fits, inside, out_length claimed note bodies fits)
+pub out_inside : (claimed_count : ℕ) (claim : Option ClaimNote) (bodies : List WaitingCell) (i : ℕ) → IfSome claim (λ note. note.count ≤ length bodies) → i < length (bodies_out_of (way_of claimed_count claim bodies)) → i < length bodies
+out_inside claimed_count None bodies i fits inside = absurd (omega (arith, inside))
+out_inside claimed_count (Some note) bodies i fits inside = omega (arith, fits, inside, out_length claimed_count note bodies fits)
 
-pub out_get : (claimed : ℕ) (claim : Option ClaimNote) (bodies : List WaitingCell) (i : ℕ) (w : WaitingCell) → IfSome claim (λ note. note.count ≤ length bodies) → i < length (bodies_out_of (way_of claimed claim bodies)) →
-    slice_get bodies i ≡ Some w → slice_get (bodies_out_of (way_of claimed claim bodies)) i ≡ Some w.cell.body
-out_get claimed None bodies i w fits inside here = absurd (omega (arith, inside))
-out_get claimed (Some note) bodies i w fits inside here =
+pub out_get : (claimed_count : ℕ) (claim : Option ClaimNote) (bodies : List WaitingCell) (i : ℕ) (w : WaitingCell) → IfSome claim (λ note. note.count ≤ length bodies) → i < length (bodies_out_of (way_of claimed_count claim bodies)) →
+    slice_get bodies i ≡ Some w → slice_get (bodies_out_of (way_of claimed_count claim bodies)) i ≡ Some w.cell.body
+out_get claimed_count None bodies i w fits inside here = absurd (omega (arith, inside))
+out_get claimed_count (Some note) bodies i w fits inside here =
     slice_get-map body_of (waiting_cells (take note.count bodies)) i
-    ∙ ap (λ o. option_map body_of o) (slice_get-map (λ w. w.cell) (take note.count bodies) i ∙ ap (λ o. option_map (λ w. w.cell) o) (get-front bodies note.count i (omega (arith, inside, out_length claimed note bodies fits)) ∙ here))
+    ∙ ap (λ o. option_map body_of o) (slice_get-map (λ w. w.cell) (take note.count bodies) i ∙ ap (λ o. option_map (λ w. w.cell) o) (get-front bodies note.count i (omega (arith, inside, out_length claimed_count note bodies fits)) ∙ here))
 
 pub same_body : (given : List (List ℕ)) (i : ℕ) (x y : List ℕ) (b : Bool) → slice_get given i ≡ Some y → MatchBool b (y ≡ x) (y ≢ x) → IsTrue b ↔ (slice_get given i ≡ Some x)
 same_body given i x y true here same = ((λ t. here ∙ ap (λ z. Some z) same), (λ e. refl))
@@ -112,15 +112,15 @@ abbrev RefusedBy : Option BackAnswer → BackAnswer → Type 0
 RefusedBy None answer = ⊤
 RefusedBy (Some a) answer = (answer ≡ a) × IsRefusal a
 
-note-refused : (kept : Option ClaimNote) (note : ClaimNote) (place : Option ℕ) (answer : BackAnswer) (b : Bool) →
-    RefusedBy (if not b then Some (BackAnswer.Stranger (Difference.Note kept note)) else content_refusal note place) (if not b then BackAnswer.Stranger (Difference.Note kept note) else returned note place answer)
-note-refused kept note place answer false = (refl, tt)
-note-refused kept note None answer true = tt
-note-refused kept note (Some place) answer true = (refl, tt)
+note-refused : (claim_out : Option ClaimNote) (note : ClaimNote) (place : Option ℕ) (answer : BackAnswer) (b : Bool) →
+    RefusedBy (if not b then Some (BackAnswer.Stranger (Difference.Note claim_out note)) else content_refusal note place) (if not b then BackAnswer.Stranger (Difference.Note claim_out note) else returned note place answer)
+note-refused claim_out note place answer false = (refl, tt)
+note-refused claim_out note None answer true = tt
+note-refused claim_out note (Some place) answer true = (refl, tt)
 
 on-refused : (note : ClaimNote) (place : Option ℕ) (x : Option CircuitState) (answer : CircuitState → BackAnswer) → RefusedBy (refusal_on note place x) (return_result_on note place x answer)
 on-refused note place None answer = (refl, tt)
-on-refused note place (Some x) answer = note-refused (kept_note (way_of_circuit x note.dir).kept) note place (answer x) (is_note note (kept_note (way_of_circuit x note.dir).kept))
+on-refused note place (Some x) answer = note-refused (kept_note (way_of_circuit x note.dir).claim_out) note place (answer x) (is_note note (kept_note (way_of_circuit x note.dir).claim_out))
 
 by-name : (note : ClaimNote) (place : Option ℕ) (x : Option CircuitState) (answer : CircuitState → BackAnswer) (b d : Bool) →
     RefusedBy (if not b then Some (BackAnswer.Stranger (Difference.Note None note)) else if not d then Some (BackAnswer.Stranger (Difference.Note None note)) else refusal_on note place x)
@@ -150,7 +150,7 @@ refused_state name rules ev s note place a is =
     let by = refused_by name s note place (λ x. BackAnswer.Down destroy_internal) a is in
     sym (ap (λ b. abandon_state_of rules (ev note.circ.0) s note (slot_at s.circuits note.circ.0) b) by.0 ∙ left-as-is rules (ev note.circ.0) s note (slot_at s.circuits note.circ.0) a by.1)
 
-same-but-counted : (start : Start) (old new : State) (relays after : List (Option Relay)) (note : ClaimNote) (place : Option ℕ) (a : BackAnswer) → IsRefusal a → ((rules : Rules) (ev : ℕ → List Event) → new ≡ abandon_state start.name rules ev old note place) →
+same-but-counted : (start : SwitchStart) (old new : State) (relays after : List (Option Relay)) (note : ClaimNote) (place : Option ℕ) (a : BackAnswer) → IsRefusal a → ((rules : Rules) (ev : ℕ → List Event) → new ≡ abandon_state start.name rules ev old note place) →
     a ≡ abandon_result start.name old note place → after ≡ relays → started start new after ≡ record (started start old relays) { state = counted old }
 same-but-counted start old new relays after note place a of state answer same =
     let left : new ≡ counted old =
@@ -158,7 +158,7 @@ same-but-counted start old new relays after note place a of state answer same =
     ∙ left-as-is start.rules [] old note (slot_at old.circuits note.circ.0) a of in
     ap (λ s. started start s after) left ∙ ap (λ r. started start (counted old) r) same
 
-pub refused_leaves : (start : Start) (old new : State) (relays after : List (Option Relay)) (note : ClaimNote) (place : Option ℕ) (a : BackAnswer) → ((rules : Rules) (ev : ℕ → List Event) → new ≡ abandon_state start.name rules ev old note place) →
+pub refused_leaves : (start : SwitchStart) (old new : State) (relays after : List (Option Relay)) (note : ClaimNote) (place : Option ℕ) (a : BackAnswer) → ((rules : Rules) (ev : ℕ → List Event) → new ≡ abandon_state start.name rules ev old note place) →
     a ≡ abandon_result start.name old note place → ForgetsDown a relays after note.circ.0 → RefusedCase a (started start new after ≡ record (started start old relays) { state = counted old })
 refused_leaves start old new relays after note place BackAnswer.Settled state answer forgets = tt
 refused_leaves start old new relays after note place (BackAnswer.Down reason) state answer forgets = tt
@@ -173,7 +173,7 @@ refusal_live name s note place here opened = rw (here, opened) refl
 pub record Passes (slot : Option CircuitState) (note : ClaimNote) (place : Option ℕ) (answer : CircuitState → BackAnswer) (a : BackAnswer) : Type 0 where
   pub circuit : CircuitState
   pub live : slot ≡ Some circuit
-  pub is_kept : is_note note (kept_note (way_of_circuit circuit note.dir).kept) ≡ true
+  pub is_kept : is_note note (kept_note (way_of_circuit circuit note.dir).claim_out) ≡ true
   pub no_place : place ≡ None
   pub is : a ≡ answer circuit
 
@@ -181,16 +181,16 @@ abbrev PassedBy : Option BackAnswer → Option CircuitState → ClaimNote → Op
 PassedBy None slot note place answer a = Passes slot note place answer a
 PassedBy (Some refused) slot note place answer a = ⊤
 
-note-passes : (x : CircuitState) (note : ClaimNote) (place : Option ℕ) (answer : CircuitState → BackAnswer) (kept : Option ClaimNote) (b : Bool) → kept_note (way_of_circuit x note.dir).kept ≡ kept → is_note note kept ≡ b →
-    PassedBy (if not b then Some (BackAnswer.Stranger (Difference.Note kept note)) else content_refusal note place) (Some x) note place answer
-    (if not b then BackAnswer.Stranger (Difference.Note kept note) else returned note place (answer x))
-note-passes x note place answer kept false same is = tt
-note-passes x note (Some place) answer kept true same is = tt
-note-passes x note None answer kept true same is = record { circuit = x; live = refl; is_kept = ap (λ o. is_note note o) same ∙ is; no_place = refl; is = refl }
+note-passes : (x : CircuitState) (note : ClaimNote) (place : Option ℕ) (answer : CircuitState → BackAnswer) (claim_out : Option ClaimNote) (b : Bool) → kept_note (way_of_circuit x note.dir).claim_out ≡ claim_out → is_note note claim_out ≡ b →
+    PassedBy (if not b then Some (BackAnswer.Stranger (Difference.Note claim_out note)) else content_refusal note place) (Some x) note place answer
+    (if not b then BackAnswer.Stranger (Difference.Note claim_out note) else returned note place (answer x))
+note-passes x note place answer claim_out false same is = tt
+note-passes x note (Some place) answer claim_out true same is = tt
+note-passes x note None answer claim_out true same is = record { circuit = x; live = refl; is_kept = ap (λ o. is_note note o) same ∙ is; no_place = refl; is = refl }
 
 on-passes : (note : ClaimNote) (place : Option ℕ) (x : Option CircuitState) (answer : CircuitState → BackAnswer) → PassedBy (refusal_on note place x) x note place answer (return_result_on note place x answer)
 on-passes note place None answer = tt
-on-passes note place (Some x) answer = note-passes x note place answer (kept_note (way_of_circuit x note.dir).kept) (is_note note (kept_note (way_of_circuit x note.dir).kept)) refl refl
+on-passes note place (Some x) answer = note-passes x note place answer (kept_note (way_of_circuit x note.dir).claim_out) (is_note note (kept_note (way_of_circuit x note.dir).claim_out)) refl refl
 
 name-passes : (note : ClaimNote) (place : Option ℕ) (x : Option CircuitState) (answer : CircuitState → BackAnswer) (b d : Bool) →
     PassedBy (if not b then Some (BackAnswer.Stranger (Difference.Note None note)) else if not d then Some (BackAnswer.Stranger (Difference.Note None note)) else refusal_on note place x) x note place answer
@@ -233,14 +233,14 @@ of_parts s relays note start bodies input place P there all first fact = record 
 
 pub of_place : (s : Started) (job parts : JobParts) (relays : List (Option Relay)) (bodies : List (List ℕ)) (place : Option ℕ) (P : ClaimNote → Option ℕ → Type 0) → parts ≡ job → relays ≡ s.relays → bodies ≡ parts.bodies.items →
     IsPlace relays s.state parts.note parts.cipher bodies place → P parts.note place → OfPlace s job.note job.cipher job.bodies.items (λ p. P job.note p)
-of_place s job parts relays bodies place P same kept all first fact =
+of_place s job parts relays bodies place P same kept_is all first fact =
     subst (λ (j : JobParts). OfPlace s j.note j.cipher j.bodies.items (λ p. P j.note p)) same
-    (of_parts s relays parts.note parts.cipher bodies parts.bodies.items place (λ p. P parts.note p) kept all first fact)
+    (of_parts s relays parts.note parts.cipher bodies parts.bodies.items place (λ p. P parts.note p) kept_is all first fact)
 
 -- how many are out, and their bodies
-out-by : (kept : Option KeptClaim) → kept_length kept ≡ length (map body_of (kept_cells kept))
+out-by : (claim_out : Option KeptClaim) → kept_length claim_out ≡ length (map body_of (kept_cells claim_out))
 out-by None = refl
-out-by (Some kept) = sym (length-map kept.cells body_of)
+out-by (Some claim_out) = sym (length-map claim_out.cells body_of)
 
-pub out_bodies : (way : WayState) → kept_length way.kept ≡ length (bodies_out_of way)
-out_bodies way = out-by way.kept
+pub out_bodies : (way : WayState) → kept_length way.claim_out ≡ length (bodies_out_of way)
+out_bodies way = out-by way.claim_out

@@ -19,7 +19,7 @@ unfolding slot_at with_slot
 one-leg leg cells = refl
 
 -- as many cells wait more as bodies came home more, so as many were sent as before
-pub sealed_circuit : (leg : LegState) (forth back : WayState) (orders : OrdersState) (cells : List CircuitCell) → kept_length back.kept ≤ back.claimed → length cells ≡ kept_length back.kept →
+pub sealed_circuit : (leg : LegState) (forth back : WayState) (orders : OrdersState) (cells : List CircuitCell) → kept_length back.claim_out ≤ back.claimed_count → length cells ≡ kept_length back.claim_out →
     circuit_of (more_queued cells leg) forth (home_way back) orders ≡ with_sealed cells (circuit_of leg forth back orders)
 sealed_circuit leg forth back orders cells out count =
     same-but (circuit_of leg forth back orders) (1 + home_count (home_way back) - length (leg.queue ++ cells)) (1 + home_count back - length leg.queue) (Some (more_queued cells leg) ∷ []) (queued_on (Some leg ∷ []) 0 cells) (home_way back)

@@ -35,7 +35,7 @@ none-again c dial = none-again_by (is_handed_out dial)
 -- the circuit behind a batch, in the switch
 behind-batch : (rules : Rules) (events : List Event) (s : State) (c : ℕ) (x x' : CircuitState) (k next : Counters) (relay : RelayCircuit) (reason : Option ℕ) → s.again ≡ [] → k.bodies ≡ s.bodies → k.dial_orders ≡ s.dial_orders →
     SettlesForth rules events x x' k next relay reason →
-    record (counted s) { bodies = next.bodies; dial_orders = next.dial_orders; circuits = with_slot s.circuits c (Some x') } ≡ settled_state rules events s c x (kept_cells x.forth.kept)
+    record (counted s) { bodies = next.bodies; dial_orders = next.dial_orders; circuits = with_slot s.circuits c (Some x') } ≡ settled_state rules events s c x (kept_cells x.forth.claim_out)
 behind-batch rules events s c x x' k next relay reason again bodies dials settles =
     let start = same-start s x k events bodies dials in
     rw (sym start, settles.circuit, settles.bodies, settles.dials, again, none-again c (settled_all rules events x k).circuit.dial) refl
@@ -44,9 +44,9 @@ put-there : (s : State) (c : ℕ) (x y : CircuitState) → slot_at s.circuits c 
 put-there s c x y live = slot_at-with s.circuits c (Some y) c (slot_at-inside s.circuits c x live) ∙ ap (λ b. if b then Some y else slot_at s.circuits c) (self_eq c)
 
 circuit-is : (rules : Rules) (events : List Event) (s : State) (x x' : CircuitState) (k next : Counters) (relay : RelayCircuit) (reason : Option ℕ) → k.bodies ≡ s.bodies → k.dial_orders ≡ s.dial_orders →
-    SettlesForth rules events x x' k next relay reason → (settled_home rules events s x (kept_cells x.forth.kept)).circuit ≡ x'
+    SettlesForth rules events x x' k next relay reason → (settled_home rules events s x (kept_cells x.forth.claim_out)).circuit ≡ x'
 circuit-is rules events s x x' k next relay reason bodies dials settles =
-    ap {A = Settling} (λ y. record (settle_all rules y (kept_cells x.forth.kept)).circuit { forth = home_way x.forth }) (sym (same-start s x k events bodies dials)) ∙ sym settles.circuit
+    ap {A = Settling} (λ y. record (settle_all rules y (kept_cells x.forth.claim_out)).circuit { forth = home_way x.forth }) (sym (same-start s x k events bodies dials)) ∙ sym settles.circuit
 
 pub settles_none : (rules : Rules) (events : List Event) (s mid fin new : State) (c : ℕ) (x x' : CircuitState) (k next : Counters) (relay : RelayCircuit) (a : BackAnswer) → s.again ≡ [] → k.bodies ≡ s.bodies → k.dial_orders ≡ s.dial_orders →
     SettlesForth rules events x x' k next relay None → mid ≡ record s { circuits = with_slot s.circuits c (Some x') } → fin ≡ counted mid → a ≡ BackAnswer.Settled → new ≡ record fin { bodies = next.bodies; dial_orders = next.dial_orders } →
@@ -60,22 +60,22 @@ settles_none rules events s mid fin new c x x' k next relay a again bodies dials
 
 pub settles_some : (rules : Rules) (events : List Event) (s mid fin new : State) (c reason : ℕ) (x x' : CircuitState) (k next : Counters) (relay : RelayCircuit) (a : BackAnswer) → slot_at s.circuits c ≡ Some x → s.again ≡ [] → k.bodies ≡ s.bodies → k.dial_orders ≡ s.dial_orders →
     SettlesForth rules events x x' k next relay (Some reason) → mid ≡ record s { circuits = with_slot s.circuits c (Some x') } →
-    fin ≡ tear_down_state_of rules (settled rules x.sent_count events (kept_cells x.forth.kept)) mid c reason (slot_at mid.circuits c) → a ≡ tear_down_result_of (slot_at mid.circuits c) reason →
+    fin ≡ tear_down_state_of rules (settled rules x.sent_count events (kept_cells x.forth.claim_out)) mid c reason (slot_at mid.circuits c) → a ≡ tear_down_result_of (slot_at mid.circuits c) reason →
     new ≡ record fin { bodies = next.bodies; dial_orders = next.dial_orders } → Settles rules events s new c x relay a
 settles_some rules events s mid fin new c reason x x' k next relay a live again bodies dials settles put torn said is =
     let there : slot_at mid.circuits c ≡ Some x' = ap (λ (t : State). slot_at t.circuits c) put ∙ put-there s c x x' live in
     let down : a ≡ BackAnswer.Down reason = said ∙ ap (λ y. tear_down_result_of y reason) there in
     let behind = behind-batch rules events s c x x' k next relay (Some reason) again bodies dials settles in
     let circuit = circuit-is rules events s x x' k next relay (Some reason) bodies dials settles in
-    let gone : fin ≡ torn_state rules (settled rules x.sent_count events (kept_cells x.forth.kept)) (counted mid) c reason x' = torn ∙ ap (λ y. tear_down_state_of rules (settled rules x.sent_count events (kept_cells x.forth.kept)) mid c reason y) there in
+    let gone : fin ≡ torn_state rules (settled rules x.sent_count events (kept_cells x.forth.claim_out)) (counted mid) c reason x' = torn ∙ ap (λ y. tear_down_state_of rules (settled rules x.sent_count events (kept_cells x.forth.claim_out)) mid c reason y) there in
     rw down (record {
       answer_is = ap done_by settles.reason_is;
       state =
           is
           ∙ ap {A = State} (λ f. record f { bodies = next.bodies; dial_orders = next.dial_orders }) gone
-          ∙ ap {A = State} (λ m. record (torn_state rules (settled rules x.sent_count events (kept_cells x.forth.kept)) (counted m) c reason x') { bodies = next.bodies; dial_orders = next.dial_orders }) put
-          ∙ ap (λ t. torn_state rules (settled rules x.sent_count events (kept_cells x.forth.kept)) t c reason x') behind
-          ∙ ap (λ y. torn_state rules (settled rules x.sent_count events (kept_cells x.forth.kept)) (settled_state rules events s c x (kept_cells x.forth.kept)) c reason y) (sym circuit);
+          ∙ ap {A = State} (λ m. record (torn_state rules (settled rules x.sent_count events (kept_cells x.forth.claim_out)) (counted m) c reason x') { bodies = next.bodies; dial_orders = next.dial_orders }) put
+          ∙ ap (λ t. torn_state rules (settled rules x.sent_count events (kept_cells x.forth.claim_out)) t c reason x') behind
+          ∙ ap (λ y. torn_state rules (settled rules x.sent_count events (kept_cells x.forth.claim_out)) (settled_state rules events s c x (kept_cells x.forth.claim_out)) c reason y) (sym circuit);
       relay_is = λ same. cc;
     })
 
@@ -108,9 +108,9 @@ had-fits n None y is fits = cc
 had-fits n (Some z) y is fits = let same : z ≡ y = cc in subst (λ (w : CircuitState). taken_count w ≤ n) same fits
 
 -- a circuit that settles took no body
-pub settled_fits : (n : ℕ) (rules : Rules) (old new : Option CircuitState) (k next : Counters) (first relay : RelayCircuit) (opened : List Opened) (reason : Option ℕ) → SlotSettles rules old new k next first relay opened reason →
+pub settled_fits : (n : ℕ) (rules : Rules) (old new : Option CircuitState) (k next : Counters) (first relay : RelayCircuit) (opened_bodies : List Opened) (reason : Option ℕ) → SlotSettles rules old new k next first relay opened_bodies reason →
     IfSome old (λ y. taken_count y ≤ n) → IfSome new (λ y. taken_count y ≤ n)
-settled_fits n rules old new k next first relay opened reason settles fits =
+settled_fits n rules old new k next first relay opened_bodies reason settles fits =
     some-fits n new settles.behind_it settles.stays (let had : taken_count settles.circuit ≤ n = had-fits n old settles.circuit settles.live fits in omega (arith, had, settles.taken))
 
 pub some_is : (x : Option CircuitState) (a b : CircuitState) → x ≡ Some a → x ≡ Some b → a ≡ b
@@ -124,7 +124,7 @@ is_inside (x ∷ slots) (suc c) live = let rest : c < length slots = is_inside s
 
 -- by whether one of them closed
 pub settles_by : (rules : Rules) (events : List Event) (s mid fin new : State) (c : ℕ) (x x' : CircuitState) (k next : Counters) (relay : RelayCircuit) (reason : Option ℕ) (a : BackAnswer) → slot_at s.circuits c ≡ Some x → s.again ≡ [] → k.bodies ≡ s.bodies → k.dial_orders ≡ s.dial_orders →
-    SettlesForth rules events x x' k next relay reason → mid ≡ record s { circuits = with_slot s.circuits c (Some x') } → fin ≡ finished_state rules (λ n. settled rules x.sent_count events (kept_cells x.forth.kept)) mid c reason →
+    SettlesForth rules events x x' k next relay reason → mid ≡ record s { circuits = with_slot s.circuits c (Some x') } → fin ≡ finished_state rules (λ n. settled rules x.sent_count events (kept_cells x.forth.claim_out)) mid c reason →
     a ≡ finished_answer mid c reason → new ≡ record fin { bodies = next.bodies; dial_orders = next.dial_orders } → Settles rules events s new c x relay a
 settles_by rules events s mid fin new c x x' k next relay None a live again bodies dials settles put finished said is = settles_none rules events s mid fin new c x x' k next relay a again bodies dials settles put finished said is
 settles_by rules events s mid fin new c x x' k next relay (Some reason) a live again bodies dials settles put finished said is = settles_some rules events s mid fin new c reason x x' k next relay a live again bodies dials settles put finished said is

@@ -33,8 +33,8 @@ home-same : (n : ℕ) (body : Option (List ℕ)) (back : WayState) → home_coun
 home-same n None back = refl
 home-same n (Some body) back = refl
 
-held-back : (leg : LegState) (forth back : WayState) (orders : OrdersState) (sent_back : ℕ) → length leg.queue ≤ 1 + home_count back → kept_length back.kept ≤ back.claimed → sent_back ≡ back.claimed + length back.waiting →
-    1 + sent_back - (circuit_of leg forth back orders).sent_count ≡ length leg.queue + (kept_length back.kept + length back.waiting)
+held-back : (leg : LegState) (forth back : WayState) (orders : OrdersState) (sent_back : ℕ) → length leg.queue ≤ 1 + home_count back → kept_length back.claim_out ≤ back.claimed_count → sent_back ≡ back.claimed_count + length back.waiting_bodies →
+    1 + sent_back - (circuit_of leg forth back orders).sent_count ≡ length leg.queue + (kept_length back.claim_out + length back.waiting_bodies)
 held-back leg forth back orders sent_back queued out is = omega (arith, queued, out, is)
 
 abbrev closing_with : Bool → Effects → Closing
@@ -163,13 +163,13 @@ left-by : (b : Bool) (e : Effects) (reason : ℕ) (y one all : Settling) → clo
 left-by true e reason y one all is = refl
 left-by false e reason y one all is = rw is refl
 
-more-behind : (bodies : List (List ℕ)) (body : Option (List ℕ)) (number : ℕ) (back : WayState) → length bodies ≡ back.claimed + length back.waiting →
-    length (pushed bodies body) ≡ (back_waits number body back).claimed + length (back_waits number body back).waiting
+more-behind : (bodies : List (List ℕ)) (body : Option (List ℕ)) (number : ℕ) (back : WayState) → length bodies ≡ back.claimed_count + length back.waiting_bodies →
+    length (pushed bodies body) ≡ (back_waits number body back).claimed_count + length (back_waits number body back).waiting_bodies
 more-behind bodies None number back is = is
 more-behind bodies (Some body) number back is =
-    omega (arith, is, length-append bodies (body ∷ []), length-append back.waiting (record { number = number; cell = record { command = 3; body = body } } ∷ []))
+    omega (arith, is, length-append bodies (body ∷ []), length-append back.waiting_bodies (record { number = number; cell = record { command = 3; body = body } } ∷ []))
 
-same-out : (body : Option (List ℕ)) (number : ℕ) (back : WayState) → kept_length back.kept ≤ back.claimed → kept_length (back_waits number body back).kept ≤ (back_waits number body back).claimed
+same-out : (body : Option (List ℕ)) (number : ℕ) (back : WayState) → kept_length back.claim_out ≤ back.claimed_count → kept_length (back_waits number body back).claim_out ≤ (back_waits number body back).claimed_count
 same-out None number back out = out
 same-out (Some body) number back out = out
 
@@ -218,10 +218,10 @@ goes rules events cells x k n relay relay' leg forth back back' orders orders' n
 
 -- all of them went
 pub all_went : (rules : Rules) (events : List Event) (x new : CircuitState) (k next : Counters) (n : ℕ) (relay : RelayCircuit) (leg : LegState) (forth back : WayState) (orders : OrdersState) (outputs : List Opened) →
-    GoesOn rules events (kept_cells x.forth.kept) x k n relay leg forth back orders next outputs → length (kept_cells x.forth.kept) ≤ n → forth ≡ x.forth → new ≡ circuit_of leg (home_way forth) back orders →
+    GoesOn rules events (kept_cells x.forth.claim_out) x k n relay leg forth back orders next outputs → length (kept_cells x.forth.claim_out) ≤ n → forth ≡ x.forth → new ≡ circuit_of leg (home_way forth) back orders →
     SettlesForth rules events x new k next relay None
 all_went rules events x new k next n relay leg forth back orders outputs g far same is =
-    let none : g.rest ≡ [] = sym g.left ∙ drop_of_length-le (kept_cells x.forth.kept) far in
+    let none : g.rest ≡ [] = sym g.left ∙ drop_of_length-le (kept_cells x.forth.claim_out) far in
     let settled : settled_all rules events x k ≡ settling_of (circuit_of leg forth back orders) next g.before = g.settled ∙ ap (settle_all rules (settling_of (circuit_of leg forth back orders) next g.before)) none in
     record {
       reason_is = sym (g.reason ∙ ap (settling_reason rules (circuit_of leg forth back orders).sent_count g.before) none);
@@ -240,7 +240,7 @@ ends-left false next e y_is one_is back_is orders_is counts_is = one_is ∙ rw (
 
 -- one of them closes
 pub closes_circuit : (rules : Rules) (events : List Event) (x new : CircuitState) (k next next' : Counters) (n reason : ℕ) (relay relay' : RelayCircuit) (leg : LegState) (forth back back' : WayState) (orders orders' : OrdersState) (outputs : List Opened) (one : Opened) →
-    (g : GoesOn rules events (kept_cells x.forth.kept) x k n relay leg forth back orders next outputs) → (c : NextCell rules g.before (kept_cells x.forth.kept) g.rest outputs one n) → length leg.queue ≤ 1 + home_count back →
+    (g : GoesOn rules events (kept_cells x.forth.claim_out) x k n relay leg forth back orders next outputs) → (c : NextCell rules g.before (kept_cells x.forth.claim_out) g.rest outputs one n) → length leg.queue ≤ 1 + home_count back →
     Applied (length leg.queue) (effects rules g.before (forward_of c.cell)) back back' orders orders' next next' (Some reason) → forth ≡ x.forth → new ≡ circuit_of leg (home_way forth) back' orders' →
     SettlesForth rules events x new k next' relay' (Some reason)
 closes_circuit rules events x new k next next' n reason relay relay' leg forth back back' orders orders' outputs one g c queued applied same is =
@@ -275,8 +275,8 @@ no_reason None is = refl
 no_reason (Some reason) is = cc
 
 -- what a claimed direction and its room allow
-pub fewer_than_kept : (n : ℕ) (outputs : List Opened) (kept : Option KeptClaim) → length outputs ≡ kept_length kept → n < length outputs → n < length (kept_cells kept)
-fewer_than_kept n outputs kept count inside = omega (arith, count, inside, kept-count kept)
+pub fewer_than_kept : (n : ℕ) (outputs : List Opened) (claim_out : Option KeptClaim) → length outputs ≡ kept_length claim_out → n < length outputs → n < length (kept_cells claim_out)
+fewer_than_kept n outputs claim_out count inside = omega (arith, count, inside, kept-count claim_out)
 
 -- what is known of the effects by what the code did
 
@@ -288,16 +288,16 @@ applied_as queued q told e back back' orders mid orders' k k' reason same_queue 
     (subst (λ o. Applied queued told back back' o orders' k k' reason) same_orders (record { reason_is = reason_is; back_is = back_is; orders_is = orders_is; counts_is = counts_is })))
 
 pub record OneMore (back back' : WayState) : Type 0 where
-  pub claimed : back'.claimed ≡ back.claimed
-  pub kept : back'.kept ≡ back.kept
-  pub waiting : length back'.waiting ≤ length back.waiting + 1
+  pub claimed_count : back'.claimed_count ≡ back.claimed_count
+  pub claim_out : back'.claim_out ≡ back.claim_out
+  pub waiting_bodies : length back'.waiting_bodies ≤ length back.waiting_bodies + 1
 
 more-by : (number : ℕ) (body : Option (List ℕ)) (back : WayState) → OneMore back (back_waits number body back)
-more-by number None back = record { claimed = refl; kept = refl; waiting = omega arith }
-more-by number (Some body) back = record { claimed = refl; kept = refl; waiting = omega (arith, length-append back.waiting (record { number = number; cell = record { command = 3; body = body } } ∷ [])) }
+more-by number None back = record { claimed_count = refl; claim_out = refl; waiting_bodies = omega arith }
+more-by number (Some body) back = record { claimed_count = refl; claim_out = refl; waiting_bodies = omega (arith, length-append back.waiting_bodies (record { number = number; cell = record { command = 3; body = body } } ∷ [])) }
 
 one-more_by : (b : Bool) (number : ℕ) (e : Effects) (back : WayState) → OneMore back (back_by b number e back)
-one-more_by true number e back = record { claimed = refl; kept = refl; waiting = omega arith }
+one-more_by true number e back = record { claimed_count = refl; claim_out = refl; waiting_bodies = omega arith }
 one-more_by false number e back = more-by number e.back back
 
 pub one_more_back : (b : Bool) (number : ℕ) (e : Effects) (back back' : WayState) → back' ≡ back_by b number e back → OneMore back back'
@@ -326,8 +326,8 @@ counts_more b e k k' is = subst (CountsMore k) (sym is) (counts-by b e k)
 pub counts_on : (k mid k' : Counters) → mid ≡ record k { bodies = mid.bodies; dial_orders = mid.dial_orders } → k' ≡ record mid { bodies = k'.bodies; dial_orders = k'.dial_orders } → k' ≡ record k { bodies = k'.bodies; dial_orders = k'.dial_orders }
 counts_on k mid k' first second = second ∙ ap {A = Counters} (λ (x : Counters). record x { bodies = k'.bodies; dial_orders = k'.dial_orders }) first
 
-pub queued_still : (queue : ℕ) (first back : WayState) → queue ≤ 1 + home_count first → back.claimed ≡ first.claimed → back.kept ≡ first.kept → queue ≤ 1 + home_count back
-queued_still queue first back queued claimed kept = omega (arith, queued, claimed, ap kept_length kept)
+pub queued_still : (queue : ℕ) (first back : WayState) → queue ≤ 1 + home_count first → back.claimed_count ≡ first.claimed_count → back.claim_out ≡ first.claim_out → queue ≤ 1 + home_count back
+queued_still queue first back queued claimed_count claim_out = omega (arith, queued, claimed_count, ap kept_length claim_out)
 
 -- where nothing closes, the body's own effects don't
 pub goes_unclosed : (queued : ℕ) (told e : Effects) (back back' : WayState) (orders orders' : OrdersState) (k k' : Counters) → told ≡ e → Applied queued e back back' orders orders' k k' None → told.close ≡ None

@@ -18,7 +18,7 @@ use Rattle.switch_model.specs.History.Legs.{at, circuits}
 use Rattle.switch_model.specs.History.Past.{past}
 use Rattle.switch_model.specs.Limits.{worker_limit}
 use Rattle.switch_model.specs.Names.{Leg}
-use Rattle.switch_model.specs.Start.{Start}
+use Rattle.switch_model.specs.Start.{SwitchStart}
 use Rattle.switch_model.proofs.Common.{self_eq}
 use Rattle.switch_model.proofs.Others.{other_pasts}
 use Rattle.switch_machine.specs.Adds.{Adds, AddsTo}
@@ -43,7 +43,7 @@ use Rattle.switch_core.proofs.Whole.{started, whole_stays}
 
 -- claim
 
-pub claim_whole : (start : Start) (old new : State) (relays : List (Option Relay)) (worker : ℕ) (a : Option ClaimNote) → worker < worker_limit → new ≡ claim_state start.name old worker → a ≡ claim_result start.name old worker →
+pub claim_whole : (start : SwitchStart) (old new : State) (relays : List (Option Relay)) (worker : ℕ) (a : Option ClaimNote) → worker < worker_limit → new ≡ claim_state start.name old worker → a ≡ claim_result start.name old worker →
     SwitchAdds (started start old relays) (started start new relays) (Claim worker a)
 unfolding SwitchAdds Adds
 claim_whole start old new relays worker a known state answer =
@@ -75,7 +75,7 @@ abandoned-by rules h note place BackAnswer.Settled relays after same old = rw sa
 abandoned-by rules h note place BackAnswer.Gone relays after same old = rw same (record { count_is = old.count_is; relay = λ c. old.relay c })
 abandoned-by rules h note place (BackAnswer.Stranger why) relays after same old = rw same (record { count_is = old.count_is; relay = λ c. old.relay c })
 
-pub abandon_whole : (start : Start) (old new : State) (relays after : List (Option Relay)) (note : ClaimNote) (place : Option ℕ) (a : BackAnswer) → ((rules : Rules) (ev : ℕ → List Event) → new ≡ abandon_state start.name rules ev old note place) →
+pub abandon_whole : (start : SwitchStart) (old new : State) (relays after : List (Option Relay)) (note : ClaimNote) (place : Option ℕ) (a : BackAnswer) → ((rules : Rules) (ev : ℕ → List Event) → new ≡ abandon_state start.name rules ev old note place) →
     a ≡ abandon_result start.name old note place → ForgetsDown a relays after note.circ.0 → SwitchAdds (started start old relays) (started start new after) (Abandon note place a)
 unfolding SwitchAdds AddsTo
 abandon_whole start old new relays after note place a state answer forgets = record {
@@ -101,7 +101,7 @@ torn-other rules h chan cell circ reason d here other =
     let apart : (circ.0 == d) ≡ false = grind (arith, nat_tests) in
     other_pasts rules h (Take chan cell (TakeAnswer.Down circ reason)) d (rw (here, apart) refl)
 
-taken-by : (start : Start) (s : State) (h : List Step) (chan : ChanNo) (cell : Cell) (a : TakeAnswer) (relays after : List (Option Relay)) → ((leg : Leg) → has_port chan.0 cell.circ (leg_in s leg) ≡ true → at h chan.0 cell.circ ≡ Some leg) →
+taken-by : (start : SwitchStart) (s : State) (h : List Step) (chan : ChanNo) (cell : Cell) (a : TakeAnswer) (relays after : List (Option Relay)) → ((leg : Leg) → has_port chan.0 cell.circ (leg_in s leg) ≡ true → at h chan.0 cell.circ ≡ Some leg) →
     IsOnLeg a s chan.0 cell.circ → TakeForgets a relays after → RelaysStand start.rules relays (circuits h) (λ e. past start.rules h e) →
     RelaysStand start.rules after (circuits h) (λ e. past start.rules (Take chan cell a ∷ h) e)
 taken-by start s h chan cell TakeAnswer.Queued relays after found on same old = rw same (record {
@@ -117,7 +117,7 @@ taken-by start s h chan cell (TakeAnswer.Down circ reason) relays after found on
     (λ e other. torn-other start.rules h chan cell circ reason e (found (first_leg_of circ.0) on) other) forgets old
 taken-by start s h chan cell TakeAnswer.Memory relays after found on same old = absurd on
 
-pub take_whole : (start : Start) (old new : State) (relays after : List (Option Relay)) (chan : ChanNo) (cell : Cell) (a : TakeAnswer) → IsWellFormed cell →
+pub take_whole : (start : SwitchStart) (old new : State) (relays after : List (Option Relay)) (chan : ChanNo) (cell : Cell) (a : TakeAnswer) → IsWellFormed cell →
     ((rules : Rules) (ev : ℕ → List Event) → new ≡ take_state rules ev old chan.0 cell) → ((rules : Rules) (ev : ℕ → List Event) → a ≡ take_result rules ev old chan.0 cell) →
     IsOnLeg a old chan.0 cell.circ → TakeForgets a relays after → SwitchAdds (started start old relays) (started start new after) (Take chan cell a)
 unfolding SwitchAdds AddsTo
@@ -136,7 +136,7 @@ TakenState old new chan cell = (rules : Rules) (ev : ℕ → List Event) → new
 abbrev pub TakenAnswer : State → ChanNo → Cell → TakeAnswer → Type 0
 TakenAnswer old chan cell a = (rules : Rules) (ev : ℕ → List Event) → a ≡ take_result rules ev old chan.0 cell
 
-pub take_case : (start : Start) (old new : State) (relays after : List (Option Relay)) (chan : ChanNo) (cell : Cell) (a : TakeAnswer) → IsWellFormed cell → TakeCase a (new ≡ old) (TakenState old new chan cell) →
+pub take_case : (start : SwitchStart) (old new : State) (relays after : List (Option Relay)) (chan : ChanNo) (cell : Cell) (a : TakeAnswer) → IsWellFormed cell → TakeCase a (new ≡ old) (TakenState old new chan cell) →
     TakeCase a ⊤ (TakenAnswer old chan cell a) → TakeCase a ⊤ (IsOnLeg a old chan.0 cell.circ) → TakeForgets a relays after →
     TakeCase a (started start new after ≡ started start old relays) (SwitchAdds (started start old relays) (started start new after) (Take chan cell a))
 take_case start old new relays after chan cell TakeAnswer.Memory formed state answer on forgets = rw (state, forgets) refl

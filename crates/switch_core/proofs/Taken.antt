@@ -12,7 +12,7 @@ use Rattle.switch_core.proofs.Gone.{slot-get}
 use Rattle.switch_core.proofs.Lanes.{lanes_more}
 
 abbrev pub taken_count : CircuitState → ℕ
-taken_count x = x.forth.claimed + length x.forth.waiting
+taken_count x = x.forth.claimed_count + length x.forth.waiting_bodies
 
 pub taken_more : (m n : ℕ) (circuits : List (Option CircuitState)) → m ≤ n → TakenFit m circuits → TakenFit n circuits
 taken_more m n circuits below old = record { fits = λ c x live. omega (arith, below, old.fits c x live) }
@@ -104,8 +104,8 @@ waits_fits n number cell None new is fits = fits-gone (n + 1) new is
 waits_fits n number cell (Some old) None is fits = tt
 waits_fits n number cell (Some old) (Some new) is fits =
     let same : new ≡ forth_waits number cell old = cc in
-    let more : length new.forth.waiting ≡ length old.forth.waiting + 1 = ap (λ (x : CircuitState). length x.forth.waiting) same ∙ length-append old.forth.waiting (record { number = number; cell = cell } ∷ []) in
-    let out : new.forth.claimed ≡ old.forth.claimed = ap (λ (x : CircuitState). x.forth.claimed) same in
+    let more : length new.forth.waiting_bodies ≡ length old.forth.waiting_bodies + 1 = ap (λ (x : CircuitState). length x.forth.waiting_bodies) same ∙ length-append old.forth.waiting_bodies (record { number = number; cell = cell } ∷ []) in
+    let out : new.forth.claimed_count ≡ old.forth.claimed_count = ap (λ (x : CircuitState). x.forth.claimed_count) same in
     omega (arith, more, out, fits)
 
 pub fits_taken : (k : Counters) (channels : List ChannelState) (circuits : List (Option CircuitState)) (c : ℕ) (new : Option CircuitState) → StepsFit k channels circuits → IfSome new (λ y. taken_count y ≤ k.steps + 1) →

@@ -192,7 +192,7 @@ abbrev IsRelayCell : ℕ → Type 0
 IsRelayCell n = ((n == 4) ≡ false) × ((n == 11) ≡ false)
 
 one-leg-count : (rules : Rules) (ev : List Event) (x : CircuitState) → length x.legs ≡ 1 → held_by rules ev x Forth ≡ body_count (Some x)
-one-leg-count rules ev x one = ap (λ n. kept_length x.forth.kept + length x.forth.waiting + queued_on_hops x (n - 1)) one ∙ add-zero (kept_length x.forth.kept + length x.forth.waiting)
+one-leg-count rules ev x one = ap (λ n. kept_length x.forth.claim_out + length x.forth.waiting_bodies + queued_on_hops x (n - 1)) one ∙ add-zero (kept_length x.forth.claim_out + length x.forth.waiting_bodies)
 
 full-by : (c : ℕ) (x : Option CircuitState) (rules : Rules) (ev : List Event) (cell : CircuitCell) → HasOneLeg x → IsRelayCell cell.command → nat_le 1500 (body_count x) ≡ true → closed_answer c destroy_resource_limit x ≡ leg_result rules ev (first_leg_of c) cell x
 full-by c None rules ev cell one relay full = cc

@@ -12,7 +12,7 @@ use Rattle.switch_model.specs.Answers.EdgeOut.{Ordered}
 use Rattle.switch_model.specs.History.EdgePast.{EdgePast, edge_past}
 use Rattle.switch_model.specs.History.Legs.{circuits, holds_id}
 use Rattle.switch_model.specs.History.Past.{Past, past}
-use Rattle.switch_model.specs.Start.{Start}
+use Rattle.switch_model.specs.Start.{SwitchStart}
 use Rattle.switch_model.specs.Waiting.Lanes.{Destroy}
 use Rattle.switch_model.proofs.Common.{self_eq}
 use Rattle.switch_model.proofs.Others.{other_pasts}
@@ -169,7 +169,7 @@ relays-by rules h circ reason None relays after forgets dead old =
 relays-by rules h circ reason (Some x) relays after forgets dead old =
     relays_torn rules h (TearDown circ reason (BackAnswer.Down reason)) circ.0 relays after refl (stays-live rules h circ.0 reason reason) (λ e other. other-past rules h circ reason reason e other) forgets old
 
-pub torn_whole : (start : Start) (old new : State) (relays after : List (Option Relay)) (circ : CircNo) (reason : ℕ) (a : BackAnswer) → ((rules : Rules) (ev : ℕ → List Event) → new ≡ tear_down_state rules ev old circ.0 reason) →
+pub torn_whole : (start : SwitchStart) (old new : State) (relays after : List (Option Relay)) (circ : CircNo) (reason : ℕ) (a : BackAnswer) → ((rules : Rules) (ev : ℕ → List Event) → new ≡ tear_down_state rules ev old circ.0 reason) →
     a ≡ tear_down_result old circ.0 reason → Forgets relays after circ.0 → SwitchAdds (started start old relays) (started start new after) (TearDown circ reason a)
 unfolding SwitchAdds AddsTo
 torn_whole start old new relays after circ reason a state answer forgets = record {

@@ -13,7 +13,7 @@ use Rattle.tr_io.specs.declared.names.CircNo.{CircNo}
 use Rattle.tr_io.specs.declared.names.Side.{Side}
 use Rattle.tr_io.specs.declared.step.Step.{Step}
 use Rattle.tr_io.specs.declared.step.Step.TheVariants.{ChannelUp, OpenCircuit, NextCell}
-use Rattle.switch_model.specs.Start.{Start}
+use Rattle.switch_model.specs.Start.{SwitchStart}
 use Rattle.switch_model.specs.History.Legs.{circuits}
 use Rattle.switch_model.specs.History.Past.{past}
 use Rattle.switch_model.specs.Names.{circ_no, circuit_cell}
@@ -30,11 +30,11 @@ use Rattle.switch_core.specs.Started.{Started, SwitchStandsForSome, SwitchAdds}
 use Rattle.switch_core.specs.declared.relay.Relay.{Relay}
 use Rattle.switch_core.proofs.Relays.{opened_relays}
 
-abbrev pub started : Start → State → List (Option Relay) → Started
+abbrev pub started : SwitchStart → State → List (Option Relay) → Started
 started start state relays = record { start = start; state = state; relays = relays }
 
 -- A new switch.
-pub new_whole : (start : Start) (s : State) (relays : List (Option Relay)) → s ≡ new_state → relays ≡ [] → SwitchStandsForSome (started start s relays)
+pub new_whole : (start : SwitchStart) (s : State) (relays : List (Option Relay)) → s ≡ new_state → relays ≡ [] → SwitchStandsForSome (started start s relays)
 unfolding slot_at
 new_whole start s relays is none = record {
   history = [];
@@ -50,7 +50,7 @@ unfolding SwitchAdds
 whole_stays old new step adds some = record { history = step ∷ some.history; stands = adds.stands some.history some.stands }
 
 -- A step behind which the history says the same of what is kept of the circuits.
-same-relays : (start : Start) (old new : State) (relays : List (Option Relay)) (step : Step) →
+same-relays : (start : SwitchStart) (old new : State) (relays : List (Option Relay)) (step : Step) →
     ((h : List Step) → circuits (step ∷ h) ≡ circuits h) →
     ((relay : Option Relay) (h : List Step) (c : ℕ) → RelayOfPast relay start.rules (past start.rules h c) →
     RelayOfPast relay start.rules (past start.rules (step ∷ h) c)) →
@@ -70,12 +70,12 @@ same-relays start old new relays step count leaves adds = record {
 
 -- channel_up
 
-up-adds : (start : Start) (old new : State) (relays : List (Option Relay)) (slot : ℕ) (side : Side) (a : UpAnswer) → Adds start old new (ChannelUp slot side a) →
+up-adds : (start : SwitchStart) (old new : State) (relays : List (Option Relay)) (slot : ℕ) (side : Side) (a : UpAnswer) → Adds start old new (ChannelUp slot side a) →
     SwitchAdds (started start old relays) (started start new relays) (ChannelUp slot side a)
 up-adds start old new relays slot side a adds =
     same-relays start old new relays (ChannelUp slot side a) (λ h. refl) (λ relay h c own. own) adds
 
-pub up_whole : (start : Start) (old new : State) (relays : List (Option Relay)) (slot : ℕ) (side : Side) (a : UpAnswer) → UpCase a (new ≡ old) (new ≡ channel_up_state old side) → UpCase a ⊤ (a ≡ channel_up_result old) →
+pub up_whole : (start : SwitchStart) (old new : State) (relays : List (Option Relay)) (slot : ℕ) (side : Side) (a : UpAnswer) → UpCase a (new ≡ old) (new ≡ channel_up_state old side) → UpCase a ⊤ (a ≡ channel_up_result old) →
     UpCase a (started start new relays ≡ started start old relays) (SwitchAdds (started start old relays) (started start new relays) (ChannelUp slot side a))
 up_whole start old new relays slot side UpAnswer.Memory state answer = ap (λ s. started start s relays) state
 up_whole start old new relays slot side (UpAnswer.Up n) state answer = up-adds start old new relays slot side (UpAnswer.Up n) (channel_up_adds start old new slot side (UpAnswer.Up n) state answer)
@@ -88,18 +88,18 @@ up_goes_on old new slot side (UpAnswer.Full n) adds some = whole_stays old new (
 
 -- next_cell
 
-next-adds : (start : Start) (old new : State) (relays : List (Option Relay)) (chan : ChanNo) (tick : ℕ) (a : Option Cell) → Adds start old new (NextCell chan tick a) →
+next-adds : (start : SwitchStart) (old new : State) (relays : List (Option Relay)) (chan : ChanNo) (tick : ℕ) (a : Option Cell) → Adds start old new (NextCell chan tick a) →
     SwitchAdds (started start old relays) (started start new relays) (NextCell chan tick a)
 next-adds start old new relays chan tick a adds =
     same-relays start old new relays (NextCell chan tick a) (λ h. refl) (λ relay h c own. own) adds
 
-pub next_whole : (start : Start) (old new : State) (relays : List (Option Relay)) (chan : ChanNo) (tick : ℕ) (a : Option Cell) → new ≡ next_cell_state old chan.0 tick → a ≡ next_cell_result old chan.0 tick →
+pub next_whole : (start : SwitchStart) (old new : State) (relays : List (Option Relay)) (chan : ChanNo) (tick : ℕ) (a : Option Cell) → new ≡ next_cell_state old chan.0 tick → a ≡ next_cell_result old chan.0 tick →
     SwitchAdds (started start old relays) (started start new relays) (NextCell chan tick a)
 next_whole start old new relays chan tick a state answer = next-adds start old new relays chan tick a (next_cell_adds start old new chan tick a state answer)
 
 -- open_circuit
 
-refused-adds : (start : Start) (old new : State) (relays : List (Option Relay)) (chan : ChanNo) (id : ℕ) (reply : Cell) (keys : Option LayerKeys) (pad : Option (List ℕ)) (why : OpenRefusal) → Adds start old new (OpenCircuit chan id reply keys pad (OpenAnswer.Refused why)) →
+refused-adds : (start : SwitchStart) (old new : State) (relays : List (Option Relay)) (chan : ChanNo) (id : ℕ) (reply : Cell) (keys : Option LayerKeys) (pad : Option (List ℕ)) (why : OpenRefusal) → Adds start old new (OpenCircuit chan id reply keys pad (OpenAnswer.Refused why)) →
     SwitchAdds (started start old relays) (started start new relays) (OpenCircuit chan id reply keys pad (OpenAnswer.Refused why))
 refused-adds start old new relays chan id reply keys pad why adds =
     same-relays start old new relays (OpenCircuit chan id reply keys pad (OpenAnswer.Refused why)) (λ h. refl) (λ relay h c own. own) adds
@@ -132,7 +132,7 @@ opened-number most s chan id keys (Some channel) n is =
     (opened-number-by (id == 0) (is_id_taken s chan channel id) (not (has_peers_bit channel.side id)) (nat_le most (filled_slots s.circuits))
     OpenRefusal.BadId OpenRefusal.InUse OpenRefusal.BadId (OpenRefusal.Full most) (circ_no (length s.circuits)) n is)
 
-opened-adds : (start : Start) (old new : State) (relays after : List (Option Relay)) (chan : ChanNo) (id : ℕ) (reply : Cell) (keys : LayerKeys) (pad : Option (List ℕ)) (n : CircNo) →
+opened-adds : (start : SwitchStart) (old new : State) (relays after : List (Option Relay)) (chan : ChanNo) (id : ℕ) (reply : Cell) (keys : LayerKeys) (pad : Option (List ℕ)) (n : CircNo) →
     OpenAnswer.Opened n ≡ open_result start.circuits old chan.0 id (Some keys) → OneRelayMore keys pad start.rules relays after → Adds start old new (OpenCircuit chan id reply (Some keys) pad (OpenAnswer.Opened n)) →
     SwitchAdds (started start old relays) (started start new after) (OpenCircuit chan id reply (Some keys) pad (OpenAnswer.Opened n))
 unfolding Adds SwitchAdds
@@ -144,7 +144,7 @@ opened-adds start old new relays after chan id reply keys pad n answer more adds
       record {
         state = adds.stands h st.state;
         relays =
-            subst (λ (xs : List (Option Relay)). RelaysStand start.rules xs (circuits h + 1) (λ c. past start.rules (OpenCircuit chan id reply (Some keys) pad (OpenAnswer.Opened n) ∷ h) c)) (sym more.kept)
+            subst (λ (xs : List (Option Relay)). RelaysStand start.rules xs (circuits h + 1) (λ c. past start.rules (OpenCircuit chan id reply (Some keys) pad (OpenAnswer.Opened n) ∷ h) c)) (sym more.relay_added)
             (opened_relays start.rules h chan.0 id reply keys pad n.0 more.relay relays
             (number ∙ st.state.numbers.circuits ∙ sym st.relays.count_is)
             ((st.state.circuits.fresh n.0 (omega (arith, number))).past)
@@ -152,13 +152,13 @@ opened-adds start old new relays after chan id reply keys pad n answer more adds
       };
 }
 
-by-keys : (start : Start) (old new : State) (relays after : List (Option Relay)) (chan : ChanNo) (id : ℕ) (reply : Cell) (keys : Option LayerKeys) (pad : Option (List ℕ)) (n : CircNo) →
+by-keys : (start : SwitchStart) (old new : State) (relays after : List (Option Relay)) (chan : ChanNo) (id : ℕ) (reply : Cell) (keys : Option LayerKeys) (pad : Option (List ℕ)) (n : CircNo) →
     OpenAnswer.Opened n ≡ open_result start.circuits old chan.0 id keys → KeepsBy (OpenAnswer.Opened n) keys pad start.rules relays after → Adds start old new (OpenCircuit chan id reply keys pad (OpenAnswer.Opened n)) →
     SwitchAdds (started start old relays) (started start new after) (OpenCircuit chan id reply keys pad (OpenAnswer.Opened n))
 by-keys start old new relays after chan id reply None pad n answer more adds = absurd (keyless start.circuits old chan.0 id (slot_at old.channels chan.0) n answer)
 by-keys start old new relays after chan id reply (Some keys) pad n answer more adds = opened-adds start old new relays after chan id reply keys pad n answer more adds
 
-pub opening_whole : (start : Start) (old new : State) (relays after : List (Option Relay)) (chan : ChanNo) (id : ℕ) (reply : Cell) (keys : Option LayerKeys) (pad : Option (List ℕ)) (a : OpenAnswer) → is_var reply.body ≡ false → IfSome keys (λ _. IsTrue (opens_circuit reply.command)) →
+pub opening_whole : (start : SwitchStart) (old new : State) (relays after : List (Option Relay)) (chan : ChanNo) (id : ℕ) (reply : Cell) (keys : Option LayerKeys) (pad : Option (List ℕ)) (a : OpenAnswer) → is_var reply.body ≡ false → IfSome keys (λ _. IsTrue (opens_circuit reply.command)) →
     OpenCase a (new ≡ old) (new ≡ open_state start.circuits old chan.0 id reply keys) → OpenCase a ⊤ (a ≡ open_result start.circuits old chan.0 id keys) → KeepsBy a keys pad start.rules relays after →
     OpenCase a (started start new after ≡ started start old relays) (SwitchAdds (started start old relays) (started start new after) (OpenCircuit chan id reply keys pad a))
 opening_whole start old new relays after chan id reply keys pad OpenAnswer.Memory fixed command state answer same = rw (state, same) refl

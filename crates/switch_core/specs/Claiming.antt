@@ -37,19 +37,19 @@ offer_of o = record { way = record { circ = o.circ; dir = o.dir }; number = o.nu
 pub record MayClaim (x : Option CircuitState) (note : ClaimNote) : Type 0 where
   pub circuit : CircuitState
   pub live : x ≡ Some circuit
-  pub none_out : (way_of_circuit circuit note.dir).kept ≡ None
-  pub first : note.first ≡ (way_of_circuit circuit note.dir).claimed
+  pub none_out : (way_of_circuit circuit note.dir).claim_out ≡ None
+  pub first : note.first ≡ (way_of_circuit circuit note.dir).claimed_count
   pub some : 1 ≤ note.count
   pub most : note.count ≤ claim_limit
-  pub enough : note.count ≤ length (way_of_circuit circuit note.dir).waiting
+  pub enough : note.count ≤ length (way_of_circuit circuit note.dir).waiting_bodies
 
 -- The first bodies of some that wait.
 abbrev pub first_bodies : ℕ → List WaitingCell → List (List ℕ)
-first_bodies count waiting = map body_of (waiting_cells (take count waiting))
+first_bodies count waiting_bodies = map body_of (waiting_cells (take count waiting_bodies))
 
 -- The bodies that a claim takes out of a circuit, if it is live.
 abbrev pub note_bodies : ClaimNote → Option CircuitState → List (List ℕ)
-note_bodies note (Some x) = first_bodies note.count (way_of_circuit x note.dir).waiting
+note_bodies note (Some x) = first_bodies note.count (way_of_circuit x note.dir).waiting_bodies
 note_bodies note None = []
 
 -- A circuit with a claim out.
@@ -76,9 +76,9 @@ pub record RelayServes (relay : Relay) (x : CircuitState) : Type 0 where
   pub cipher : (dir : Dir) → CipherServes (cipher_at relay dir) dir (way_of_circuit x dir)
 
 -- The relay of a live circuit.
-pub record HasRelay (kept : Option Relay) (x : CircuitState) : Type 0 where
+pub record HasRelay (kept_relay : Option Relay) (x : CircuitState) : Type 0 where
   pub relay : Relay
-  pub is : kept ≡ Some relay
+  pub is : kept_relay ≡ Some relay
   pub serves : RelayServes relay x
 
 -- The relays of all live circuits, by circuit number.
@@ -87,13 +87,13 @@ pub record RelaysServe (relays : List (Option Relay)) (circuits : List (Option C
 
 -- The job carries the cipher of its direction as the circuit's relay has it, and the first of the bodies that
 -- wait there.
-pub record CarriesFirst (kept : Option Relay) (x : Option CircuitState) (job : JobParts) : Type 0 where
+pub record CarriesFirst (kept_relay : Option Relay) (x : Option CircuitState) (job : JobParts) : Type 0 where
   pub relay : Relay
   pub circuit : CircuitState
-  pub relay_is : kept ≡ Some relay
+  pub relay_is : kept_relay ≡ Some relay
   pub live : x ≡ Some circuit
   pub cipher : job.cipher ≡ cipher_at relay job.note.dir
-  pub bodies : job.bodies.items ≡ first_bodies job.note.count (way_of_circuit circuit job.note.dir).waiting
+  pub bodies : job.bodies.items ≡ first_bodies job.note.count (way_of_circuit circuit job.note.dir).waiting_bodies
 
 -- The same by the job's circuit.
 abbrev pub Carries : List (Option Relay) → State → JobParts → Type 0

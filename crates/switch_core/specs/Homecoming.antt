@@ -31,25 +31,25 @@ slot_calls None x = ⊤
 slot_calls (Some relay) None = ⊤
 
 -- The bodies of a forward job acted on a circuit, whose relay has the cipher behind them.
-pub record SlotHome (rules : Rules) (old new : State) (slot after : Option Relay) (c : ℕ) (end : Cipher) (opened : List Opened) (answer : BackAnswer) : Type 0 where
+pub record SlotHome (rules : Rules) (old new : State) (slot after : Option Relay) (c : ℕ) (end : Cipher) (opened_bodies : List Opened) (answer : BackAnswer) : Type 0 where
   pub relay : Relay
   pub next : Relay
   pub there : slot ≡ Some relay
   pub put : after ≡ Some next
-  pub settles : PartsSettle rules old new c relay.circuit next.circuit opened answer
+  pub settles : PartsSettle rules old new c relay.circuit next.circuit opened_bodies answer
   pub steps : new.steps ≡ old.steps + 1
-  pub grown : CallsGrow (length opened) relay.circuit next.circuit
+  pub grown : CallsGrow (length opened_bodies) relay.circuit next.circuit
   pub forth : next.forth ≡ end
   pub back : next.back ≡ relay.back
 
 -- The same by the relays of all circuits, where that of a circuit that was torn down is forgotten.
-pub record HomeForth (rules : Rules) (old new : State) (relays after : List (Option Relay)) (c : ℕ) (end : Cipher) (opened : List Opened) (answer : BackAnswer) : Type 0 where
+pub record HomeForth (rules : Rules) (old new : State) (relays after : List (Option Relay)) (c : ℕ) (end : Cipher) (opened_bodies : List Opened) (answer : BackAnswer) : Type 0 where
   pub relay : Relay
   pub next : Relay
   pub there : slot_at relays c ≡ Some relay
-  pub settles : PartsSettle rules old new c relay.circuit next.circuit opened answer
+  pub settles : PartsSettle rules old new c relay.circuit next.circuit opened_bodies answer
   pub steps : new.steps ≡ old.steps + 1
-  pub grown : CallsGrow (length opened) relay.circuit next.circuit
+  pub grown : CallsGrow (length opened_bodies) relay.circuit next.circuit
   pub forth : next.forth ≡ end
   pub back : next.back ≡ relay.back
   pub home : RelayHome answer relays after c next

@@ -8,7 +8,7 @@ use Rattle.tor_spec.specs.CellEncoding.{is_variable}
 use Rattle.circuit_model.specs.Sent.{destroy}
 use Rattle.switch_model.specs.Answers.NextCell.{cell_at}
 use Rattle.switch_model.specs.Waiting.Lanes.{Destroy}
-use Rattle.switch_model.specs.Start.{Start}
+use Rattle.switch_model.specs.Start.{SwitchStart}
 use Rattle.switch_machine.specs.State.{ChannelState, LegState, WaitingCell, WayState, CircuitState, State, slot_at, with_slot, all_there}
 use Rattle.switch_machine.specs.Machine.{new_state}
 use Rattle.switch_machine.specs.Calls.Claim.{waiting_cells}
@@ -21,13 +21,13 @@ use Rattle.switch_core.specs.Ordering.{OrdersState, RoomyOrders}
 use Rattle.switch_core.specs.declared.counters.Counters.{Counters}
 
 -- What a switch was made with.
-abbrev pub start_of : ℕ → RuleList → ℕ → Start
+abbrev pub start_of : ℕ → RuleList → ℕ → SwitchStart
 start_of name rules circuits = record { name = name; rules = rules_of rules; circuits = circuits }
 
 -- A channel that a peer's connection brought up, or one of ours by a slot's number: it leads to no
 -- known address, and no CircID was given out on it.
 abbrev pub channel_of : Side → List Destroy → ChannelState
-channel_of side lane = record { side = side; to = None; given = 0; lane = lane }
+channel_of side lane = record { side = side; to = None; given_count = 0; lane = lane }
 
 -- A leg or a direction, and for how many more cells it has room.
 pub record WithRoom (A : Type 0) : Type 0 where
@@ -41,16 +41,16 @@ pub record MayQueue (command : ℕ) : Type 0 where
 
 -- A direction by the bodies that didn't come home: those of the claim that is out are the first.
 abbrev pub way_of : ℕ → Option ClaimNote → List WaitingCell → WayState
-way_of claimed None bodies = record { claimed = claimed; kept = None; waiting = bodies }
-way_of claimed (Some note) bodies = record {
-  claimed = claimed;
-  kept = Some (record { note = note; cells = waiting_cells (take note.count bodies) });
-  waiting = drop note.count bodies;
+way_of claimed_count None bodies = record { claimed_count = claimed_count; claim_out = None; waiting_bodies = bodies }
+way_of claimed_count (Some note) bodies = record {
+  claimed_count = claimed_count;
+  claim_out = Some (record { note = note; cells = waiting_cells (take note.count bodies) });
+  waiting_bodies = drop note.count bodies;
 }
 
 -- How many bodies of a direction came home.
 abbrev pub home_count : WayState → ℕ
-home_count way = way.claimed - kept_length way.kept
+home_count way = way.claimed_count - kept_length way.claim_out
 
 -- A circuit with its first leg alone. The answer to the opening and the bodies that came home sealed wait on
 -- the leg or were sent.
@@ -77,11 +77,11 @@ pub record OfLeg (x : CircuitState) (leg : LegState) : Type 0 where
 -- packaged one body back at most. There is room for what the bodies that are out will need.
 pub record CircuitFits (leg : WithRoom LegState) (forth back : WithRoom WayState) (orders : RoomyOrders) : Type 0 where
   pub queued : length leg.state.queue ≤ 1 + home_count back.state
-  pub packaged : back.state.claimed + length back.state.waiting + kept_length forth.state.kept ≤ forth.state.claimed
-  pub room_sealed : kept_length back.state.kept ≤ leg.spare
-  pub room_packaged : kept_length forth.state.kept ≤ back.spare
-  pub room_ordered : kept_length forth.state.kept ≤ orders.spare
-  pub rooms : kept_length forth.state.kept ≤ orders.rooms
+  pub packaged : back.state.claimed_count + length back.state.waiting_bodies + kept_length forth.state.claim_out ≤ forth.state.claimed_count
+  pub room_sealed : kept_length back.state.claim_out ≤ leg.spare
+  pub room_packaged : kept_length forth.state.claim_out ≤ back.spare
+  pub room_ordered : kept_length forth.state.claim_out ≤ orders.spare
+  pub rooms : kept_length forth.state.claim_out ≤ orders.rooms
 
 abbrev pub no_counts : Counters
 no_counts = record { steps = 0; tick = 0; bodies = 0; claims = 0; dial_orders = 0 }
@@ -103,7 +103,7 @@ pub record LanesFit (most : ℕ) (channels : List ChannelState) : Type 0 where
 
 -- At most so many bodies were taken on each circuit.
 pub record TakenFit (most : ℕ) (circuits : List (Option CircuitState)) : Type 0 where
-  pub fits : (c : ℕ) (x : CircuitState) → slot_at circuits c ≡ Some x → x.forth.claimed + length x.forth.waiting ≤ most
+  pub fits : (c : ℕ) (x : CircuitState) → slot_at circuits c ≡ Some x → x.forth.claimed_count + length x.forth.waiting_bodies ≤ most
 
 -- What is bounded by the number of steps. A step adds 33 bodies at most: one that it takes, or those that the
 -- bodies of one claim package.

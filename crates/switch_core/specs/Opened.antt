@@ -15,7 +15,7 @@ use Rattle.switch_core.specs.declared.relay.Relay.{Relay}
 pub record OneRelayMore (keys : LayerKeys) (pad : Option (List ℕ)) (rules : Rules) (old new : List (Option Relay)) : Type 0 where
   pub relay : Relay
   pub stands : (reply : CircuitCell) → RelayStands relay rules (Born reply keys pad ∷ []) 0
-  pub kept : new ≡ old ++ Some relay ∷ []
+  pub relay_added : new ≡ old ++ Some relay ∷ []
 
 abbrev pub KeepsRelay : Option LayerKeys → Option (List ℕ) → Rules → List (Option Relay) → List (Option Relay) → Type 0
 KeepsRelay None pad rules old new = new ≡ old

@@ -8,10 +8,10 @@ use Rattle.switch_model.specs.Waiting.Lanes.{Destroy}
 use Rattle.switch_machine.specs.State.{ChannelState, LegState, CircuitState, State, slot_at, with_slot}
 use Rattle.switch_machine.specs.Machine.{leg_at}
 use Rattle.switch_machine.specs.Calls.NextCell.{cell_count_in, circuit_sent}
-use Rattle.switch_core.specs.declared.pick.Waiting.{Waiting}
+use Rattle.switch_core.specs.declared.pick.WaitingLeg.{WaitingLeg}
 
 -- The one with the lesser count; the earlier where the counts are equal.
-abbrev pub better_of : Option Waiting → Waiting → Waiting
+abbrev pub better_of : Option WaitingLeg → WaitingLeg → WaitingLeg
 better_of None next = next
 better_of (Some least) next = if nat_lt next.count least.count then next else least
 
@@ -19,19 +19,19 @@ better_of (Some least) next = if nat_lt next.count least.count then next else le
 abbrev pub first_leg_of : ℕ → Leg
 first_leg_of n = record { circ = n; number = 0 }
 
-abbrev pub leg_of : Option Waiting → Option Leg
+abbrev pub leg_of : Option WaitingLeg → Option Leg
 leg_of None = None
-leg_of (Some waiting) = Some (first_leg_of waiting.number)
+leg_of (Some candidate) = Some (first_leg_of candidate.number)
 
 -- One of the first n circuits, and its leg's count where this tick is given.
-pub record IsWaiting (s : State) (given n : ℕ) (waiting : Waiting) : Type 0 where
-  pub inside : waiting.number < n
-  pub count : waiting.count ≡ cell_count_in s given (first_leg_of waiting.number)
+pub record IsWaiting (s : State) (new_tick n : ℕ) (candidate : WaitingLeg) : Type 0 where
+  pub inside : candidate.number < n
+  pub count : candidate.count ≡ cell_count_in s new_tick (first_leg_of candidate.number)
 
 -- The leg that was picked among the first n circuits.
-pub record Picks (s : State) (given n : ℕ) (least : Option Waiting) (leg : Option Leg) : Type 0 where
+pub record Picks (s : State) (new_tick n : ℕ) (least : Option WaitingLeg) (leg : Option Leg) : Type 0 where
   pub same : leg ≡ leg_of least
-  pub waits : IfSome least (IsWaiting s given n)
+  pub waits : IfSome least (IsWaiting s new_tick n)
 
 -- The first leg of a circuit sent its first cell.
 pub record FirstSent (now : ℕ) (old new : CircuitState) : Type 0 where

@@ -26,12 +26,12 @@ pub record RelayStands (relay : Relay) (rules : Rules) (events : List Event) (se
 
 -- A live circuit has its relay, and nothing is kept of another.
 abbrev pub RelayAt : Bool → Option Relay → Rules → List Event → ℕ → Type 0
-RelayAt false kept rules events sealed = kept ≡ None
+RelayAt false kept_relay rules events sealed = kept_relay ≡ None
 RelayAt true None rules events sealed = ⊥
 RelayAt true (Some relay) rules events sealed = RelayStands relay rules events sealed
 
 abbrev pub RelayOfPast : Option Relay → Rules → Past → Type 0
-RelayOfPast kept rules p = RelayAt p.live kept rules p.events p.sealed_count
+RelayOfPast kept_relay rules p = RelayAt p.live kept_relay rules p.events p.sealed_count
 
 -- The relays of all circuits, by circuit number.
 pub record RelaysStand (rules : Rules) (relays : List (Option Relay)) (count : ℕ) (p : ℕ → Past) : Type 0 where

@@ -22,7 +22,7 @@ start_out (Some relay) Back = Some relay.back
 
 -- The bodies of the claim that is out.
 abbrev pub bodies_out_of : WayState → List (List ℕ)
-bodies_out_of way = map body_of (kept_cells way.kept)
+bodies_out_of way = map body_of (kept_cells way.claim_out)
 
 abbrev pub bodies_out : Option CircuitState → Dir → List (List ℕ)
 bodies_out None dir = []
@@ -30,8 +30,8 @@ bodies_out (Some x) dir = bodies_out_of (way_of_circuit x dir)
 
 -- The number of the first body that differs, if one does.
 abbrev pub IsBodyDifference : List (List ℕ) → List (List ℕ) → Option ℕ → Type 0
-IsBodyDifference given returned None = returned ≡ given
-IsBodyDifference given returned (Some i) = DiffersAt i given returned
+IsBodyDifference given_bodies returned_bodies None = returned_bodies ≡ given_bodies
+IsBodyDifference given_bodies returned_bodies (Some i) = DiffersAt i given_bodies returned_bodies
 
 -- The first place at which a return differs from what is out in its direction.
 abbrev pub IsPlace : List (Option Relay) → State → ClaimNote → Cipher → List (List ℕ) → Option ℕ → Type 0
@@ -59,12 +59,12 @@ content_refusal note None = None
 content_refusal note (Some place) = Some (BackAnswer.Stranger (Difference.Content note place))
 
 abbrev pub note_refusal : Option ClaimNote → ClaimNote → Option ℕ → Option BackAnswer
-note_refusal kept note place =
-    if not (is_note note kept) then Some (BackAnswer.Stranger (Difference.Note kept note)) else content_refusal note place
+note_refusal claim_out note place =
+    if not (is_note note claim_out) then Some (BackAnswer.Stranger (Difference.Note claim_out note)) else content_refusal note place
 
 abbrev pub refusal_on : ClaimNote → Option ℕ → Option CircuitState → Option BackAnswer
 refusal_on note place None = Some BackAnswer.Gone
-refusal_on note place (Some x) = note_refusal (kept_note (way_of_circuit x note.dir).kept) note place
+refusal_on note place (Some x) = note_refusal (kept_note (way_of_circuit x note.dir).claim_out) note place
 
 abbrev pub refusal : ℕ → State → ClaimNote → Option ℕ → Option BackAnswer
 refusal name s note place =

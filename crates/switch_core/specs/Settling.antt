@@ -26,7 +26,7 @@ use Rattle.switch_core.specs.declared.counters.Counters.{Counters}
 -- What one event's effects make of a circuit's way back, its orders and the counts, unless the way back is full.
 
 abbrev pub is_packed : ℕ → WayState → Effects → Bool
-is_packed queued back effects = is_some effects.back && nat_le 1500 (queued + (kept_length back.kept + length back.waiting))
+is_packed queued back effects = is_some effects.back && nat_le 1500 (queued + (kept_length back.claim_out + length back.waiting_bodies))
 
 abbrev pub closing_by : Bool → Effects → Option ℕ
 closing_by is_full effects = if is_full then Some 5 else effects.close
@@ -48,8 +48,8 @@ counts_by is_full effects k =
 pub record RelayIs (relay : RelayCircuit) (rules : Rules) (events : List Event) (back : WayState) : Type 0 where
   pub circuit : IsCircuit relay rules events
   pub unlinked : leg_count (log rules events) ≡ 0
-  pub behind_is : length (behind (log rules events)) ≡ back.claimed + length back.waiting
-  pub out : kept_length back.kept ≤ back.claimed
+  pub behind_is : length (behind (log rules events)) ≡ back.claimed_count + length back.waiting_bodies
+  pub out : kept_length back.claim_out ≤ back.claimed_count
 
 -- The relay has room to count so many more events.
 pub record HasCallsFor (n : ℕ) (relay : RelayCircuit) : Type 0 where
@@ -77,30 +77,30 @@ pub record CallsGrow (n : ℕ) (old new : RelayCircuit) : Type 0 where
 
 -- The bodies of the claim that is out came out of the circuit's cipher as these.
 abbrev pub AreOpened : List Opened → Rules → List Event → CircuitState → Type 0
-AreOpened opened rules events x = opened ≡ map opened_from (opened_each rules events (kept_cells x.forth.kept))
+AreOpened opened_bodies rules events x = opened_bodies ≡ map opened_from (opened_each rules events (kept_cells x.forth.claim_out))
 
 abbrev pub settling_of : CircuitState → Counters → List Event → Settling
 settling_of x k events = record { circuit = x; bodies = k.bodies; dials = k.dial_orders; events = events }
 
 abbrev pub settled_all : Rules → List Event → CircuitState → Counters → Settling
-settled_all rules events x k = settle_all rules (settling_of x k events) (kept_cells x.forth.kept)
+settled_all rules events x k = settle_all rules (settling_of x k events) (kept_cells x.forth.claim_out)
 
 -- They settled one after another, up to the first that closes the circuit, and came home.
 pub record SettlesForth (rules : Rules) (events : List Event) (old new : CircuitState) (k next : Counters) (relay : RelayCircuit) (reason : Option ℕ) : Type 0 where
-  pub reason_is : reason ≡ settling_reason rules old.sent_count events (kept_cells old.forth.kept)
+  pub reason_is : reason ≡ settling_reason rules old.sent_count events (kept_cells old.forth.claim_out)
   pub circuit : new ≡ record (settled_all rules events old k).circuit { forth = home_way old.forth }
   pub bodies : next.bodies ≡ (settled_all rules events old k).bodies
   pub dials : next.dial_orders ≡ (settled_all rules events old k).dials
-  pub relay_is : reason ≡ None → IsCircuit relay rules (events_behind events (kept_cells old.forth.kept))
+  pub relay_is : reason ≡ None → IsCircuit relay rules (events_behind events (kept_cells old.forth.claim_out))
 
 -- The same of a circuit by its number, which is live.
-pub record SlotSettles (rules : Rules) (old new : Option CircuitState) (k next : Counters) (first relay : RelayCircuit) (opened : List Opened) (reason : Option ℕ) : Type 0 where
+pub record SlotSettles (rules : Rules) (old new : Option CircuitState) (k next : Counters) (first relay : RelayCircuit) (opened_bodies : List Opened) (reason : Option ℕ) : Type 0 where
   pub circuit : CircuitState
   pub behind_it : CircuitState
   pub live : old ≡ Some circuit
   pub stays : new ≡ Some behind_it
-  pub settles : (events : List Event) → RelayIs first rules events circuit.back → AreOpened opened rules events circuit → SettlesForth rules events circuit behind_it k next relay reason
-  pub taken : behind_it.forth.claimed + length behind_it.forth.waiting ≤ circuit.forth.claimed + length circuit.forth.waiting
+  pub settles : (events : List Event) → RelayIs first rules events circuit.back → AreOpened opened_bodies rules events circuit → SettlesForth rules events circuit behind_it k next relay reason
+  pub taken : behind_it.forth.claimed_count + length behind_it.forth.waiting_bodies ≤ circuit.forth.claimed_count + length circuit.forth.waiting_bodies
 
 abbrev pub finished_state : Rules → (ℕ → List Event) → State → ℕ → Option ℕ → State
 finished_state rules ev s c None = counted s
@@ -112,15 +112,15 @@ finished_answer s c (Some reason) = tear_down_result s c reason
 
 -- The switch behind it, by the answer.
 abbrev pub settled_by : Rules → List Event → State → ℕ → CircuitState → BackAnswer → State
-settled_by rules events s c x (BackAnswer.Down reason) = closed_state rules events s c x (kept_cells x.forth.kept) reason
-settled_by rules events s c x BackAnswer.Settled = settled_state rules events s c x (kept_cells x.forth.kept)
+settled_by rules events s c x (BackAnswer.Down reason) = closed_state rules events s c x (kept_cells x.forth.claim_out) reason
+settled_by rules events s c x BackAnswer.Settled = settled_state rules events s c x (kept_cells x.forth.claim_out)
 settled_by rules events s c x answer = counted s
 
 pub record Settles (rules : Rules) (events : List Event) (old new : State) (c : ℕ) (x : CircuitState) (relay : RelayCircuit) (answer : BackAnswer) : Type 0 where
-  pub answer_is : answer ≡ done_by (settling_reason rules x.sent_count events (kept_cells x.forth.kept))
+  pub answer_is : answer ≡ done_by (settling_reason rules x.sent_count events (kept_cells x.forth.claim_out))
   pub state : new ≡ settled_by rules events old c x answer
-  pub relay_is : answer ≡ BackAnswer.Settled → IsCircuit relay rules (events_behind events (kept_cells x.forth.kept))
+  pub relay_is : answer ≡ BackAnswer.Settled → IsCircuit relay rules (events_behind events (kept_cells x.forth.claim_out))
 
 abbrev pub PartsSettle : Rules → State → State → ℕ → RelayCircuit → RelayCircuit → List Opened → BackAnswer → Type 0
-PartsSettle rules old new c first relay opened answer =
-    (x : CircuitState) (events : List Event) → slot_at old.circuits c ≡ Some x → RelayIs first rules events x.back → AreOpened opened rules events x → Settles rules events old new c x relay answer
+PartsSettle rules old new c first relay opened_bodies answer =
+    (x : CircuitState) (events : List Event) → slot_at old.circuits c ≡ Some x → RelayIs first rules events x.back → AreOpened opened_bodies rules events x → Settles rules events old new c x relay answer

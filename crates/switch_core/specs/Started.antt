@@ -3,7 +3,7 @@ use Rattle.std.specs.Prelude.{◌≡◌, ◌+◌, List, ◌∷◌, Option}
 use Rattle.tr_io.specs.declared.step.Step.{Step}
 use Rattle.switch_model.specs.History.Legs.{circuits}
 use Rattle.switch_model.specs.History.Past.{past}
-use Rattle.switch_model.specs.Start.{Start}
+use Rattle.switch_model.specs.Start.{SwitchStart}
 use Rattle.switch_machine.specs.Stands.{Stands}
 use Rattle.switch_machine.specs.State.{State}
 use Rattle.switch_core.specs.Relays.{RelaysStand}
@@ -12,7 +12,7 @@ use Rattle.switch_core.specs.declared.relay.Relay.{Relay}
 -- What a switch was made with, the state of the machine, and by circuit number what is kept of each live circuit
 -- for the one-thread relay.
 pub record Started : Type 0 where
-  pub start : Start
+  pub start : SwitchStart
   pub state : State
   pub relays : List (Option Relay)
 

@@ -59,5 +59,5 @@ slot_with_body number cell None = None
 
 -- How many bodies of a circuit wait or are out.
 abbrev pub body_count : Option CircuitState → ℕ
-body_count (Some x) = kept_length x.forth.kept + length x.forth.waiting
+body_count (Some x) = kept_length x.forth.claim_out + length x.forth.waiting_bodies
 body_count None = 0

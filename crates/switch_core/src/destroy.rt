@@ -30,18 +30,18 @@ pub fn without_id(destroys: LinkedList<Destroy>, id: u32) -> LinkedList<Destroy>
     requires { length destroys < 2 ^ 62 }
     ensures { result ≡ filter (λ d. not (d.id == id)) destroys }
 {
-    let mut left = LinkedList::new(*destroys.allocator());
+    let mut other_destroys = LinkedList::new(*destroys.allocator());
     let mut rest = destroys;
     while !rest.is_empty() {
-        let Ok(behind) = rest.split_off(1) else {
+        let Ok(later_destroys) = rest.split_off(1) else {
             unreachable!()
         };
-        let mut first = replace(&mut rest, behind);
+        let mut first = replace(&mut rest, later_destroys);
         if !is_for(&first, id) {
-            let _ = left.append(&mut first);
+            let _ = other_destroys.append(&mut first);
         }
     }
-    left
+    other_destroys
 }
 
 /// Whether the first is for this CircID.

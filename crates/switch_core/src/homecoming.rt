@@ -22,18 +22,18 @@ pub fn settle_home(
     rules: &Rules,
     circ: CircNo,
     end: Cipher,
-    opened: &[Opened],
+    opened_bodies: &[Opened],
 ) -> BackAnswer
     requires steps { parts.old.steps < 2 ^ 62 }
     requires live { IsTrue (is_some (slot_at parts.old.circuits circ.0)) }
     requires relay { IsTrue (is_some (slot_at relays.old.items circ.0)) }
-    requires count { IfSome (slot_at parts.old.circuits circ.0) (λ x. length opened.now ≡ kept_length x.forth.kept) }
-    requires most { length opened.now ≤ 32 }
+    requires count { IfSome (slot_at parts.old.circuits circ.0) (λ x. length opened_bodies.now ≡ kept_length x.forth.claim_out) }
+    requires most { length opened_bodies.now ≤ 32 }
     requires calls { slot_calls (slot_at relays.old.items circ.0) (slot_at parts.old.circuits circ.0) }
-    ensures home { HomeForth (rules_of rules.now) parts.old parts.new relays.old.items relays.new.items circ.0 end opened.now result }
+    ensures home { HomeForth (rules_of rules.now) parts.old parts.new relays.old.items relays.new.items circ.0 end opened_bodies.now result }
 {
     let slot = &mut relays[circ.0 as usize];
-    let answer = settle_with(parts, slot, rules, circ, end, opened);
+    let answer = settle_with(parts, slot, rules, circ, end, opened_bodies);
     forget_torn(relays, circ, answer);
     answer
 }
@@ -45,18 +45,18 @@ fn settle_with(
     rules: &Rules,
     circ: CircNo,
     end: Cipher,
-    opened: &[Opened],
+    opened_bodies: &[Opened],
 ) -> BackAnswer
     requires steps { parts.old.steps < 2 ^ 62 }
     requires live { IsTrue (is_some (slot_at parts.old.circuits circ.0)) }
     requires relay { IsTrue (is_some slot.old) }
-    requires count { IfSome (slot_at parts.old.circuits circ.0) (λ x. length opened.now ≡ kept_length x.forth.kept) }
-    requires most { length opened.now ≤ 32 }
+    requires count { IfSome (slot_at parts.old.circuits circ.0) (λ x. length opened_bodies.now ≡ kept_length x.forth.claim_out) }
+    requires most { length opened_bodies.now ≤ 32 }
     requires calls { slot_calls slot.old (slot_at parts.old.circuits circ.0) }
-    ensures home { SlotHome (rules_of rules.now) parts.old parts.new slot.old slot.new circ.0 end opened.now result }
+    ensures home { SlotHome (rules_of rules.now) parts.old parts.new slot.old slot.new circ.0 end opened_bodies.now result }
 {
     let Some(relay) = slot else { unreachable!() };
-    let answer = parts.settle_forth(circ, &mut relay.circuit, rules, opened);
+    let answer = parts.settle_forth(circ, &mut relay.circuit, rules, opened_bodies);
     relay.forth = end;
     answer
 }
@@ -73,8 +73,8 @@ pub fn seal_home(
     requires steps { parts.old.steps < 2 ^ 62 }
     requires live { IsTrue (is_some (slot_at parts.old.circuits circ.0)) }
     requires relay { IsTrue (is_some (slot_at relays.old.items circ.0)) }
-    requires count { IfSome (slot_at parts.old.circuits circ.0) (λ x. length sealed.now ≡ kept_length x.back.kept) }
-    requires out { IfSome (slot_at parts.old.circuits circ.0) (λ x. kept_length x.back.kept ≤ x.back.claimed) }
+    requires count { IfSome (slot_at parts.old.circuits circ.0) (λ x. length sealed.now ≡ kept_length x.back.claim_out) }
+    requires out { IfSome (slot_at parts.old.circuits circ.0) (λ x. kept_length x.back.claim_out ≤ x.back.claimed_count) }
     ensures home { HomeBack parts.old parts.new relays.old.items relays.new.items circ.0 end sealed.now }
 {
     parts.seal_back(circ, sealed);

@@ -4,7 +4,7 @@ ghost use Rattle.switch_core.specs.Picking.{better_of};
 
 /// A circuit that waits, by its number, and its count.
 #[derive(Clone, Copy)]
-pub struct Waiting {
+pub struct WaitingLeg {
     /// The circuit's number.
     pub number: usize,
     /// Its leg's count.
@@ -12,7 +12,7 @@ pub struct Waiting {
 }
 
 /// The one with the lesser count; the earlier where the counts are equal.
-pub fn lesser(least: Option<Waiting>, next: Waiting) -> Waiting
+pub fn lesser(least: Option<WaitingLeg>, next: WaitingLeg) -> WaitingLeg
     ensures { result ≡ better_of least next }
 {
     match least {

@@ -99,22 +99,22 @@ pub fn settle_forth_of(
     relay: &mut RelayCircuit,
     rules: &Rules,
     counters: &mut Counters,
-    opened: &[Opened],
+    opened_bodies: &[Opened],
 ) -> Option<u8>
     requires live { IsTrue (is_some slot.old) }
-    requires count { IfSome slot.old (λ x. length opened.now ≡ kept_length x.forth.kept) }
-    requires most { length opened.now ≤ 32 }
+    requires count { IfSome slot.old (λ x. length opened_bodies.now ≡ kept_length x.forth.claim_out) }
+    requires most { length opened_bodies.now ≤ 32 }
     requires calls { HasCallsFor 32 relay.old }
     requires bodies { counters.old.bodies < 2 ^ 99 }
     requires dials { counters.old.dial_orders < 2 ^ 99 }
-    ensures settles { SlotSettles (rules_of rules.now) slot.old slot.new counters.old counters.new relay.old relay.new opened.now result }
-    ensures grown { CallsGrow (length opened.now) relay.old relay.new }
+    ensures settles { SlotSettles (rules_of rules.now) slot.old slot.new counters.old counters.new relay.old relay.new opened_bodies.now result }
+    ensures grown { CallsGrow (length opened_bodies.now) relay.old relay.new }
     ensures counts { counters.new ≡ record counters.old { bodies = counters.new.bodies; dial_orders = counters.new.dial_orders } }
     ensures bodies { counters.new.bodies ≤ counters.old.bodies + 32 }
     ensures dials { counters.new.dial_orders ≤ counters.old.dial_orders + 32 }
 {
     match slot {
-        Some(circuit) => circuit.settle_forth(relay, rules, counters, opened),
+        Some(circuit) => circuit.settle_forth(relay, rules, counters, opened_bodies),
         None => unreachable!(),
     }
 }
@@ -122,8 +122,8 @@ pub fn settle_forth_of(
 /// The bodies of a live circuit's backward claim come home sealed as these.
 pub fn seal_back_of(slot: &mut Option<Circuit>, sealed: &[Opened])
     requires live { IsTrue (is_some slot.old) }
-    requires count { IfSome slot.old (λ x. length sealed.now ≡ kept_length x.back.kept) }
-    requires out { IfSome slot.old (λ x. kept_length x.back.kept ≤ x.back.claimed) }
+    requires count { IfSome slot.old (λ x. length sealed.now ≡ kept_length x.back.claim_out) }
+    requires out { IfSome slot.old (λ x. kept_length x.back.claim_out ≤ x.back.claimed_count) }
     ensures { slot.new ≡ option_map (with_sealed (sealed_cells_of sealed.now)) slot.old }
 {
     match slot {

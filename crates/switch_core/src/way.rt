@@ -35,7 +35,7 @@ impl Model for WaitingBody {
 /// is out stay at the front of those that wait, so that a claim moves none.
 #[derive(Drop)]
 pub struct Way {
-    pub(crate) claimed: u64,
+    pub(crate) claimed_count: u64,
     pub(crate) claim: Option<ClaimNote>,
     pub(crate) bodies: VecDeque<WaitingBody>,
 }
@@ -48,7 +48,7 @@ impl Model for Way {
 
     ghost Value = { WithRoom WayState };
 
-    ghost view = { λ w. record { state = way_of w.claimed w.claim w.bodies.items; spare = deque_capacity w.bodies - deque_len w.bodies } };
+    ghost view = { λ w. record { state = way_of w.claimed_count w.claim w.bodies.items; spare = deque_capacity w.bodies - deque_len w.bodies } };
 
     ghost invariant = { λ w. IfSome w.claim (λ note. note.count ≤ length w.bodies.items) };
 }
@@ -60,7 +60,7 @@ impl Way {
         ensures { result.state ≡ no_bodies }
     {
         Way {
-            claimed: 0,
+            claimed_count: 0,
             claim: None,
             bodies: VecDeque::new(alloc),
         }
@@ -68,7 +68,7 @@ impl Way {
 
     /// How many bodies are out or wait.
     pub fn len(&self) -> usize
-        ensures { result ≡ kept_length self.now.state.kept + length self.now.state.waiting }
+        ensures { result ≡ kept_length self.now.state.claim_out + length self.now.state.waiting_bodies }
     {
         self.bodies.len()
     }

@@ -8,7 +8,7 @@ use Rattle.circuit_model.specs.Rules.{Rules}
 use Rattle.tr_io.specs.declared.dials.DialStep.{DialStep}
 use Rattle.tr_io.specs.declared.step.Step.{Step}
 use Rattle.tr_io.specs.declared.step.Step.TheVariants.{GiveBack}
-use Rattle.switch_model.specs.Start.{Start}
+use Rattle.switch_model.specs.Start.{SwitchStart}
 use Rattle.switch_model.specs.History.Legs.{holds_id}
 use Rattle.switch_model.specs.History.Circuit.{is_live_circuit}
 use Rattle.switch_model.specs.History.Past.{past}
@@ -89,29 +89,29 @@ last-of-circuit n (first ∷ dials) dial numbers inside last = last-by n first d
 
 -- An order that is out, by the history: it is its circuit's.
 
-record IsOut (rules : Rules) (h : List Step) (given : DialStep) (dials : List Dial) : Type 0 where
+record IsOut (rules : Rules) (h : List Step) (given_order : DialStep) (dials : List Dial) : Type 0 where
   dial : Dial
   inside : IsIn dial dials
-  same : same_dial given dial ≡ true
+  same : same_dial given_order dial ≡ true
   is_open : is_open rules h dial ≡ true
   handed_out : was_handed_out h dial.order ≡ true
 
-out-by : (rules : Rules) (h : List Step) (given : DialStep) (first : Dial) (dials rest : List Dial) (b d : Bool) → (is_open rules h first && was_handed_out h first.order) ≡ b → same_dial given first ≡ d →
-    (list_any (same_dial given) rest ≡ true → IsOut rules h given dials) → list_any (same_dial given) (if b then first ∷ rest else rest) ≡ true → IsOut rules h given (first ∷ dials)
-out-by rules h given first dials rest true true is same later some =
+out-by : (rules : Rules) (h : List Step) (given_order : DialStep) (first : Dial) (dials rest : List Dial) (b d : Bool) → (is_open rules h first && was_handed_out h first.order) ≡ b → same_dial given_order first ≡ d →
+    (list_any (same_dial given_order) rest ≡ true → IsOut rules h given_order dials) → list_any (same_dial given_order) (if b then first ∷ rest else rest) ≡ true → IsOut rules h given_order (first ∷ dials)
+out-by rules h given_order first dials rest true true is same later some =
     record { dial = first; inside = inl refl; same = same; is_open = and-first _ _ is; handed_out = and-second (is_open rules h first) _ is }
-out-by rules h given first dials rest true false is same later some =
+out-by rules h given_order first dials rest true false is same later some =
     let out = later (rw same at some) in
     record { dial = out.dial; inside = inr out.inside; same = out.same; is_open = out.is_open; handed_out = out.handed_out }
-out-by rules h given first dials rest false d is same later some =
+out-by rules h given_order first dials rest false d is same later some =
     let out = later some in
     record { dial = out.dial; inside = inr out.inside; same = out.same; is_open = out.is_open; handed_out = out.handed_out }
 
-out-of : (rules : Rules) (h : List Step) (given : DialStep) (dials : List Dial) →
-    list_any (same_dial given) (filter (λ dial. is_open rules h dial && was_handed_out h dial.order) dials) ≡ true → IsOut rules h given dials
-out-of rules h given [] some = absurd cc
-out-of rules h given (first ∷ dials) some =
-    out-by rules h given first dials _ (is_open rules h first && was_handed_out h first.order) (same_dial given first) refl refl (out-of rules h given dials) some
+out-of : (rules : Rules) (h : List Step) (given_order : DialStep) (dials : List Dial) →
+    list_any (same_dial given_order) (filter (λ dial. is_open rules h dial && was_handed_out h dial.order) dials) ≡ true → IsOut rules h given_order dials
+out-of rules h given_order [] some = absurd cc
+out-of rules h given_order (first ∷ dials) some =
+    out-by rules h given_order first dials _ (is_open rules h first && was_handed_out h first.order) (same_dial given_order first) refl refl (out-of rules h given_order dials) some
 
 -- and by the state
 out-at : (rules : Rules) (closes : List Ordered) (h : List Step) (c : ℕ) (x : Option CircuitState) (dial : Dial) → CircuitAt rules closes x c (past rules h c) (λ k. holds_id h c k) (edge_past rules h c) →
@@ -120,12 +120,12 @@ out-at : (rules : Rules) (closes : List Ordered) (h : List Step) (c : ℕ) (x : 
 out-at rules closes h c None dial gone alive dials last handed_out = let both : false ≡ true = sym gone.live ∙ alive in absurd cc
 out-at rules closes h c (Some x) dial own alive dials last handed_out = rw (own.dial, dials, last) handed_out
 
-out-in : (start : Start) (s : State) (h : List Step) (given : DialStep) → Stands start s h → is_out start.rules h given ≡ true → is_handed_out (dial_in s given.circ.0) ≡ true
-out-in start s h given st out =
+out-in : (start : SwitchStart) (s : State) (h : List Step) (given_order : DialStep) → Stands start s h → is_out start.rules h given_order ≡ true → is_handed_out (dial_in s given_order.circ.0) ≡ true
+out-in start s h given_order st out =
     let made = dials_made start.rules h in
-    let is = out-of start.rules h given made out in
+    let is = out-of start.rules h given_order made out in
     let open_is : (is_dialling (next_hop (circuit_log start.rules h is.dial.circ)) && is_last made is.dial) ≡ true = and-second (is_live_circuit start.rules h is.dial.circ) _ is.is_open in
-    let circ : given.circ.0 ≡ is.dial.circ = same-number given.circ.0 is.dial.circ (and-first _ _ (and-second (given.order == is.dial.order) _ is.same)) in
+    let circ : given_order.circ.0 ≡ is.dial.circ = same-number given_order.circ.0 is.dial.circ (and-first _ _ (and-second (given_order.order == is.dial.order) _ is.same)) in
     rw circ (out-at start.rules s.last_closes h is.dial.circ (slot_at s.circuits is.dial.circ) is.dial (st.circuits.circuit is.dial.circ)
     (and-first _ _ is.is_open) (and-first _ _ open_is) (last-of-circuit 0 made is.dial (made-numbered start.rules h) is.inside (and-second _ _ open_is)) is.handed_out)
 
@@ -144,7 +144,7 @@ once-last (y ∷ xs) x once none = (
   once-last xs x once.1 (or-second (y == x) _ none),
 )
 
-memory-by : (start : Start) (s : State) (h : List Step) (c : ℕ) (b : Bool) → is_among c s.again ≡ b → is_handed_out (dial_in s c) ≡ true → Stands start s h →
+memory-by : (start : SwitchStart) (s : State) (h : List Step) (c : ℕ) (b : Bool) → is_among c s.again ≡ b → is_handed_out (dial_in s c) ≡ true → Stands start s h →
     Stands start (if b then s else record s { again = s.again ++ c ∷ [] }) h
 memory-by start s h c true among out st = st
 memory-by start s h c false among out st = record {
@@ -164,5 +164,5 @@ memory-by start s h c false among out st = record {
   not_yet = st.not_yet;
 }
 
-pub dial_memory_kept : (start : Start) (s : State) (h : List Step) (given : DialStep) → is_out start.rules h given ≡ true → Stands start s h → Stands start (dial_memory_state s given.circ.0) h
-dial_memory_kept start s h given out st = memory-by start s h given.circ.0 (is_among given.circ.0 s.again) refl (out-in start s h given st out) st
+pub dial_memory_kept : (start : SwitchStart) (s : State) (h : List Step) (given_order : DialStep) → is_out start.rules h given_order ≡ true → Stands start s h → Stands start (dial_memory_state s given_order.circ.0) h
+dial_memory_kept start s h given_order out st = memory-by start s h given_order.circ.0 (is_among given_order.circ.0 s.again) refl (out-in start s h given_order st out) st

@@ -2,7 +2,7 @@
 use Rattle.std.proofs.Common.{◌≡◌, ℕ, ◌==◌, ◌||◌, ◌⊎◌, Bool, true, false, is_some, List, Option, Some, None, refl, subst, inl, inr}
 use Rattle.std.specs.List.{list_any}
 use Rattle.tr_io.specs.declared.step.Step.{Step}
-use Rattle.switch_model.specs.Start.{Start}
+use Rattle.switch_model.specs.Start.{SwitchStart}
 use Rattle.switch_model.specs.Names.{Leg, is_leg}
 use Rattle.switch_model.specs.History.Legs.{at, holds_id, holds_port}
 use Rattle.switch_model.specs.Waiting.Lanes.{Destroy, lane}
@@ -20,18 +20,18 @@ use Rattle.switch_machine.proofs.Slots.{list_any-slot, slot-list_any}
 use Rattle.switch_model.proofs.Common.{and-first, and-second, same-number}
 
 -- what a circuit's state has at a leg number, against the history
-pub leg-by : (start : Start) (s : State) (h : List Step) (c k : ℕ) (x : Option CircuitState) (leg : LegState) →
+pub leg-by : (start : SwitchStart) (s : State) (h : List Step) (c k : ℕ) (x : Option CircuitState) (leg : LegState) →
     CircuitAt start.rules s.last_closes x c (past start.rules h c) (λ j. holds_id h c j) (edge_past start.rules h c) → leg_at x k ≡ Some leg →
     LegStands start.rules leg k (past start.rules h c) (holds_id h c k)
 leg-by start s h c k None leg at found = absurd cc
 leg-by start s h c k (Some x) leg own found = subst (λ y. LegAt start.rules y k (past start.rules h c) (holds_id h c k)) found (own.legs k)
 
-leg-stands : (start : Start) (s : State) (h : List Step) → Stands start s h → (c k : ℕ) (leg : LegState) → leg_at (slot_at s.circuits c) k ≡ Some leg →
+leg-stands : (start : SwitchStart) (s : State) (h : List Step) → Stands start s h → (c k : ℕ) (leg : LegState) → leg_at (slot_at s.circuits c) k ≡ Some leg →
     LegStands start.rules leg k (past start.rules h c) (holds_id h c k)
 leg-stands start s h st c k leg found = leg-by start s h c k (slot_at s.circuits c) leg (st.circuits.circuit c) found
 
 -- such a leg has its CircID
-pub leg-has_id : (start : Start) (s : State) (h : List Step) → Stands start s h → (c k : ℕ) (leg : LegState) → leg_at (slot_at s.circuits c) k ≡ Some leg →
+pub leg-has_id : (start : SwitchStart) (s : State) (h : List Step) → Stands start s h → (c k : ℕ) (leg : LegState) → leg_at (slot_at s.circuits c) k ≡ Some leg →
     is_leg c k (at h leg.chan leg.id) ≡ true
 leg-has_id start s h st c k leg found =
     let own = leg-stands start s h st c k leg found in
@@ -41,7 +41,7 @@ some-leg : (c k : ℕ) (x : Option Leg) → is_leg c k x ≡ true → is_some x 
 some-leg c k (Some leg) e = refl
 some-leg c k None e = cc
 
-port-used : (start : Start) (s : State) (h : List Step) → Stands start s h → (c k chan id : ℕ) (x : Option LegState) → leg_at (slot_at s.circuits c) k ≡ x →
+port-used : (start : SwitchStart) (s : State) (h : List Step) → Stands start s h → (c k chan id : ℕ) (x : Option LegState) → leg_at (slot_at s.circuits c) k ≡ x →
     has_port chan id x ≡ true → is_some (at h chan id) ≡ true
 port-used start s h st c k chan id None found has = cc
 port-used start s h st c k chan id (Some leg) found has =
@@ -58,7 +58,7 @@ leg-circuit chan id k None has = has
 leg-circuit chan id k (Some x) has = list_any-slot (has_port chan id) x.legs k refl has
 
 -- a leg of the state is one of the history
-taken-used : (start : Start) (s : State) (h : List Step) → Stands start s h → (chan id : ℕ) → list_any (circuit_has_id chan id) s.circuits ≡ true → is_some (at h chan id) ≡ true
+taken-used : (start : SwitchStart) (s : State) (h : List Step) → Stands start s h → (chan id : ℕ) → list_any (circuit_has_id chan id) s.circuits ≡ true → is_some (at h chan id) ≡ true
 taken-used start s h st chan id taken =
     let c = slot-list_any (circuit_has_id chan id) s.circuits taken in
     let k = circuit-leg chan id (slot_at s.circuits c.0) c.1 in
@@ -79,7 +79,7 @@ agree false true true to back = refl
 agree false true false to back = elim (back refl) [ inl e ↦ cc | inr e ↦ cc ]
 agree false false l to back = refl
 
-pub taken-said : (start : Start) (s : State) (h : List Step) → Stands start s h → (chan id : ℕ) (channel : ChannelState) → channel.lane ≡ lane start.rules h chan →
+pub taken-said : (start : SwitchStart) (s : State) (h : List Step) → Stands start s h → (chan id : ℕ) (channel : ChannelState) → channel.lane ≡ lane start.rules h chan →
     is_id_taken s chan channel id ≡ is_in_use start.rules h chan id
 taken-said start s h st chan id channel same =
     rw same (agree (list_any (circuit_has_id chan id) s.circuits) (is_some (at h chan id)) (list_any (λ d. d.id == id) (lane start.rules h chan))

@@ -10,7 +10,7 @@ use Rattle.tr_io.specs.declared.names.ChanNo.{ChanNo}
 use Rattle.tr_io.specs.declared.names.Side.{Side}
 use Rattle.tr_io.specs.declared.step.Step.{Step}
 use Rattle.tr_io.specs.declared.step.Step.TheVariants.{ChannelUp, OpenCircuit, NextCell}
-use Rattle.switch_model.specs.Start.{Start}
+use Rattle.switch_model.specs.Start.{SwitchStart}
 use Rattle.switch_model.specs.Conditions.{IsReply}
 use Rattle.switch_model.specs.Limits.{channel_limit}
 use Rattle.switch_model.specs.Names.{Leg}
@@ -22,13 +22,13 @@ use Rattle.switch_machine.specs.Stands.{Stands}
 use Rattle.switch_machine.specs.Calls.ChannelUp.{channel_up_result, channel_up_state}
 use Rattle.switch_machine.specs.Calls.OpenCircuit.{open_result, open_state_by, open_state}
 use Rattle.switch_machine.specs.Calls.NextCell.{ticked, picked_leg, with_leg, sent_from, next_state_on, lane_of, next_cell_result, next_cell_state}
-use Rattle.switch_machine.specs.Adds.{Adds, StandsForSome, StandsFor}
+use Rattle.switch_machine.specs.Adds.{Adds, StandsForSome, StandsInOrder}
 use Rattle.switch_machine.proofs.Up.{channel_up_kept}
 use Rattle.switch_machine.proofs.OpenCircuit.Kept.{open_kept}
 use Rattle.switch_machine.proofs.NextCell.Kept.{next_cell_kept}
 
 -- a new switch stands for no steps
-pub stands_empty : (start : Start) → Stands start new_state []
+pub stands_empty : (start : SwitchStart) → Stands start new_state []
 unfolding slot_at
 stands_empty start = record {
   steps = record { legal = tt; count_is = refl };
@@ -46,7 +46,7 @@ stands_empty start = record {
   not_yet = record { unreached = λ c serial. refl; unlinked = λ c. refl };
 }
 
-pub stands_new : (start : Start) (s : State) → s ≡ new_state → Stands start s []
+pub stands_new : (start : SwitchStart) (s : State) → s ≡ new_state → Stands start s []
 stands_new start s e = subst (λ (x : State). Stands start x []) (sym e) (stands_empty start)
 
 -- each call is one step
@@ -81,14 +81,14 @@ next-steps s chan given None waits = refl
 
 -- and what it adds
 
-pub channel_up_adds : (start : Start) (old new : State) (slot : ℕ) (side : Side) (a : UpAnswer) → new ≡ channel_up_state old side → a ≡ channel_up_result old → Adds start old new (ChannelUp slot side a)
+pub channel_up_adds : (start : SwitchStart) (old new : State) (slot : ℕ) (side : Side) (a : UpAnswer) → new ≡ channel_up_state old side → a ≡ channel_up_result old → Adds start old new (ChannelUp slot side a)
 unfolding Adds
 channel_up_adds start old new slot side a e f = rw (e, f) (record {
   steps = channel_up-steps old side;
   stands = λ h st. channel_up_kept start old h slot side st;
 })
 
-pub open_adds : (start : Start) (old new : State) (chan : ChanNo) (id : ℕ) (reply : Cell) (keys : Option LayerKeys) (pad : Option (List ℕ)) (a : OpenAnswer) → IsReply reply keys → new ≡ open_state start.circuits old chan.0 id reply keys → a ≡ open_result start.circuits old chan.0 id keys →
+pub open_adds : (start : SwitchStart) (old new : State) (chan : ChanNo) (id : ℕ) (reply : Cell) (keys : Option LayerKeys) (pad : Option (List ℕ)) (a : OpenAnswer) → IsReply reply keys → new ≡ open_state start.circuits old chan.0 id reply keys → a ≡ open_result start.circuits old chan.0 id keys →
     Adds start old new (OpenCircuit chan id reply keys pad a)
 unfolding Adds
 open_adds start old new chan id reply keys pad a asked e f = rw (e, f) (record {
@@ -96,7 +96,7 @@ open_adds start old new chan id reply keys pad a asked e f = rw (e, f) (record {
   stands = λ h st. open_kept start old h chan.0 id reply keys pad asked st;
 })
 
-pub next_cell_adds : (start : Start) (old new : State) (chan : ChanNo) (given : ℕ) (a : Option Cell) → new ≡ next_cell_state old chan.0 given → a ≡ next_cell_result old chan.0 given →
+pub next_cell_adds : (start : SwitchStart) (old new : State) (chan : ChanNo) (given : ℕ) (a : Option Cell) → new ≡ next_cell_state old chan.0 given → a ≡ next_cell_result old chan.0 given →
     Adds start old new (NextCell chan given a)
 unfolding Adds
 next_cell_adds start old new chan given a e f = rw (e, f) (record {
@@ -105,7 +105,7 @@ next_cell_adds start old new chan given a e f = rw (e, f) (record {
 })
 
 -- a state that stands for some history goes on to do so
-pub stays : (start : Start) (old new : State) (step : Step) → Adds start old new step → StandsForSome start old → StandsForSome start new
+pub stays : (start : SwitchStart) (old new : State) (step : Step) → Adds start old new step → StandsForSome start old → StandsForSome start new
 unfolding Adds
 stays start old new step adds some = record { history = step ∷ some.history; stands = adds.stands some.history some.stands }
 
@@ -114,10 +114,10 @@ in_order-last : (h : List Step) (step : Step) → in_order (h ++ step ∷ []) �
 in_order-last [] step = refl
 in_order-last (s ∷ h) step = rw (in_order-last h step) refl
 
-pub adds_at_end : (start : Start) (old new : State) (step : Step) (h : List Step) → Adds start old new step → StandsFor start old h → StandsFor start new (h ++ step ∷ [])
-unfolding Adds StandsFor
+pub adds_at_end : (start : SwitchStart) (old new : State) (step : Step) (h : List Step) → Adds start old new step → StandsInOrder start old h → StandsInOrder start new (h ++ step ∷ [])
+unfolding Adds StandsInOrder
 adds_at_end start old new step h adds st = rw (in_order-last h step) (adds.stands (in_order h) st)
 
-pub legal_for : (start : Start) (s : State) (h : List Step) → StandsFor start s h → IsLegalFrom start h
-unfolding StandsFor IsLegalFrom
+pub legal_for : (start : SwitchStart) (s : State) (h : List Step) → StandsInOrder start s h → IsLegalFrom start h
+unfolding StandsInOrder IsLegalFrom
 legal_for start s h st = st.steps.legal

@@ -9,7 +9,7 @@ use Rattle.switch_model.specs.History.Legs.{at, hops, holds_id}
 use Rattle.switch_model.specs.History.Past.{Past, past}
 use Rattle.switch_model.specs.Legal.{IsRightStep}
 use Rattle.switch_model.specs.Names.{Leg}
-use Rattle.switch_model.specs.Start.{Start}
+use Rattle.switch_model.specs.Start.{SwitchStart}
 use Rattle.switch_model.specs.Waiting.Counts.{tick, cell_count}
 use Rattle.switch_model.specs.Waiting.Dials.{dials_made, was_handed_out}
 use Rattle.switch_model.specs.Waiting.Lanes.{Destroy, lane}
@@ -66,7 +66,7 @@ words rules h = record {
   hop_count = hops h;
 }
 
-pub step-alone : (start : Start) (s : State) (h : List Step) (step : Step) →
+pub step-alone : (start : SwitchStart) (s : State) (h : List Step) (step : Step) →
     words start.rules (step ∷ h) ≡ words start.rules h → IsRightStep start h step → Stands start s h →
     Stands start (counted s) (step ∷ h)
 step-alone start s h step same right st =

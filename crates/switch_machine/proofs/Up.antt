@@ -8,7 +8,7 @@ use Rattle.tr_io.specs.declared.step.Step.{Step}
 use Rattle.tr_io.specs.declared.step.Step.TheVariants.{ChannelUp}
 use Rattle.switch_model.specs.Limits.{channel_limit}
 use Rattle.switch_model.specs.Answers.ChannelUp.{channel_up_answer}
-use Rattle.switch_model.specs.Start.{Start}
+use Rattle.switch_model.specs.Start.{SwitchStart}
 use Rattle.switch_model.specs.Names.{chan_no}
 use Rattle.switch_model.specs.History.Channels.{is_live_channel, live_channels, count_below}
 use Rattle.switch_machine.specs.State.{ChannelState, State, slot_at}
@@ -28,24 +28,24 @@ pub live-at : (p : ChannelPast) (x : Option ChannelState) → ChannelAt x p → 
 live-at p None at = rw at.channel refl
 live-at p (Some x) at = rw at.channel refl
 
-filled-channels : (start : Start) (s : State) (h : List Step) → Stands start s h → filled_slots s.channels ≡ live_channels h
+filled-channels : (start : SwitchStart) (s : State) (h : List Step) → Stands start s h → filled_slots s.channels ≡ live_channels h
 filled-channels start s h st =
     count_below-same (λ n. is_some (slot_at s.channels n)) (is_live_channel h) (λ n. live-at (channel_past start.rules h n) (slot_at s.channels n) (st.channels.channel n)) (length s.channels)
     ∙ ap (count_below (is_live_channel h)) st.numbers.channels
 
 -- a channel that was never up
-never-up : (start : Start) (s : State) (h : List Step) → Stands start s h → (chan : ℕ) → chan ≡ length s.channels → (side : Side) →
-    ChannelStands (new_channel side) (record { channel = Some (record { side = side; to = None }); given = (channel_past start.rules h chan).given; lane = (channel_past start.rules h chan).lane })
+never-up : (start : SwitchStart) (s : State) (h : List Step) → Stands start s h → (chan : ℕ) → chan ≡ length s.channels → (side : Side) →
+    ChannelStands (new_channel side) (record { channel = Some (record { side = side; to = None }); given_count = (channel_past start.rules h chan).given_count; lane = (channel_past start.rules h chan).lane })
 never-up start s h st chan new side =
     let none : slot_at s.channels chan ≡ None = slot_at-past s.channels chan (omega arith) in
     let gone = subst (λ x. ChannelAt x (channel_past start.rules h chan)) none (st.channels.channel chan) in
-    record { channel = refl; given = sym (st.channels.no_channel chan (omega arith)); lane = sym gone.lane }
+    record { channel = refl; given_count = sym (st.channels.no_channel chan (omega arith)); lane = sym gone.lane }
 
 -- the answer
-pub channel_up_said : (start : Start) (s : State) (h : List Step) → Stands start s h → channel_up_result s ≡ channel_up_answer h
+pub channel_up_said : (start : SwitchStart) (s : State) (h : List Step) → Stands start s h → channel_up_result s ≡ channel_up_answer h
 channel_up_said start s h st = rw (filled-channels start s h st, st.numbers.channels) refl
 
-up-by : (start : Start) (s : State) (h : List Step) (slot : ℕ) (side : Side) (b : Bool) → (if b then UpAnswer.Full channel_limit else UpAnswer.Up (chan_no (length s.channels))) ≡ channel_up_answer h → Stands start s h →
+up-by : (start : SwitchStart) (s : State) (h : List Step) (slot : ℕ) (side : Side) (b : Bool) → (if b then UpAnswer.Full channel_limit else UpAnswer.Up (chan_no (length s.channels))) ≡ channel_up_answer h → Stands start s h →
     Stands start (if b then counted s else record (counted s) { channels = s.channels ++ Some (new_channel side) ∷ [] })
     (ChannelUp slot side (if b then UpAnswer.Full channel_limit else UpAnswer.Up (chan_no (length s.channels))) ∷ h)
 up-by start s h slot side true said st =
@@ -75,5 +75,5 @@ up-by start s h slot side false said st =
       not_yet = st.not_yet;
     }
 
-pub channel_up_kept : (start : Start) (s : State) (h : List Step) (slot : ℕ) (side : Side) → Stands start s h → Stands start (channel_up_state s side) (ChannelUp slot side (channel_up_result s) ∷ h)
+pub channel_up_kept : (start : SwitchStart) (s : State) (h : List Step) (slot : ℕ) (side : Side) → Stands start s h → Stands start (channel_up_state s side) (ChannelUp slot side (channel_up_result s) ∷ h)
 channel_up_kept start s h slot side st = up-by start s h slot side (nat_le channel_limit (filled_slots s.channels)) (channel_up_said start s h st) st

@@ -4,7 +4,7 @@ use Rattle.std.specs.List.{AllByRecursion}
 use Rattle.circuit_model.specs.Events.{CircuitCell}
 use Rattle.circuit_model.specs.Rules.{Rules}
 use Rattle.tr_io.specs.declared.step.Step.{Step}
-use Rattle.switch_model.specs.Start.{Start}
+use Rattle.switch_model.specs.Start.{SwitchStart}
 use Rattle.switch_model.specs.Names.{Leg}
 use Rattle.switch_model.specs.History.Legs.{port, on_channel, hops, holds_id}
 use Rattle.switch_model.specs.History.Circuit.{is_live_circuit, sent}
@@ -28,12 +28,12 @@ queue-leg : (rules : Rules) (h : List Step) (c k : ℕ) (y : Option LegState) �
 queue-leg rules h c k None alive at = rw (alive, at) refl
 queue-leg rules h c k (Some leg) alive at = rw (alive, at.holds, ← at.cells) (drop-front (sent rules h c k) leg.queue)
 
-queue-by : (start : Start) (s : State) (h : List Step) (c k : ℕ) (x : Option CircuitState) →
+queue-by : (start : SwitchStart) (s : State) (h : List Step) (c k : ℕ) (x : Option CircuitState) →
     CircuitAt start.rules s.last_closes x c (past start.rules h c) (λ j. holds_id h c j) (edge_past start.rules h c) → queue start.rules h c k ≡ queue_of (leg_at x k)
 queue-by start s h c k None gone = rw gone.live refl
 queue-by start s h c k (Some x) own = queue-leg start.rules h c k (slot_at x.legs k) own.live (own.legs k)
 
-pub queue-said : (start : Start) (s : State) (h : List Step) → Stands start s h → (c k : ℕ) → queue start.rules h c k ≡ queue_of (leg_at (slot_at s.circuits c) k)
+pub queue-said : (start : SwitchStart) (s : State) (h : List Step) → Stands start s h → (c k : ℕ) → queue start.rules h c k ≡ queue_of (leg_at (slot_at s.circuits c) k)
 queue-said start s h st c k = queue-by start s h c k (slot_at s.circuits c) (st.circuits.circuit c)
 
 -- whether a leg waits on a channel
@@ -42,18 +42,18 @@ port-leg : (rules : Rules) (h : List Step) (chan c k : ℕ) (y : Option LegState
 port-leg rules h chan c k None at = and-false (on_channel chan (port h c k))
 port-leg rules h chan c k (Some leg) at = rw at.port refl
 
-waits-by : (start : Start) (s : State) (h : List Step) (chan c k : ℕ) (x : Option CircuitState) →
+waits-by : (start : SwitchStart) (s : State) (h : List Step) (chan c k : ℕ) (x : Option CircuitState) →
     CircuitAt start.rules s.last_closes x c (past start.rules h c) (λ j. holds_id h c j) (edge_past start.rules h c) →
     (on_channel chan (port h c k) && some_in (queue_of (leg_at x k))) ≡ waits_on chan (leg_at x k)
 waits-by start s h chan c k None gone = and-false (on_channel chan (port h c k))
 waits-by start s h chan c k (Some x) own = port-leg start.rules h chan c k (slot_at x.legs k) (own.legs k)
 
-waits-said : (start : Start) (s : State) (h : List Step) → Stands start s h → (chan c k : ℕ) →
+waits-said : (start : SwitchStart) (s : State) (h : List Step) → Stands start s h → (chan c k : ℕ) →
     (on_channel chan (port h c k) && some_in (queue start.rules h c k)) ≡ waits_on chan (leg_at (slot_at s.circuits c) k)
 waits-said start s h st chan c k = rw (queue-said start s h st c k) (waits-by start s h chan c k (slot_at s.circuits c) (st.circuits.circuit c))
 
 -- the legs that wait
-of-said : (start : Start) (s : State) (h : List Step) → Stands start s h → (chan c n : ℕ) → waiting_of start.rules h chan c n ≡ waiting_in chan c (slot_at s.circuits c) n
+of-said : (start : SwitchStart) (s : State) (h : List Step) → Stands start s h → (chan c n : ℕ) → waiting_of start.rules h chan c n ≡ waiting_in chan c (slot_at s.circuits c) n
 of-said start s h st chan c zero = refl
 of-said start s h st chan c (suc k) = rw (of-said start s h st chan c k, waits-said start s h st chan c k) refl
 
@@ -61,18 +61,18 @@ none-in : (chan c n : ℕ) → waiting_in chan c None n ≡ []
 none-in chan c zero = refl
 none-in chan c (suc k) = rw (none-in chan c k) refl
 
-all-legs : (start : Start) (s : State) (h : List Step) (chan c : ℕ) (x : Option CircuitState) →
+all-legs : (start : SwitchStart) (s : State) (h : List Step) (chan c : ℕ) (x : Option CircuitState) →
     CircuitAt start.rules s.last_closes x c (past start.rules h c) (λ j. holds_id h c j) (edge_past start.rules h c) →
     waiting_in chan c x (hops h c + 1) ≡ waiting_in chan c x (legs_of x)
 all-legs start s h chan c None gone = none-in chan c (hops h c + 1)
 all-legs start s h chan c (Some x) own = ap (waiting_in chan c (Some x)) (sym own.hops)
 
-below-said : (start : Start) (s : State) (h : List Step) → Stands start s h → (chan n : ℕ) → waiting_below start.rules h chan n ≡ waiting_before s chan n
+below-said : (start : SwitchStart) (s : State) (h : List Step) → Stands start s h → (chan n : ℕ) → waiting_below start.rules h chan n ≡ waiting_before s chan n
 below-said start s h st chan zero = refl
 below-said start s h st chan (suc c) =
     rw (below-said start s h st chan c, of-said start s h st chan c (hops h c + 1), all-legs start s h chan c (slot_at s.circuits c) (st.circuits.circuit c)) refl
 
-pub waiting-said : (start : Start) (s : State) (h : List Step) → Stands start s h → (chan : ℕ) → waiting_legs start.rules h chan ≡ waiting_on s chan
+pub waiting-said : (start : SwitchStart) (s : State) (h : List Step) → Stands start s h → (chan : ℕ) → waiting_legs start.rules h chan ≡ waiting_on s chan
 waiting-said start s h st chan = rw (← st.numbers.circuits) (below-said start s h st chan (length s.circuits))
 
 -- each of them is in the state, and has a cell

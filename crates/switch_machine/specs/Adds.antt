@@ -5,34 +5,34 @@ use Rattle.tr_io.specs.declared.answers.OpenAnswer.{OpenAnswer}
 use Rattle.tr_io.specs.declared.answers.UpAnswer.{UpAnswer}
 use Rattle.tr_io.specs.declared.step.Step.{Step}
 use Rattle.tr_io.specs.declared.step.Step.TheVariants.{ChannelUp, OpenCircuit, NextCell, TearDown, GiveBack, Abandon, Claim, Take, DialOrder}
-use Rattle.switch_model.specs.Start.{Start}
+use Rattle.switch_model.specs.Start.{SwitchStart}
 use Rattle.switch_machine.specs.State.{State}
 use Rattle.switch_machine.specs.Stands.{Stands}
 
 -- Whatever history the old state stands for, the new one stands for it with this step.
-pub record StepAdded (start : Start) (old new : State) (step : Step) : Type 0 where
+pub record StepAdded (start : SwitchStart) (old new : State) (step : Step) : Type 0 where
   pub steps : new.steps ≡ old.steps + 1
   pub stands : (h : List Step) → Stands start old h → Stands start new (step ∷ h)
 
-unfoldable pub Adds : Start → State → State → Step → Type 0
+unfoldable pub Adds : SwitchStart → State → State → Step → Type 0
 Adds start old new step = StepAdded start old new step
 
 -- The same of one history alone: the state behind a call that asks the one-thread relay follows from the
 -- circuits' events in it.
-pub record StepAddedTo (start : Start) (h : List Step) (old new : State) (step : Step) : Type 0 where
+pub record StepAddedTo (start : SwitchStart) (h : List Step) (old new : State) (step : Step) : Type 0 where
   pub steps : new.steps ≡ old.steps + 1
   pub stands : Stands start old h → Stands start new (step ∷ h)
 
-unfoldable pub AddsTo : Start → List Step → State → State → Step → Type 0
+unfoldable pub AddsTo : SwitchStart → List Step → State → State → Step → Type 0
 AddsTo start h old new step = StepAddedTo start h old new step
 
 -- Some history that a state stands for.
-pub record StandsForSome (start : Start) (s : State) : Type 0 where
+pub record StandsForSome (start : SwitchStart) (s : State) : Type 0 where
   pub history : List Step
   pub stands : Stands start s history
 
 -- Some state that stands for a history.
-pub record StandsForSomeState (start : Start) (h : List Step) : Type 0 where
+pub record StandsForSomeState (start : SwitchStart) (h : List Step) : Type 0 where
   pub state : State
   pub stands : Stands start state h
 
@@ -51,8 +51,8 @@ HasMachine (DialOrder a ∷ h) = HasMachine h
 HasMachine (s ∷ h) = ⊥
 
 -- That the state stands for a history which is listed oldest first.
-unfoldable pub StandsFor : Start → State → List Step → Type 0
-StandsFor start s h = Stands start s (in_order h)
+unfoldable pub StandsInOrder : SwitchStart → State → List Step → Type 0
+StandsInOrder start s h = Stands start s (in_order h)
 
 -- The first fact where memory was wanting, else the second.
 abbrev pub UpCase : UpAnswer → Type 0 → Type 0 → Type 0

@@ -56,11 +56,11 @@ way_of_circuit circuit Back = circuit.back
 
 -- The note of the claim that is out, and its bodies.
 abbrev pub kept_note : Option KeptClaim → Option ClaimNote
-kept_note (Some kept) = Some kept.note
+kept_note (Some claim_out) = Some claim_out.note
 kept_note None = None
 
 abbrev pub kept_cells : Option KeptClaim → List CircuitCell
-kept_cells (Some kept) = kept.cells
+kept_cells (Some claim_out) = claim_out.cells
 kept_cells None = []
 
 -- A circuit's open dial order.

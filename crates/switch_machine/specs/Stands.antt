@@ -3,7 +3,7 @@
 -- is. What concerns one circuit, one channel or one leg is seen through all that the history says of it.
 use Rattle.std.specs.Prelude.{List, length}
 use Rattle.tr_io.specs.declared.step.Step.{Step}
-use Rattle.switch_model.specs.Start.{Start}
+use Rattle.switch_model.specs.Start.{SwitchStart}
 use Rattle.switch_model.specs.History.Legs.{at, hops, holds_id}
 use Rattle.switch_model.specs.History.Past.{past}
 use Rattle.switch_model.specs.History.EdgePast.{edge_past}
@@ -39,7 +39,7 @@ pub mod Slots
 pub mod NotYet
 
 -- The whole switch.
-pub record Stands (start : Start) (s : State) (h : List Step) : Type 0 where
+pub record Stands (start : SwitchStart) (s : State) (h : List Step) : Type 0 where
   pub steps : StepsStand start s.steps h
   pub numbers : NumbersStand (numbers_in s) (numbers_past start.rules h)
   pub channels : ChannelsStand s.channels (λ chan. channel_past start.rules h chan)

@@ -13,7 +13,7 @@ use Rattle.switch_model.specs.Waiting.Orders.{joined}
 pub record ChannelState : Type 0 where
   pub side : Side
   pub to : Option Dest
-  pub given : ℕ
+  pub given_count : ℕ
   pub lane : List Destroy
 
 -- A leg that has its CircID: the cells that wait, and its count as it was right behind its last cell,
@@ -37,9 +37,9 @@ pub record WaitingCell : Type 0 where
 
 -- A direction of a circuit.
 pub record WayState : Type 0 where
-  pub claimed : ℕ
-  pub kept : Option KeptClaim
-  pub waiting : List WaitingCell
+  pub claimed_count : ℕ
+  pub claim_out : Option KeptClaim
+  pub waiting_bodies : List WaitingCell
 
 -- A dial order that is neither done nor given up.
 pub record DialState : Type 0 where

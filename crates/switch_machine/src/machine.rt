@@ -16,7 +16,7 @@ ghost use Rattle.switch_model.specs.Answers.NextCell.{next_cell_answer};
 ghost use Rattle.switch_model.specs.Answers.TearDown.{tear_down_answer};
 ghost use Rattle.switch_model.specs.Answers.GiveBack.{give_back_answer};
 ghost use Rattle.switch_model.specs.Answers.Abandon.{abandon_answer};
-ghost use Rattle.switch_model.specs.Start.{Start};
+ghost use Rattle.switch_model.specs.Start.{SwitchStart};
 ghost use Rattle.switch_model.specs.Conditions.{IsReply};
 ghost use Rattle.switch_machine.specs.State.{State};
 ghost use Rattle.switch_machine.specs.Machine.{new_state};
@@ -42,33 +42,33 @@ ghost use Rattle.switch_machine.specs.Calls.DialOrder.{dial_order_result, dial_o
 
 /// A new switch stands for the history without steps.
 pub fn a_new_switch_has_no_history()
-    ensures { (start : Start) → Stands start new_state [] }
+    ensures { (start : SwitchStart) → Stands start new_state [] }
 {}
 
 /// A channel that comes up, or finds the switch full, is one step.
 #[tactic(auto, using(crate::proofs::Laws::channel_up_adds, crate::proofs::Up::channel_up_said))]
 pub fn channel_up_is_one_step()
-    ensures adds { (start : Start) (s t : State) (slot : ℕ) (side : Side) →
+    ensures adds { (start : SwitchStart) (s t : State) (slot : ℕ) (side : Side) →
         t ≡ channel_up_state s side → Adds start s t (ChannelUp slot side (channel_up_result s)) }
-    ensures answer { (start : Start) (s : State) (h : List Step) → Stands start s h → channel_up_result s ≡ channel_up_answer h }
+    ensures answer { (start : SwitchStart) (s : State) (h : List Step) → Stands start s h → channel_up_result s ≡ channel_up_answer h }
 {}
 
 /// An opening, accepted or refused, is one step.
 #[tactic(auto, using(crate::proofs::Laws::open_adds, crate::proofs::OpenCircuit::Kept::open_said))]
 pub fn open_circuit_is_one_step()
-    ensures adds { (start : Start) (s t : State) (chan : ChanNo) (id : ℕ) (reply : Cell) (keys : Option LayerKeys) (pad : Option (List ℕ)) →
+    ensures adds { (start : SwitchStart) (s t : State) (chan : ChanNo) (id : ℕ) (reply : Cell) (keys : Option LayerKeys) (pad : Option (List ℕ)) →
         IsReply reply keys → t ≡ open_state start.circuits s chan.0 id reply keys →
         Adds start s t (OpenCircuit chan id reply keys pad (open_result start.circuits s chan.0 id keys)) }
-    ensures answer { (start : Start) (s : State) (h : List Step) (chan id : ℕ) (keys : Option LayerKeys) → Stands start s h →
+    ensures answer { (start : SwitchStart) (s : State) (h : List Step) (chan id : ℕ) (keys : Option LayerKeys) → Stands start s h →
         open_result start.circuits s chan id keys ≡ open_answer start h chan id keys }
 {}
 
 /// A cell that leaves, or none, is one step.
 #[tactic(auto, using(crate::proofs::Laws::next_cell_adds, crate::proofs::NextCell::Said::next_cell_said))]
 pub fn next_cell_is_one_step()
-    ensures adds { (start : Start) (s t : State) (chan : ChanNo) (tick : ℕ) →
+    ensures adds { (start : SwitchStart) (s t : State) (chan : ChanNo) (tick : ℕ) →
         t ≡ next_cell_state s chan.0 tick → Adds start s t (NextCell chan tick (next_cell_result s chan.0 tick)) }
-    ensures answer { (start : Start) (s : State) (h : List Step) (chan tick : ℕ) → Stands start s h →
+    ensures answer { (start : SwitchStart) (s : State) (h : List Step) (chan tick : ℕ) → Stands start s h →
         next_cell_result s chan tick ≡ next_cell_answer start.rules h chan tick }
 {}
 
@@ -76,10 +76,10 @@ pub fn next_cell_is_one_step()
 /// events it was given.
 #[tactic(auto, using(crate::proofs::TearDown::Law::tear_down_adds, crate::proofs::TearDown::Law::tear_down_said))]
 pub fn tear_down_is_one_step()
-    ensures adds { (start : Start) (h : List Step) (s t : State) (circ : CircNo) (reason : ℕ) →
+    ensures adds { (start : SwitchStart) (h : List Step) (s t : State) (circ : CircNo) (reason : ℕ) →
         t ≡ tear_down_state start.rules (events start.rules h) s circ.0 reason →
         AddsTo start h s t (TearDown circ reason (tear_down_result s circ.0 reason)) }
-    ensures answer { (start : Start) (s : State) (h : List Step) (c reason : ℕ) → Stands start s h →
+    ensures answer { (start : SwitchStart) (s : State) (h : List Step) (c reason : ℕ) → Stands start s h →
         tear_down_result s c reason ≡ tear_down_answer start.rules h c reason }
 {}
 
@@ -87,10 +87,10 @@ pub fn tear_down_is_one_step()
 /// it was given.
 #[tactic(auto, using(crate::proofs::GiveBack::Law::give_back_adds, crate::proofs::GiveBack::Said::give_back_said))]
 pub fn give_back_is_one_step()
-    ensures adds { (start : Start) (h : List Step) (s t : State) (note : ClaimNote) (place : Option ℕ) →
+    ensures adds { (start : SwitchStart) (h : List Step) (s t : State) (note : ClaimNote) (place : Option ℕ) →
         t ≡ give_back_state start.name start.rules (events start.rules h) s note place →
         AddsTo start h s t (GiveBack note place (give_back_result start.name start.rules (events start.rules h) s note place)) }
-    ensures answer { (start : Start) (s : State) (h : List Step) (note : ClaimNote) (place : Option ℕ) → Stands start s h →
+    ensures answer { (start : SwitchStart) (s : State) (h : List Step) (note : ClaimNote) (place : Option ℕ) → Stands start s h →
         give_back_result start.name start.rules (events start.rules h) s note place ≡ give_back_answer start h note place }
 {}
 
@@ -98,19 +98,19 @@ pub fn give_back_is_one_step()
 /// events it was given.
 #[tactic(auto, using(crate::proofs::Abandon::Law::abandon_adds, crate::proofs::Abandon::Said::abandon_said))]
 pub fn abandon_is_one_step()
-    ensures adds { (start : Start) (h : List Step) (s t : State) (note : ClaimNote) (place : Option ℕ) →
+    ensures adds { (start : SwitchStart) (h : List Step) (s t : State) (note : ClaimNote) (place : Option ℕ) →
         t ≡ abandon_state start.name start.rules (events start.rules h) s note place →
         AddsTo start h s t (Abandon note place (abandon_result start.name s note place)) }
-    ensures answer { (start : Start) (s : State) (h : List Step) (note : ClaimNote) (place : Option ℕ) → Stands start s h →
+    ensures answer { (start : SwitchStart) (s : State) (h : List Step) (note : ClaimNote) (place : Option ℕ) → Stands start s h →
         abandon_result start.name s note place ≡ abandon_answer start h note place }
 {}
 
 /// A claim, with a job or without one, is one step.
 #[tactic(auto, using(crate::proofs::Claim::Law::claim_adds, crate::proofs::Claim::Said::claim_said))]
 pub fn claim_is_one_step()
-    ensures adds { (start : Start) (s t : State) (worker : ℕ) → worker < worker_limit → t ≡ claim_state start.name s worker →
+    ensures adds { (start : SwitchStart) (s t : State) (worker : ℕ) → worker < worker_limit → t ≡ claim_state start.name s worker →
         Adds start s t (Claim worker (claim_result start.name s worker)) }
-    ensures answer { (start : Start) (s : State) (h : List Step) (worker : ℕ) → Stands start s h →
+    ensures answer { (start : SwitchStart) (s : State) (h : List Step) (worker : ℕ) → Stands start s h →
         claim_result start.name s worker ≡ claim_answer start h worker }
 {}
 
@@ -118,10 +118,10 @@ pub fn claim_is_one_step()
 /// events it was given.
 #[tactic(auto, using(crate::proofs::Take::Law::take_adds, crate::proofs::Take::Said::take_said))]
 pub fn take_is_one_step()
-    ensures adds { (start : Start) (h : List Step) (s t : State) (chan : ChanNo) (cell : Cell) → IsWellFormed cell →
+    ensures adds { (start : SwitchStart) (h : List Step) (s t : State) (chan : ChanNo) (cell : Cell) → IsWellFormed cell →
         t ≡ take_state start.rules (events start.rules h) s chan.0 cell →
         AddsTo start h s t (Take chan cell (take_result start.rules (events start.rules h) s chan.0 cell)) }
-    ensures answer { (start : Start) (s : State) (h : List Step) (chan : ℕ) (cell : Cell) → Stands start s h →
+    ensures answer { (start : SwitchStart) (s : State) (h : List Step) (chan : ℕ) (cell : Cell) → Stands start s h →
         take_result start.rules (events start.rules h) s chan cell ≡ take_answer start.rules h chan cell }
 {}
 
@@ -129,21 +129,21 @@ pub fn take_is_one_step()
 /// that is out. Which of them it is depends on those that want of memory hands out again.
 #[tactic(auto, using(crate::proofs::DialOrder::Law::dial_order_adds, crate::proofs::DialOrder::Right::dial_order_right, crate::proofs::DialOrder::Said::dial_order_said))]
 pub fn dial_order_is_one_step()
-    ensures adds { (start : Start) (s t : State) → t ≡ dial_order_state s → Adds start s t (DialOrder (dial_order_result s)) }
-    ensures right { (start : Start) (s : State) (h : List Step) → Stands start s h → IsDialOrder start.rules h (dial_order_result s) }
-    ensures answer { (start : Start) (s : State) (h : List Step) → Stands start s h →
+    ensures adds { (start : SwitchStart) (s t : State) → t ≡ dial_order_state s → Adds start s t (DialOrder (dial_order_result s)) }
+    ensures right { (start : SwitchStart) (s : State) (h : List Step) → Stands start s h → IsDialOrder start.rules h (dial_order_result s) }
+    ensures answer { (start : SwitchStart) (s : State) (h : List Step) → Stands start s h →
         dial_order_result s ≡ dial_order_by start.rules h s.again }
 {}
 
 /// dial_done of an order that is out, where memory is wanting, is no step: the switch stands for the same
 /// history, with the order's circuit among those whose order is handed out again.
 pub fn want_of_memory_hands_an_order_out_again()
-    ensures { (start : Start) (s : State) (h : List Step) (given : DialStep) →
-        is_out start.rules h given ≡ true → Stands start s h → Stands start (dial_memory_state s given.circ.0) h }
+    ensures { (start : SwitchStart) (s : State) (h : List Step) (given_order : DialStep) →
+        is_out start.rules h given_order ≡ true → Stands start s h → Stands start (dial_memory_state s given_order.circ.0) h }
 {}
 
 /// Each legal history of the calls that have a machine here is stood for by some state.
 #[tactic(auto, using(crate::proofs::Built::built_stands))]
 pub fn a_legal_history_is_stood_for()
-    ensures { (start : Start) (h : List Step) → HasMachine h → IsLegal start h → StandsForSomeState start h }
+    ensures { (start : SwitchStart) (h : List Step) → HasMachine h → IsLegal start h → StandsForSomeState start h }
 {}

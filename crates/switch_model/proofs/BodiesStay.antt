@@ -11,13 +11,13 @@ use Rattle.tr_io.specs.declared.names.Dir.{Dir}
 use Rattle.tr_io.specs.declared.names.Dir.TheVariants.{Forth, Back}
 use Rattle.tr_io.specs.declared.step.Step.{Step}
 use Rattle.tr_io.specs.declared.step.Step.TheVariants.{Take, Claim}
-use Rattle.switch_model.specs.Start.{Start}
+use Rattle.switch_model.specs.Start.{SwitchStart}
 use Rattle.switch_model.specs.Names.{way_of, is_leg, circuit_cell}
 use Rattle.switch_model.specs.History.Legs.{at}
 use Rattle.switch_model.specs.History.Taken.{taken_forth}
 use Rattle.switch_model.specs.History.Circuit.{events}
 use Rattle.switch_model.specs.Waiting.Queues.{circuit_log}
-use Rattle.switch_model.specs.Waiting.Claims.{claimed, bodies}
+use Rattle.switch_model.specs.Waiting.Claims.{claimed_count, bodies}
 use Rattle.switch_model.specs.Waiting.Contents.{body_of, bodies_in, claimed_bodies}
 use Rattle.switch_model.specs.Legal.{IsLegal}
 use Rattle.switch_model.proofs.Common.{Begins, same-list, both-begin}
@@ -83,22 +83,22 @@ part-begins : {A : Type 0} (first count : ℕ) (xs ys : List A) → Begins xs ys
 part-begins first count xs ys begins within = ap (λ l. take count (drop first l)) (sym begins.all) ∙ part-same first count xs begins.rest within
 
 -- a claim's bodies are there when it is made
-claim-there : (start : Start) (h : List Step) (worker : ℕ) (note : ClaimNote) → IsLegal start (Claim worker (Some note) ∷ h) → note.first + note.count ≤ bodies start.rules h (way_of note) note.dir
+claim-there : (start : SwitchStart) (h : List Step) (worker : ℕ) (note : ClaimNote) → IsLegal start (Claim worker (Some note) ∷ h) → note.first + note.count ≤ bodies start.rules h (way_of note) note.dir
 claim-there start h worker note legal =
     let taken = claimed-by start h worker note legal.0.1 in
     let has : WayHas start.rules h note.circ.0 note.dir = ways start h legal.1 note.circ.0 note.dir in
-    let below : claimed h (way_of note) + note.count ≤ bodies start.rules h (way_of note) note.dir = within-limit (claimed h (way_of note)) (bodies start.rules h (way_of note) note.dir) note.count (has.within taken.live) taken.count in
+    let below : claimed_count h (way_of note) + note.count ≤ bodies start.rules h (way_of note) note.dir = within-limit (claimed_count h (way_of note)) (bodies start.rules h (way_of note) note.dir) note.count (has.within taken.live) taken.count in
     let first = taken.first in
     omega (arith, first, below)
 
-stay-by : (start : Start) (newer older : List Step) (worker : ℕ) (note : ClaimNote) (dir : Dir) → note.dir ≡ dir → note.first + note.count ≤ bodies start.rules older (record { circ = note.circ.0; dir = dir }) dir →
+stay-by : (start : SwitchStart) (newer older : List Step) (worker : ℕ) (note : ClaimNote) (dir : Dir) → note.dir ≡ dir → note.first + note.count ≤ bodies start.rules older (record { circ = note.circ.0; dir = dir }) dir →
     bodies_in start.rules (newer ++ Claim worker (Some note) ∷ older) note dir ≡ bodies_in start.rules (Claim worker (Some note) ∷ older) note dir
 stay-by start newer older worker note Forth is within =
     ap (λ l. map body_of l) (part-begins note.first note.count (taken_forth older note.circ.0) _ (taken-later newer (Claim worker (Some note) ∷ older) note.circ.0) within)
 stay-by start newer older worker note Back is within =
     part-begins note.first note.count (behind (circuit_log start.rules older note.circ.0)) _ (back-later start.rules newer (Claim worker (Some note) ∷ older) note.circ.0) within
 
-pub claimed_bodies_stay : (start : Start) (newer older : List Step) (worker : ℕ) (note : ClaimNote) → IsLegal start (newer ++ Claim worker (Some note) ∷ older) →
+pub claimed_bodies_stay : (start : SwitchStart) (newer older : List Step) (worker : ℕ) (note : ClaimNote) → IsLegal start (newer ++ Claim worker (Some note) ∷ older) →
     claimed_bodies start.rules (newer ++ Claim worker (Some note) ∷ older) note ≡ claimed_bodies start.rules (Claim worker (Some note) ∷ older) note
 claimed_bodies_stay start newer older worker note legal =
     stay-by start newer older worker note note.dir refl (claim-there start older worker note (first_steps_legal start newer (Claim worker (Some note) ∷ older) legal))

@@ -5,7 +5,7 @@ use Rattle.circuit_model.specs.Events.{CircuitCell}
 use Rattle.tr_io.specs.declared.answers.OpenAnswer.TheVariants.{Opened}
 use Rattle.tr_io.specs.declared.step.Step.{Step}
 use Rattle.tr_io.specs.declared.step.Step.TheVariants.{OpenCircuit, NextCell}
-use Rattle.switch_model.specs.Start.{Start}
+use Rattle.switch_model.specs.Start.{SwitchStart}
 use Rattle.switch_model.specs.Names.{is_leg, circuit_cell}
 use Rattle.switch_model.specs.History.Legs.{circuits, at}
 use Rattle.switch_model.specs.History.LegEnds.{is_ended_by_us}
@@ -36,7 +36,7 @@ ended-if : (b e : Bool) (P : Type 0) → (b ≡ true → P) → (e ≡ true → 
 ended-if true e P here there ended = here refl
 ended-if false e P here there ended = there ended
 
-ended-opened : (start : Start) (h : List Step) → IsLegal start h → (c k : ℕ) → is_ended_by_us h c k ≡ true → c < circuits h
+ended-opened : (start : SwitchStart) (h : List Step) → IsLegal start h → (c k : ℕ) → is_ended_by_us h c k ≡ true → c < circuits h
 ended-opened start [] legal c k ended = absurd cc
 ended-opened start (NextCell n tick (Some cell) ∷ h) legal c k ended = ended-if _ (is_ended_by_us h c k) (c < circuits h) (λ is. leg-opened start h legal.1 c k n.0 cell.circ (and-first (is_leg c k (at h n.0 cell.circ)) _ is)) (ended-opened start h legal.1 c k) ended
 ended-opened start (OpenCircuit chan id reply keys pad (Opened n) ∷ h) legal c k ended = let was = ended-opened start h legal.1 c k ended in omega (arith, was)
@@ -51,7 +51,7 @@ left-destroy true false true xs x e is on before ended = any-more xs x (before e
 left-destroy false destroys true xs x e is on before ended = before ended
 left-destroy of_leg destroys false xs x e is on before ended = absurd cc
 
-opened-destroy : (start : Start) (h : List Step) (n c k : ℕ) (b : Bool) → (n == c) ≡ b → n ≡ circuits h → IsLegal start h → is_ended_by_us h c k ≡ true → (is_live_circuit start.rules h c ≡ true → HasDestroy (sent start.rules h c k)) → (if b then true else is_live_circuit start.rules h c) ≡ true →
+opened-destroy : (start : SwitchStart) (h : List Step) (n c k : ℕ) (b : Bool) → (n == c) ≡ b → n ≡ circuits h → IsLegal start h → is_ended_by_us h c k ≡ true → (is_live_circuit start.rules h c ≡ true → HasDestroy (sent start.rules h c k)) → (if b then true else is_live_circuit start.rules h c) ≡ true →
     HasDestroy (sent start.rules h c k)
 opened-destroy start h n c k true is number legal ended before alive =
     let same = same-number n c is in
@@ -59,7 +59,7 @@ opened-destroy start h n c k true is number legal ended before alive =
     absurd (omega (arith, same, number, was))
 opened-destroy start h n c k false is number legal ended before alive = before alive
 
-pub destroy_was_sent : (start : Start) (h : List Step) → IsLegal start h → (c k : ℕ) → is_live_circuit start.rules h c ≡ true → is_ended_by_us h c k ≡ true → HasDestroy (sent start.rules h c k)
+pub destroy_was_sent : (start : SwitchStart) (h : List Step) → IsLegal start h → (c k : ℕ) → is_live_circuit start.rules h c ≡ true → is_ended_by_us h c k ≡ true → HasDestroy (sent start.rules h c k)
 destroy_was_sent start [] legal c k alive ended = absurd cc
 destroy_was_sent start (NextCell n tick (Some cell) ∷ h) legal c k alive ended =
     left-destroy (is_leg c k (at h n.0 cell.circ)) (cell.command == 4) (is_live_circuit start.rules h c) (sent start.rules h c k) (circuit_cell cell) (is_ended_by_us h c k) refl alive (destroy_was_sent start h legal.1 c k alive) ended

@@ -21,7 +21,7 @@ use Rattle.tr_io.specs.declared.step.EventStep.{EventStep}
 use Rattle.tr_io.specs.declared.step.OrderStep.{OrderStep}
 use Rattle.tr_io.specs.declared.step.Step.{Step}
 use Rattle.tr_io.specs.declared.step.Step.TheVariants.{OpenCircuit, Take, GiveBack, EdgeIn, EdgeOut, Drained, DialDone}
-use Rattle.switch_model.specs.Start.{Start}
+use Rattle.switch_model.specs.Start.{SwitchStart}
 use Rattle.switch_model.specs.Names.{Leg, is_leg, circ_no, circuit_cell}
 use Rattle.switch_model.specs.History.Channels.{is_live_channel}
 use Rattle.switch_model.specs.History.Legs.{at}
@@ -118,7 +118,7 @@ forth-if : (b : Bool) (xs : List CircuitCell) (cell : CircuitCell) → (b ≡ tr
 forth-if true xs cell here all = all-append IsNoDestroy xs (cell ∷ []) all (here refl, tt)
 forth-if false xs cell here all = all
 
-forth-none : (start : Start) (h : List Step) → IsLegal start h → (c : ℕ) → AllByRecursion IsNoDestroy (taken_forth h c)
+forth-none : (start : SwitchStart) (h : List Step) → IsLegal start h → (c : ℕ) → AllByRecursion IsNoDestroy (taken_forth h c)
 forth-none start [] legal c = tt
 forth-none start (Take chan cell Queued ∷ h) legal c =
     forth-if (is_leg c 0 (at h chan.0 cell.circ)) (taken_forth h c) (circuit_cell cell)
@@ -173,7 +173,7 @@ edge-fits rules ev serial (EventStep.Ended reason) = tt
 opens-none : (command : ℕ) → opens_circuit command ≡ true → (command == 4) ≡ false
 opens-none command opens = grind (arith, nat_tests)
 
-pub events_fit : (start : Start) (h : List Step) → IsLegal start h → (c : ℕ) → AllFit start.rules (events start.rules h c)
+pub events_fit : (start : SwitchStart) (h : List Step) → IsLegal start h → (c : ℕ) → AllFit start.rules (events start.rules h c)
 events_fit start [] legal c = tt
 events_fit start (OpenCircuit chan id reply (Some keys) pad (Opened n) ∷ h) legal c = fit-if start.rules (n.0 == c) _ _ (opens-none reply.command legal.0.0.command, events_fit start h legal.1 c) (events_fit start h legal.1 c)
 events_fit start (OpenCircuit chan id reply None pad (Opened n) ∷ h) legal c = fit-if start.rules (n.0 == c) _ _ (events_fit start h legal.1 c) (events_fit start h legal.1 c)

@@ -18,7 +18,7 @@ use Rattle.switch_model.specs.History.Channels.{channel_at, is_live_channel}
 use Rattle.switch_model.specs.History.Legs.{circuits}
 use Rattle.switch_model.specs.Answers.OpenCircuit.{is_in_use, is_peers_id, live_circuits, open_answer}
 use Rattle.switch_model.specs.Answers.NextCell.{cell_at}
-use Rattle.switch_model.specs.Start.{Start}
+use Rattle.switch_model.specs.Start.{SwitchStart}
 use Rattle.switch_model.specs.Legal.{IsLegal}
 use Rattle.switch_model.specs.Waiting.Counts.{count_at, least_of}
 use Rattle.switch_model.proofs.Common.{self_eq}
@@ -33,7 +33,7 @@ is-reply : (keys : LayerKeys) (id : ℕ) (reply : List ℕ) → IsReply (cell_at
 is-reply keys id reply = record { fixed = refl; command = refl }
 
 -- a good opening on channel 0, where one circuit more may be live
-opens : (start : Start) (h : List Step) (id : ℕ) (keys : LayerKeys) →
+opens : (start : SwitchStart) (h : List Step) (id : ℕ) (keys : LayerKeys) →
     is_live_channel h 0 ≡ true → (id == 0) ≡ false → is_in_use start.rules h 0 id ≡ false →
     is_peers_id (channel_at h 0) id ≡ true → live_circuits start.rules h < start.circuits →
     Opened (circ_no (circuits h)) ≡ open_answer start h 0 id (Some keys)
@@ -49,7 +49,7 @@ fits-destroy : (c : ℕ) (body : List ℕ) → length body ≤ 65535 → IsWellF
 fits-destroy c body short = record { kind = refl; size = short }
 
 -- the first steps of most of them: a circuit is opened
-first-opened : (start : Start) (keys : LayerKeys) (reply : List ℕ) → 1 ≤ start.circuits →
+first-opened : (start : SwitchStart) (keys : LayerKeys) (reply : List ℕ) → 1 ≤ start.circuits →
     IsLegal start (opened keys 0 reply ∷ peer_came ∷ [])
 unfolding open_effects
 first-opened start keys reply some =
@@ -58,21 +58,21 @@ first-opened start keys reply some =
     ((is-reply keys (id_of 0) reply, answer), ((tt, refl), tt))
 
 -- and behind them a cell of the circuit is taken
-first-taken : (start : Start) (keys : LayerKeys) (reply body : List ℕ) → length body ≤ 65535 → 1 ≤ start.circuits →
+first-taken : (start : SwitchStart) (keys : LayerKeys) (reply body : List ℕ) → length body ≤ 65535 → 1 ≤ start.circuits →
     IsLegal start (Take (chan_no 0) (cell_of 0 relay_command body) TakeAnswer.Queued ∷ opened keys 0 reply ∷ peer_came ∷ [])
 unfolding open_effects
 first-taken start keys reply body short some = ((fits 0 body short, refl), first-opened start keys reply some)
 
-pub one_circuit-legal : (start : Start) (keys : LayerKeys) (reply : List ℕ) → 1 ≤ start.circuits →
+pub one_circuit-legal : (start : SwitchStart) (keys : LayerKeys) (reply : List ℕ) → 1 ≤ start.circuits →
     IsLegal start (one_circuit keys reply)
 unfolding open_effects
 one_circuit-legal start keys reply some = ((tt, refl), first-opened start keys reply some)
 
-pub bad_id-legal : (start : Start) (keys : LayerKeys) (reply : Cell) → IsReply reply (Some keys) → IsLegal start (bad_id keys reply)
+pub bad_id-legal : (start : SwitchStart) (keys : LayerKeys) (reply : Cell) → IsReply reply (Some keys) → IsLegal start (bad_id keys reply)
 unfolding open_effects
 bad_id-legal start keys reply replies = ((tt, refl), ((replies, refl), ((tt, refl), tt)))
 
-pub crossing_destroys-legal : (start : Start) (keys : LayerKeys) (refused : Cell) (reply reason : List ℕ) →
+pub crossing_destroys-legal : (start : SwitchStart) (keys : LayerKeys) (refused : Cell) (reply reason : List ℕ) →
     IsReply refused (Some keys) → length reason ≤ 65535 → 1 ≤ start.circuits →
     IsLegal start (crossing_destroys keys refused reply reason)
 unfolding open_effects
@@ -90,7 +90,7 @@ crossing_destroys-legal start keys refused reply reason replies short some =
       ((tt, refl), ((fits-destroy 0 reason short, refl), ((replies, refl), ((tt, refl), first-opened start keys reply some)))),
     )
 
-pub three_circuits-legal : (start : Start) (keys : LayerKeys) (reply : List ℕ) → 3 ≤ start.circuits →
+pub three_circuits-legal : (start : SwitchStart) (keys : LayerKeys) (reply : List ℕ) → 3 ≤ start.circuits →
     IsLegal start (three_circuits keys reply)
 unfolding open_effects
 three_circuits-legal start keys reply three =
@@ -103,26 +103,26 @@ three_circuits-legal start keys reply three =
     ((is-reply keys (id_of 1) reply, second), one_circuit-legal start keys reply some) in
     ((tt, refl), ((tt, refl), ((is-reply keys (id_of 2) reply, third), two)))
 
-pub torn_while_claimed-legal : (start : Start) (keys : LayerKeys) (reply body : List ℕ) → length body ≤ 65535 →
+pub torn_while_claimed-legal : (start : SwitchStart) (keys : LayerKeys) (reply body : List ℕ) → length body ≤ 65535 →
     1 ≤ start.circuits → IsLegal start (torn_while_claimed start keys reply body)
 unfolding open_effects
 torn_while_claimed-legal start keys reply body short some =
     let taken = first-taken start keys reply body short some in
     ((tt, refl), ((tt, refl), ((tt, rw (self_eq start.name) refl), ((tt, refl), ((omega arith, refl), taken)))))
 
-pub two_claimed-legal : (start : Start) (keys : LayerKeys) (reply first second : List ℕ) → length first ≤ 65535 →
+pub two_claimed-legal : (start : SwitchStart) (keys : LayerKeys) (reply first second : List ℕ) → length first ≤ 65535 →
     length second ≤ 65535 → 1 ≤ start.circuits → IsLegal start (two_claimed start keys reply first second)
 unfolding open_effects
 two_claimed-legal start keys reply first second short shorter some =
     ((omega arith, refl), ((fits 0 second shorter, refl), first-taken start keys reply first short some))
 
-pub ended_channel-legal : (start : Start) (keys : LayerKeys) (reply : List ℕ) (late : Cell) → IsWellFormed late →
+pub ended_channel-legal : (start : SwitchStart) (keys : LayerKeys) (reply : List ℕ) (late : Cell) → IsWellFormed late →
     1 ≤ start.circuits → IsLegal start (ended_channel keys reply late)
 unfolding open_effects
 ended_channel-legal start keys reply late formed some =
     ((tt, refl), ((tt, refl), ((formed, refl), ((tt, refl), ((tt, refl), first-opened start keys reply some)))))
 
-pub quiet_switch-legal : (start : Start) → IsLegal start quiet_switch
+pub quiet_switch-legal : (start : SwitchStart) → IsLegal start quiet_switch
 quiet_switch-legal start =
     ((tt, refl), ((tt, tt), ((tt, refl), ((tt, refl), ((tt, refl), ((tt, refl), ((omega arith, refl), ((tt, refl), tt))))))))
 

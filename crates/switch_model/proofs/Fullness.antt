@@ -12,12 +12,12 @@ use Rattle.tr_io.specs.declared.answers.UpAnswer.{UpAnswer}
 use Rattle.tr_io.specs.declared.names.ClaimNote.{ClaimNote}
 use Rattle.tr_io.specs.declared.names.Dir.TheVariants.{Forth}
 use Rattle.tr_io.specs.declared.step.Step.{Step}
-use Rattle.switch_model.specs.Start.{Start}
+use Rattle.switch_model.specs.Start.{SwitchStart}
 use Rattle.switch_model.specs.Names.{circ_no}
 use Rattle.switch_model.specs.History.Channels.{channel_at, is_live_channel, live_channels}
 use Rattle.switch_model.specs.History.Legs.{at}
 use Rattle.switch_model.specs.History.Circuit.{is_live_circuit}
-use Rattle.switch_model.specs.Waiting.Queues.{circuit_log, held}
+use Rattle.switch_model.specs.Waiting.Queues.{circuit_log, held_count}
 use Rattle.tr_io.specs.declared.answers.EdgeAnswer.TheVariants.{Shut}
 use Rattle.tr_io.specs.declared.answers.ShutWhy.{ShutWhy}
 use Rattle.tr_io.specs.declared.names.StreamKey.{StreamKey}
@@ -35,19 +35,19 @@ use Rattle.switch_model.specs.Answers.GiveBack.{give_back_answer}
 pub channels_full : (h : List Step) → live_channels h ≡ 64 → channel_up_answer h ≡ UpAnswer.Full 64
 channels_full h full = rw full refl
 
-pub circuits_full : (start : Start) (h : List Step) (chan id : ℕ) (keys : LayerKeys) → is_live_channel h chan ≡ true → (id == 0) ≡ false →
+pub circuits_full : (start : SwitchStart) (h : List Step) (chan id : ℕ) (keys : LayerKeys) → is_live_channel h chan ≡ true → (id == 0) ≡ false →
     is_in_use start.rules h chan id ≡ false → is_peers_id (channel_at h chan) id ≡ true → start.circuits ≤ live_circuits start.rules h →
     open_answer start h chan id (Some keys) ≡ Refused (OpenRefusal.Full start.circuits)
 circuits_full start h chan id keys up some_id unused peers full =
     let none_left : nat_le start.circuits (live_circuits start.rules h) ≡ true = grind arith in
     rw (up, some_id, unused, peers, none_left) refl
 
-pub foreign_claim : (start : Start) (h : List Step) (note : ClaimNote) (place : Option ℕ) → (note.switch == start.name) ≡ false →
+pub foreign_claim : (start : SwitchStart) (h : List Step) (note : ClaimNote) (place : Option ℕ) → (note.switch == start.name) ≡ false →
     give_back_answer start h note place ≡ Stranger (Note None note)
 foreign_claim start h note place other = rw other refl
 
 pub direction_full : (rules : Rules) (h : List Step) (chan : ℕ) (cell : Cell) (c : ℕ) → is_live_channel h chan ≡ true → cell.command ≡ 3 →
-    at h chan cell.circ ≡ Some (record { circ = c; number = 0 }) → is_live_circuit rules h c ≡ true → held rules h c Forth ≡ 1500 →
+    at h chan cell.circ ≡ Some (record { circ = c; number = 0 }) → is_live_circuit rules h c ≡ true → held_count rules h c Forth ≡ 1500 →
     take_answer rules h chan cell ≡ TakeAnswer.Down (circ_no c) 5
 direction_full rules h chan cell c up relay found is_open full = rw (up, relay, found, is_open, full) refl
 

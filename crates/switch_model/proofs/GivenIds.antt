@@ -16,7 +16,7 @@ use Rattle.tr_io.specs.declared.names.ChanNo.{ChanNo}
 use Rattle.tr_io.specs.declared.names.CircNo.{CircNo}
 use Rattle.tr_io.specs.declared.step.Step.{Step}
 use Rattle.tr_io.specs.declared.step.Step.TheVariants.{ChannelUp, ChannelDown, OpenCircuit, Take, NextCell, DialDone}
-use Rattle.switch_model.specs.Start.{Start}
+use Rattle.switch_model.specs.Start.{SwitchStart}
 use Rattle.switch_model.specs.Limits.{channel_limit, given_id_base}
 use Rattle.switch_model.specs.Names.{Leg, circ_no, chan_no}
 use Rattle.switch_model.specs.History.Channels.{Channel, channels, channel_at, is_live_channel, live_channels, opened_by_us, given_ids, next_given_id}
@@ -43,7 +43,7 @@ fitting-by true false true peers keyless full n m limit is = absurd cc
 fitting-by true false false false keyless full n m limit is = absurd cc
 fitting-by true false false true keyless full n m limit is = record { channel = refl; unused = refl; side = refl }
 
-pub opened-fits : (start : Start) (h : List Step) (chan id : ℕ) (keys : Option LayerKeys) (n : CircNo) → Opened n ≡ open_answer start h chan id keys →
+pub opened-fits : (start : SwitchStart) (h : List Step) (chan id : ℕ) (keys : Option LayerKeys) (n : CircNo) → Opened n ≡ open_answer start h chan id keys →
     IsFitting (is_live_channel h chan) (is_in_use start.rules h chan id) (is_peers_id (channel_at h chan) id)
 opened-fits start h chan id keys n is =
     fitting-by (is_live_channel h chan) (id == 0) (is_in_use start.rules h chan id) (is_peers_id (channel_at h chan) id) (is_none keys) (nat_le start.circuits (live_circuits start.rules h)) n (circ_no (circuits h)) start.circuits is
@@ -87,7 +87,7 @@ linked-by h (DialOutcome.Opened slot) n is = slot-number (nat_le channel_limit (
 linked-by h (DialOutcome.Over chan) n is = over-ours h n chan (over-by (carries_on h chan.0) 6 n chan is)
 linked-by h DialOutcome.Failed n is = absurd cc
 
-pub linked-over : (start : Start) (h : List Step) (order : DialStep) (outcome : DialOutcome) (n : ChanNo) → IsLegal start (DialDone order outcome (DialAnswer.Up n) ∷ h) → IsLinkedOver h outcome n.0
+pub linked-over : (start : SwitchStart) (h : List Step) (order : DialStep) (outcome : DialOutcome) (n : ChanNo) → IsLegal start (DialDone order outcome (DialAnswer.Up n) ∷ h) → IsLinkedOver h outcome n.0
 linked-over start h order outcome n legal = linked-by h outcome n (dialled-by h outcome n (is_out start.rules h order) legal.0.1).answer
 
 -- and of a live circuit
@@ -110,7 +110,7 @@ found-by rules h order [] any = absurd cc
 found-by rules h order (dial ∷ made) any =
     found-if rules h order dial (filter (λ dial. is_open rules h dial && was_handed_out h dial.order) made) _ refl (found-by rules h order made) any
 
-pub dial-live : (start : Start) (h : List Step) (order : DialStep) (outcome : DialOutcome) (n : ChanNo) → IsLegal start (DialDone order outcome (DialAnswer.Up n) ∷ h) → is_live_circuit start.rules h order.circ.0 ≡ true
+pub dial-live : (start : SwitchStart) (h : List Step) (order : DialStep) (outcome : DialOutcome) (n : ChanNo) → IsLegal start (DialDone order outcome (DialAnswer.Up n) ∷ h) → is_live_circuit start.rules h order.circ.0 ≡ true
 dial-live start h order outcome n legal =
     let found = found-by start.rules h order (dials_made start.rules h) (dialled-by h outcome n (is_out start.rules h order) legal.0.1).waited in
     let same = same-number order.circ.0 found.dial.circ (and-first (order.circ.0 == found.dial.circ) _ (and-second (order.order == found.dial.order) _ found.same)) in
@@ -125,7 +125,7 @@ none-if : (b : Bool) (y : Option Channel) → is_some (if b then None else y) �
 none-if true y is = absurd cc
 none-if false y is = is
 
-pub live-up : (start : Start) (h : List Step) → IsLegal start h → (chan : ℕ) → is_live_channel h chan ≡ true → chan < channels h
+pub live-up : (start : SwitchStart) (h : List Step) → IsLegal start h → (chan : ℕ) → is_live_channel h chan ≡ true → chan < channels h
 live-up start [] legal chan is = absurd cc
 live-up start (ChannelUp slot side (UpAnswer.Up n) ∷ h) legal chan is =
     let number = up-number (nat_le channel_limit (live_channels h)) channel_limit n (chan_no (channels h)) legal.0.1 in
@@ -153,7 +153,7 @@ down-below : (b : Bool) (x : Option Channel) (id m : ℕ) → (opened_by_us x �
 down-below true x id m below ours = absurd cc
 down-below false x id m below ours = below ours
 
-pub given-stays : (start : Start) (h : List Step) (s : Step) (chan id : ℕ) → IsLegal start (s ∷ h) → IsGiven h chan id → IsGiven (s ∷ h) chan id
+pub given-stays : (start : SwitchStart) (h : List Step) (s : Step) (chan id : ℕ) → IsLegal start (s ∷ h) → IsGiven h chan id → IsGiven (s ∷ h) chan id
 given-stays start h (ChannelUp slot side (UpAnswer.Up n)) chan id legal given =
     let number = up-number (nat_le channel_limit (live_channels h)) channel_limit n (chan_no (channels h)) legal.0.1 in
     let other = other-number _ n.0 chan (channels h) refl number given.up in
@@ -173,7 +173,7 @@ peers-below : (ours : Bool) (base id count : ℕ) → (if ours then not (nat_le 
 peers-below true base id count is own = grind (arith, nat_tests)
 peers-below false base id count is own = absurd cc
 
-pub peers-given : (start : Start) (h : List Step) → IsLegal start h → (chan id : ℕ) → is_live_channel h chan ≡ true → (opened_by_us (channel_at h chan) ≡ true → is_peers_id (channel_at h chan) id ≡ true) → IsGiven h chan id
+pub peers-given : (start : SwitchStart) (h : List Step) → IsLegal start h → (chan id : ℕ) → is_live_channel h chan ≡ true → (opened_by_us (channel_at h chan) ≡ true → is_peers_id (channel_at h chan) id ≡ true) → IsGiven h chan id
 peers-given start h legal chan id is side = record {
   up = live-up start h legal chan is;
   below = λ ours. peers-below (opened_by_us (channel_at h chan)) given_id_base id (given_ids h chan) (side ours) ours;
@@ -193,7 +193,7 @@ pub was-some : (b : Bool) (x : Option Leg) → is_some (if b then None else x) �
 was-some true x is = absurd cc
 was-some false x is = is
 
-opened-given : (start : Start) (h : List Step) (n : ChanNo) (i chan id : ℕ) → IsGiven h n.0 i → ((n.0 == chan) && (i == id)) ≡ true → IsGiven h chan id
+opened-given : (start : SwitchStart) (h : List Step) (n : ChanNo) (i chan id : ℕ) → IsGiven h n.0 i → ((n.0 == chan) && (i == id)) ≡ true → IsGiven h chan id
 opened-given start h n i chan id given both =
     subst (λ x. IsGiven h chan x) (same-number i id (and-second (n.0 == chan) _ both)) (subst (λ x. IsGiven h x i) (same-number n.0 chan (and-first (n.0 == chan) _ both)) given)
 
@@ -201,7 +201,7 @@ pub some-live : (x : Option Channel) → opened_by_us x ≡ true → is_some x �
 some-live (Some channel) ours = refl
 some-live None ours = absurd cc
 
-linked-up : (start : Start) (h : List Step) (order : DialStep) (outcome : DialOutcome) (n : ChanNo) → IsLegal start (DialDone order outcome (DialAnswer.Up n) ∷ h) → n.0 < channels (DialDone order outcome (DialAnswer.Up n) ∷ h)
+linked-up : (start : SwitchStart) (h : List Step) (order : DialStep) (outcome : DialOutcome) (n : ChanNo) → IsLegal start (DialDone order outcome (DialAnswer.Up n) ∷ h) → n.0 < channels (DialDone order outcome (DialAnswer.Up n) ∷ h)
 linked-up start h order (DialOutcome.Opened slot) n legal = let number : n.0 ≡ channels h = linked-over start h order (DialOutcome.Opened slot) n legal in omega (arith, number)
 linked-up start h order (DialOutcome.Over chan) n legal = live-up start h legal.1 n.0 (some-live (channel_at h n.0) (linked-over start h order (DialOutcome.Over chan) n legal))
 linked-up start h order DialOutcome.Failed n legal = absurd (linked-over start h order DialOutcome.Failed n legal)
@@ -210,7 +210,7 @@ newest-given : (b : Bool) (base count id : ℕ) → b ≡ true → base + count 
 newest-given true base count id is same = omega (arith, same)
 newest-given false base count id is same = absurd cc
 
-linked-given : (start : Start) (h : List Step) (order : DialStep) (outcome : DialOutcome) (n : ChanNo) (chan id : ℕ) → IsLegal start (DialDone order outcome (DialAnswer.Up n) ∷ h) → ((n.0 == chan) && (next_given_id h chan == id)) ≡ true →
+linked-given : (start : SwitchStart) (h : List Step) (order : DialStep) (outcome : DialOutcome) (n : ChanNo) (chan id : ℕ) → IsLegal start (DialDone order outcome (DialAnswer.Up n) ∷ h) → ((n.0 == chan) && (next_given_id h chan == id)) ≡ true →
     IsGiven (DialDone order outcome (DialAnswer.Up n) ∷ h) chan id
 linked-given start h order outcome n chan id legal both =
     let here = and-first (n.0 == chan) _ both in
@@ -221,7 +221,7 @@ linked-given start h order outcome n chan id legal both =
       below = λ ours. newest-given (n.0 == chan) given_id_base (given_ids h chan) id here (same-number (next_given_id h chan) id (and-second (n.0 == chan) _ both));
     }
 
-pub at-given : (start : Start) (h : List Step) → IsLegal start h → (chan id : ℕ) → is_some (at h chan id) ≡ true → IsGiven h chan id
+pub at-given : (start : SwitchStart) (h : List Step) → IsLegal start h → (chan id : ℕ) → is_some (at h chan id) ≡ true → IsGiven h chan id
 at-given start [] legal chan id is = absurd cc
 at-given start (OpenCircuit n i reply keys pad (Opened c) ∷ h) legal chan id is =
     let fits = opened-fits start h n.0 i keys c legal.0.1 in

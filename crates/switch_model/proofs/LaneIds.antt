@@ -14,7 +14,7 @@ use Rattle.tr_io.specs.declared.names.CircNo.{CircNo}
 use Rattle.tr_io.specs.declared.names.Dir.TheVariants.{Forth}
 use Rattle.tr_io.specs.declared.step.Step.{Step}
 use Rattle.tr_io.specs.declared.step.Step.TheVariants.{ChannelDown, OpenCircuit, Take, NextCell, DialDone}
-use Rattle.switch_model.specs.Start.{Start}
+use Rattle.switch_model.specs.Start.{SwitchStart}
 use Rattle.switch_model.specs.Names.{Leg, is_leg, circ_no}
 use Rattle.switch_model.specs.History.Channels.{channels, channel_at, is_live_channel, opened_by_us, next_given_id}
 use Rattle.switch_model.specs.History.Legs.{circuits, at, is_destroy_for}
@@ -55,13 +55,13 @@ owed-by true false false false keyless full ours id m limit OpenRefusal.BadId ze
 owed-by true false false false keyless full ours id m limit why zero_is owed is = absurd cc
 owed-by true false false true keyless full ours id m limit why zero_is owed is = record { channel = refl; unused = refl; side = λ own. refl }
 
-refused-owed : (start : Start) (h : List Step) (chan id : ℕ) (keys : Option LayerKeys) (why : OpenRefusal) → is_some (refusal_reason (opened_by_us (channel_at h chan)) id why) ≡ true → Refused why ≡ open_answer start h chan id keys →
+refused-owed : (start : SwitchStart) (h : List Step) (chan id : ℕ) (keys : Option LayerKeys) (why : OpenRefusal) → is_some (refusal_reason (opened_by_us (channel_at h chan)) id why) ≡ true → Refused why ≡ open_answer start h chan id keys →
     IsOwed (is_live_channel h chan) (is_in_use start.rules h chan id) (is_peers_id (channel_at h chan) id) (opened_by_us (channel_at h chan))
 refused-owed start h chan id keys why owed is =
     owed-by (is_live_channel h chan) (id == 0) (is_in_use start.rules h chan id) (is_peers_id (channel_at h chan) id) (is_none keys) (nat_le start.circuits (live_circuits start.rules h)) (opened_by_us (channel_at h chan)) id (circ_no (circuits h)) start.circuits why refl owed is
 
 -- the CircIDs of a lane were given out
-refused-given : (start : Start) (h : List Step) (s : Step) (chan : ℕ) (d : Destroy) → IsLegal start (s ∷ h) → Refuses h s chan d → IsGiven (s ∷ h) chan d.id
+refused-given : (start : SwitchStart) (h : List Step) (s : Step) (chan : ℕ) (d : Destroy) → IsLegal start (s ∷ h) → Refuses h s chan d → IsGiven (s ∷ h) chan d.id
 refused-given start h (OpenCircuit n id reply keys pad (Refused why)) chan d legal refused =
     let owed = refused-owed start h n.0 id keys why refused.owed legal.0.1 in
     let given : IsGiven h n.0 id = peers-given start h legal.1 n.0 id owed.channel owed.side in
@@ -72,7 +72,7 @@ pub leg-some : (c k : ℕ) (x : Option Leg) → is_leg c k x ≡ true → is_som
 leg-some c k (Some leg) is = refl
 leg-some c k None is = absurd cc
 
-lane-given : (start : Start) (h : List Step) → IsLegal start h → (chan : ℕ) → AllByRecursion (λ d. IsGiven h chan d.id) (lane start.rules h chan)
+lane-given : (start : SwitchStart) (h : List Step) → IsLegal start h → (chan : ℕ) → AllByRecursion (λ d. IsGiven h chan d.id) (lane start.rules h chan)
 lane-given start [] legal chan = tt
 lane-given start (s ∷ h) legal chan =
     lane-all start.rules h s chan (λ d. IsGiven (s ∷ h) chan d.id)
@@ -89,7 +89,7 @@ untaken : (b : Bool) (i id : ℕ) → (id == i) ≡ false → (b && (i == id)) �
 untaken true i id other = grind (arith, nat_tests)
 untaken false i id other = refl
 
-opened-untaken : (start : Start) (h : List Step) (n chan i : ℕ) (b : Bool) → (n == chan) ≡ b → is_in_use start.rules h n i ≡ false → AllByRecursion (λ d. ((n == chan) && (i == d.id)) ≡ false) (lane start.rules h chan)
+opened-untaken : (start : SwitchStart) (h : List Step) (n chan i : ℕ) (b : Bool) → (n == chan) ≡ b → is_in_use start.rules h n i ≡ false → AllByRecursion (λ d. ((n == chan) && (i == d.id)) ≡ false) (lane start.rules h chan)
 opened-untaken start h n chan i true is unused =
     let none : list_any (λ d. d.id == i) (lane start.rules h chan) ≡ false = subst (λ x. list_any (λ d. d.id == i) (lane start.rules h x) ≡ false) (same-number n chan is) (or-second (is_some (at h n i)) _ unused) in
     all-then (λ d. (d.id == i) ≡ false) (λ d. ((n == chan) && (i == d.id)) ≡ false) (λ d other. untaken (n == chan) i d.id other) (lane start.rules h chan) (not-any i (lane start.rules h chan) none)
@@ -112,7 +112,7 @@ link-untaken h (DialOutcome.Opened slot) n chan id linked given = new-channel (n
 link-untaken h (DialOutcome.Over over) n chan id linked given = over-channel h (n == chan) n chan id refl linked given
 link-untaken h DialOutcome.Failed n chan id linked given = absurd linked
 
-lane-untaken : (start : Start) (h : List Step) (s : Step) (chan : ℕ) → IsLegal start (s ∷ h) → AllByRecursion (λ d. takes_id h s chan d.id ≡ false) (lane start.rules h chan)
+lane-untaken : (start : SwitchStart) (h : List Step) (s : Step) (chan : ℕ) → IsLegal start (s ∷ h) → AllByRecursion (λ d. takes_id h s chan d.id ≡ false) (lane start.rules h chan)
 lane-untaken start h (OpenCircuit n i reply keys pad (Opened c)) chan legal = opened-untaken start h n.0 chan i (n.0 == chan) refl (opened-fits start h n.0 i keys c legal.0.1).unused
 lane-untaken start h (DialDone order outcome (DialAnswer.Up n)) chan legal =
     all-then (λ d. IsGiven h chan d.id) (λ d. ((n.0 == chan) && (next_given_id h chan == d.id)) ≡ false) (λ d given. link-untaken h outcome n.0 chan d.id (linked-over start h order outcome n legal) given)
@@ -133,14 +133,14 @@ opened-or : (c k m count : ℕ) (b : Bool) (lk : ℕ) (x : Option Leg) → (m �
 opened-or c k m count true lk x here there is = here (same-number m c (and-first (m == c) _ is))
 opened-or c k m count false lk x here there is = there is
 
-live-opened : (start : Start) (h : List Step) (c : ℕ) (b : Bool) → IsLegal start h → nat_lt c (circuits h) ≡ b → is_live_circuit start.rules h c ≡ true → c < circuits h
+live-opened : (start : SwitchStart) (h : List Step) (c : ℕ) (b : Bool) → IsLegal start h → nat_lt c (circuits h) ≡ b → is_live_circuit start.rules h c ≡ true → c < circuits h
 live-opened start h c true legal is alive = grind (arith, nat_tests)
 live-opened start h c false legal is alive =
     let beyond : circuits h ≤ c = grind (arith, nat_tests) in
     let no : true ≡ false = sym alive ∙ (not-yet start h legal c Forth beyond).torn in
     absurd cc
 
-pub leg-opened : (start : Start) (h : List Step) → IsLegal start h → (c k chan id : ℕ) → is_leg c k (at h chan id) ≡ true → c < circuits h
+pub leg-opened : (start : SwitchStart) (h : List Step) → IsLegal start h → (c k chan id : ℕ) → is_leg c k (at h chan id) ≡ true → c < circuits h
 leg-opened start [] legal c k chan id is = absurd cc
 leg-opened start (OpenCircuit n i reply keys pad (Opened m) ∷ h) legal c k chan id is =
     let number = opened-number start h n.0 i keys m legal.0.1 in
@@ -158,7 +158,7 @@ leg-opened start (s ∷ h) legal c k chan id is = leg-opened start h legal.1 c k
 abbrev pub IsApart : Rules → List Step → ℕ → Destroy → Type 0
 IsApart rules h chan d = (c k : ℕ) → is_leg c k (at h chan d.id) ≡ true → is_live_circuit rules h c ≡ false
 
-stays-apart : (start : Start) (h : List Step) (s : Step) (chan : ℕ) → IsLegal start (s ∷ h) → (d : Destroy) → IsApart start.rules h chan d → takes_id h s chan d.id ≡ false → IsApart start.rules (s ∷ h) chan d
+stays-apart : (start : SwitchStart) (h : List Step) (s : Step) (chan : ℕ) → IsLegal start (s ∷ h) → (d : Destroy) → IsApart start.rules h chan d → takes_id h s chan d.id ≡ false → IsApart start.rules (s ∷ h) chan d
 stays-apart start h s chan legal d apart none c k is =
     let was = was-at h s c k chan d.id none is in
     stays-torn start.rules h s c _ refl (not-opened start h s c legal (leg-opened start h legal.1 c k chan d.id was)) (apart c k was)
@@ -167,7 +167,7 @@ none-some : (c k : ℕ) (x : Option Leg) → is_some x ≡ false → is_leg c k 
 none-some c k (Some leg) none is = cc
 none-some c k None none is = cc
 
-refused-apart : (start : Start) (h : List Step) (s : Step) (chan : ℕ) (d : Destroy) → IsLegal start (s ∷ h) → Refuses h s chan d → IsApart start.rules (s ∷ h) chan d
+refused-apart : (start : SwitchStart) (h : List Step) (s : Step) (chan : ℕ) (d : Destroy) → IsLegal start (s ∷ h) → Refuses h s chan d → IsApart start.rules (s ∷ h) chan d
 refused-apart start h (OpenCircuit n id reply keys pad (Refused why)) chan d legal refused c k is =
     let owed = refused-owed start h n.0 id keys why refused.owed legal.0.1 in
     let none : is_some (at h n.0 id) ≡ false = or-first (is_some (at h n.0 id)) _ owed.unused in
@@ -178,7 +178,7 @@ same-circuit : (c k lc lk : ℕ) (x : Option Leg) → is_leg lc lk x ≡ true �
 same-circuit c k lc lk (Some leg) one other = sym (same-number leg.circ lc (and-first (leg.circ == lc) _ one)) ∙ same-number leg.circ c (and-first (leg.circ == c) _ other)
 same-circuit c k lc lk None one other = absurd cc
 
-pub apart : (start : Start) (h : List Step) → IsLegal start h → (chan : ℕ) → AllByRecursion (IsApart start.rules h chan) (lane start.rules h chan)
+pub apart : (start : SwitchStart) (h : List Step) → IsLegal start h → (chan : ℕ) → AllByRecursion (IsApart start.rules h chan) (lane start.rules h chan)
 apart start [] legal chan = tt
 apart start (s ∷ h) legal chan =
     lane-all start.rules h s chan (IsApart start.rules (s ∷ h) chan)
@@ -191,5 +191,5 @@ all-contains P [] all d (k, below, is) = absurd (omega (arith, below))
 all-contains P (x ∷ xs) all d (zero, below, is) = subst P is all.0
 all-contains P (x ∷ xs) all d (suc k, below, is) = all-contains P xs all.1 d (k, omega (arith, below), is)
 
-pub waiting_destroy_apart : (start : Start) (h : List Step) (chan c k : ℕ) (d : Destroy) → IsLegal start h → Contains (lane start.rules h chan) d → is_leg c k (at h chan d.id) ≡ true → is_live_circuit start.rules h c ≡ false
+pub waiting_destroy_apart : (start : SwitchStart) (h : List Step) (chan c k : ℕ) (d : Destroy) → IsLegal start h → Contains (lane start.rules h chan) d → is_leg c k (at h chan d.id) ≡ true → is_live_circuit start.rules h c ≡ false
 waiting_destroy_apart start h chan c k d legal waits is = all-contains (IsApart start.rules h chan) (lane start.rules h chan) (apart start h legal chan) d waits c k is

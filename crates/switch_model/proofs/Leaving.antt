@@ -8,7 +8,7 @@ use Rattle.circuit_model.specs.Rules.{Rules}
 use Rattle.circuit_model.specs.Sent.{destroy}
 use Rattle.tr_io.specs.declared.step.Step.{Step}
 use Rattle.switch_model.specs.Names.{Leg, Way, is_leg}
-use Rattle.switch_model.specs.Start.{Start}
+use Rattle.switch_model.specs.Start.{SwitchStart}
 use Rattle.switch_model.specs.Waiting.Claims.{is_ready, born_bodies, first_waiting}
 use Rattle.switch_model.specs.Answers.Claim.{claim_answer}
 use Rattle.switch_model.specs.History.Channels.{is_live_channel}
@@ -18,7 +18,7 @@ use Rattle.switch_model.specs.Waiting.Lanes.{Destroy, lane}
 use Rattle.switch_model.specs.Waiting.Queues.{queue}
 use Rattle.switch_model.specs.Waiting.Counts.{some_in, count_at, waiting_of, waiting_below, waiting_legs, least_of, lesser}
 use Rattle.switch_model.specs.Answers.NextCell.{first_queued, first_of, destroy_or, next_cell_answer, IsOldestDestroy}
-use Rattle.switch_model.specs.Waiting.Rest.{queues_of, owed}
+use Rattle.switch_model.specs.Waiting.Rest.{queues_of, owed_cells}
 use Rattle.switch_model.proofs.Least.{least-has}
 use Rattle.switch_model.proofs.Common.{and-first, and-second, same-number, all-append}
 
@@ -73,11 +73,11 @@ nothing-sent rules h chan f [] [] all none = refl
 nothing-sent rules h chan f [] (leg ∷ legs) all none =
     absurd (some-queued (queue rules h leg.circ leg.number) (queues_of rules h legs) (and-second (on_channel chan (port h leg.circ leg.number)) _ all.0) none)
 
-pub none_is_owed : (rules : Rules) (h : List Step) (chan tick : ℕ) → is_live_channel h chan ≡ true → next_cell_answer rules h chan tick ≡ None → owed rules h chan ≡ []
+pub none_is_owed : (rules : Rules) (h : List Step) (chan tick : ℕ) → is_live_channel h chan ≡ true → next_cell_answer rules h chan tick ≡ None → owed_cells rules h chan ≡ []
 none_is_owed rules h chan tick on_live none =
     nothing-owed rules h chan (count_at rules h tick) (lane rules h chan) (waiting_legs rules h chan) (waits-below rules h chan (circuits h)) (rw on_live at none)
 
-pub none_leaves : (rules : Rules) (h : List Step) (chan tick : ℕ) → is_live_channel h chan ≡ true → owed rules h chan ≡ [] → next_cell_answer rules h chan tick ≡ None
+pub none_leaves : (rules : Rules) (h : List Step) (chan tick : ℕ) → is_live_channel h chan ≡ true → owed_cells rules h chan ≡ [] → next_cell_answer rules h chan tick ≡ None
 none_leaves rules h chan tick on_live none =
     rw on_live (nothing-sent rules h chan (count_at rules h tick) (lane rules h chan) (waiting_legs rules h chan) (waits-below rules h chan (circuits h)) none)
 
@@ -139,5 +139,5 @@ none-waits : (rules : Rules) (h : List Step) → ((way : Way) → is_ready rules
 none-waits rules h none [] = refl
 none-waits rules h none (way ∷ older) = rw (none-waits rules h none older, none way) refl
 
-pub claim_finds_nothing : (start : Start) (h : List Step) (worker : ℕ) → ((way : Way) → is_ready start.rules h way ≡ false) → claim_answer start h worker ≡ None
+pub claim_finds_nothing : (start : SwitchStart) (h : List Step) (worker : ℕ) → ((way : Way) → is_ready start.rules h way ≡ false) → claim_answer start h worker ≡ None
 claim_finds_nothing start h worker none = rw (none-waits start.rules h none (born_bodies start.rules h)) refl

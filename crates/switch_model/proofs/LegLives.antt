@@ -11,7 +11,7 @@ use Rattle.tr_io.specs.declared.dials.DialOutcome.{DialOutcome}
 use Rattle.tr_io.specs.declared.names.ChanNo.{ChanNo}
 use Rattle.tr_io.specs.declared.step.Step.{Step}
 use Rattle.tr_io.specs.declared.step.Step.TheVariants.{ChannelUp, ChannelDown, OpenCircuit, Take, NextCell, DialDone}
-use Rattle.switch_model.specs.Start.{Start}
+use Rattle.switch_model.specs.Start.{SwitchStart}
 use Rattle.switch_model.specs.Names.{Leg, is_leg}
 use Rattle.switch_model.specs.History.Channels.{Channel, channel_at, is_live_channel, next_given_id}
 use Rattle.switch_model.specs.History.Legs.{Port, port, hops, at, is_destroy_for, holds_id, on_channel}
@@ -89,7 +89,7 @@ unused-id true n chan i id h is unused used =
     absurd cc
 unused-id false n chan i id h is unused used = refl
 
-stays-at : (start : Start) (h : List Step) (s : Step) (c k : ℕ) (place : Port) → IsLegal start (s ∷ h) → port h c k ≡ Some place → is_leg c k (at h place.chan place.id) ≡ true → is_ended_by_us (s ∷ h) c k ≡ false → is_ended_outside (s ∷ h) c k ≡ false →
+stays-at : (start : SwitchStart) (h : List Step) (s : Step) (c k : ℕ) (place : Port) → IsLegal start (s ∷ h) → port h c k ≡ Some place → is_leg c k (at h place.chan place.id) ≡ true → is_ended_by_us (s ∷ h) c k ≡ false → is_ended_outside (s ∷ h) c k ≡ false →
     is_leg c k (at (s ∷ h) place.chan place.id) ≡ true
 stays-at start h (OpenCircuit n i reply keys pad (Opened m)) c k place legal lies here ours outside =
     let unused = or-first (is_some (at h n.0 i)) _ (opened-fits start h n.0 i keys m legal.0.1).unused in
@@ -126,14 +126,14 @@ new-at h (DialDone order outcome (DialAnswer.Up n)) c k place makes lies =
     (rw (self_eq n.0, self_eq (next_given_id h n.0)) (link-same (order.circ.0 == c) h order.circ.0 c k refl ∙ makes))
 new-at h s c k place makes lies = absurd cc
 
-at-by : (start : Start) (h : List Step) (s : Step) (c k : ℕ) (place : Port) (b : Bool) → makes_leg h c k s ≡ b → IsLegal start (s ∷ h) → (port h c k ≡ Some place → is_leg c k (at h place.chan place.id) ≡ true) → port (s ∷ h) c k ≡ Some place →
+at-by : (start : SwitchStart) (h : List Step) (s : Step) (c k : ℕ) (place : Port) (b : Bool) → makes_leg h c k s ≡ b → IsLegal start (s ∷ h) → (port h c k ≡ Some place → is_leg c k (at h place.chan place.id) ≡ true) → port (s ∷ h) c k ≡ Some place →
     is_ended_by_us (s ∷ h) c k ≡ false → is_ended_outside (s ∷ h) c k ≡ false → is_leg c k (at (s ∷ h) place.chan place.id) ≡ true
 at-by start h s c k place true makes legal before lies ours outside = new-at h s c k place makes lies
 at-by start h s c k place false makes legal before lies ours outside =
     let was = sym (port-before h s c k makes) ∙ lies in
     stays-at start h s c k place legal was (before was) ours outside
 
-pub has_its_id : (start : Start) (h : List Step) → IsLegal start h → (c k : ℕ) (place : Port) → port h c k ≡ Some place → is_ended_by_us h c k ≡ false → is_ended_outside h c k ≡ false → is_leg c k (at h place.chan place.id) ≡ true
+pub has_its_id : (start : SwitchStart) (h : List Step) → IsLegal start h → (c k : ℕ) (place : Port) → port h c k ≡ Some place → is_ended_by_us h c k ≡ false → is_ended_outside h c k ≡ false → is_leg c k (at h place.chan place.id) ≡ true
 has_its_id start [] legal c k place lies ours outside = absurd cc
 has_its_id start (s ∷ h) legal c k place lies ours outside =
     at-by start h s c k place _ refl legal (λ was. has_its_id start h legal.1 c k place was (before-ours h s c k ours) (before-outside h s c k outside)) lies ours outside
@@ -151,7 +151,7 @@ linked-live : (b d : Bool) (leg : Leg) (x : Option Leg) (channel : Channel) (y :
 linked-live true d leg x channel y before some = refl
 linked-live false d leg x channel y before some = before some
 
-pub at_live_channel : (start : Start) (h : List Step) → IsLegal start h → (chan id : ℕ) → is_some (at h chan id) ≡ true → is_live_channel h chan ≡ true
+pub at_live_channel : (start : SwitchStart) (h : List Step) → IsLegal start h → (chan id : ℕ) → is_some (at h chan id) ≡ true → is_live_channel h chan ≡ true
 at_live_channel start [] legal chan id is = absurd cc
 at_live_channel start (ChannelUp slot side (UpAnswer.Up n) ∷ h) legal chan id is = some-if (n.0 == chan) _ (channel_at h chan) (at_live_channel start h legal.1 chan id is)
 at_live_channel start (OpenCircuit n i reply keys pad (Opened m) ∷ h) legal chan id is =

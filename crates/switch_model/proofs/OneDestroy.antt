@@ -6,7 +6,7 @@ use Rattle.circuit_model.specs.Sent.{destroy}
 use Rattle.tr_io.specs.declared.names.ChanNo.{ChanNo}
 use Rattle.tr_io.specs.declared.step.Step.{Step}
 use Rattle.tr_io.specs.declared.step.Step.TheVariants.{NextCell}
-use Rattle.switch_model.specs.Start.{Start}
+use Rattle.switch_model.specs.Start.{SwitchStart}
 use Rattle.switch_model.specs.Names.{Leg, is_leg, circuit_cell}
 use Rattle.switch_model.specs.History.Legs.{Port, port, at, is_destroy_for}
 use Rattle.switch_model.specs.History.Circuit.{is_live_circuit}
@@ -36,7 +36,7 @@ same-port a b chan id p one other = let same = some-same (sym one ∙ other) in 
 for-it : (n : ChanNo) (cell : Cell) (chan id : ℕ) → n.0 ≡ chan → cell.circ ≡ id → (cell.command == 4) ≡ true → is_destroy_for n cell chan id ≡ true
 for-it n cell chan id same_chan same_id is = rw (← same_chan, ← same_id, self_eq n.0, self_eq cell.circ) is
 
-loses : (start : Start) (h : List Step) (n : ChanNo) (tick : ℕ) (cell : Cell) (c k : ℕ) → IsLegal start h → is_leg c k (at h n.0 cell.circ) ≡ true → (cell.command == 4) ≡ true → Lost (NextCell n tick (Some cell) ∷ h) c k
+loses : (start : SwitchStart) (h : List Step) (n : ChanNo) (tick : ℕ) (cell : Cell) (c k : ℕ) → IsLegal start h → is_leg c k (at h n.0 cell.circ) ≡ true → (cell.command == 4) ≡ true → Lost (NextCell n tick (Some cell) ∷ h) c k
 loses start h n tick cell c k legal here is =
     let own = ported start h legal c k n.0 cell.circ here in
     record {
@@ -46,13 +46,13 @@ loses start h n tick cell c k legal here is =
           gone-by c k (is_destroy_for n cell chan id) (at h chan id) (for-it n cell chan id same.0 same.1 is) has;
     }
 
-lost-by : (start : Start) (h : List Step) (n : ChanNo) (tick : ℕ) (cell : Cell) (c k : ℕ) (b : Bool) → (is_leg c k (at h n.0 cell.circ) && (cell.command == 4)) ≡ b → IsLegal start (NextCell n tick (Some cell) ∷ h) →
+lost-by : (start : SwitchStart) (h : List Step) (n : ChanNo) (tick : ℕ) (cell : Cell) (c k : ℕ) (b : Bool) → (is_leg c k (at h n.0 cell.circ) && (cell.command == 4)) ≡ b → IsLegal start (NextCell n tick (Some cell) ∷ h) →
     (is_ended_by_us h c k ≡ true → Lost h c k) → (if is_leg c k (at h n.0 cell.circ) && (cell.command == 4) then true else is_ended_by_us h c k) ≡ true → Lost (NextCell n tick (Some cell) ∷ h) c k
 lost-by start h n tick cell c k true is legal before ended =
     loses start h n tick cell c k legal.1 (and-first (is_leg c k (at h n.0 cell.circ)) _ is) (and-second (is_leg c k (at h n.0 cell.circ)) _ is)
 lost-by start h n tick cell c k false is legal before ended = stays-lost start h (NextCell n tick (Some cell)) c k legal (before (rw is at ended))
 
-pub ended-lost : (start : Start) (h : List Step) → IsLegal start h → (c k : ℕ) → is_ended_by_us h c k ≡ true → Lost h c k
+pub ended-lost : (start : SwitchStart) (h : List Step) → IsLegal start h → (c k : ℕ) → is_ended_by_us h c k ≡ true → Lost h c k
 ended-lost start [] legal c k ended = absurd cc
 ended-lost start (NextCell n tick (Some cell) ∷ h) legal c k ended = lost-by start h n tick cell c k _ refl legal (ended-lost start h legal.1 c k) ended
 ended-lost start (s ∷ h) legal c k ended = stays-lost start h s c k legal (ended-lost start h legal.1 c k ended)
@@ -62,7 +62,7 @@ not-true : (b : Bool) → (b ≡ true → ⊥) → b ≡ false
 not-true true never = absurd (never refl)
 not-true false never = refl
 
-pub ended_leg_is_gone : (start : Start) (h : List Step) (c k chan id : ℕ) → IsLegal start h → is_ended_by_us h c k ≡ true → is_leg c k (at h chan id) ≡ false
+pub ended_leg_is_gone : (start : SwitchStart) (h : List Step) (c k chan id : ℕ) → IsLegal start h → is_ended_by_us h c k ≡ true → is_leg c k (at h chan id) ≡ false
 ended_leg_is_gone start h c k chan id legal ended = not-true (is_leg c k (at h chan id)) ((ended-lost start h legal c k ended).gone chan id)
 
 -- so one DESTROY leaves at most
@@ -80,7 +80,7 @@ torn-is false is = refl
 cell-is : (cell : Cell) (d : Destroy) → cell ≡ cell_at d.id (destroy d.reason) → (circuit_cell cell ≡ destroy d.reason) × ((cell.command == 4) ≡ true)
 cell-is cell d is = (ap circuit_cell is, ap (λ (x : Cell). x.command == 4) is)
 
-first-sent : (start : Start) (h : List Step) (n : ChanNo) (tick : ℕ) (cell : Cell) (c k : ℕ) → IsLegal start (NextCell n tick (Some cell) ∷ h) → (is_leg c k (at h n.0 cell.circ) && not (is_live_circuit start.rules h c)) ≡ true →
+first-sent : (start : SwitchStart) (h : List Step) (n : ChanNo) (tick : ℕ) (cell : Cell) (c k : ℕ) → IsLegal start (NextCell n tick (Some cell) ∷ h) → (is_leg c k (at h n.0 cell.circ) && not (is_live_circuit start.rules h c)) ≡ true →
     sent_torn start.rules h c k ≡ [] → OneSent start.rules (NextCell n tick (Some cell) ∷ h) c k
 first-sent start h n tick cell c k legal is none =
     let here = and-first (is_leg c k (at h n.0 cell.circ)) _ is in
@@ -89,7 +89,7 @@ first-sent start h n tick cell c k legal is none =
     let own = cell-is cell oldest.oldest oldest.cell_is in
     inr (oldest.oldest.reason, (rw (is, none) (ap (λ x. x ∷ []) own.0), rw (here, own.1) refl))
 
-sent-by : (start : Start) (h : List Step) (n : ChanNo) (tick : ℕ) (cell : Cell) (c k : ℕ) (b : Bool) → (is_leg c k (at h n.0 cell.circ) && not (is_live_circuit start.rules h c)) ≡ b → IsLegal start (NextCell n tick (Some cell) ∷ h) →
+sent-by : (start : SwitchStart) (h : List Step) (n : ChanNo) (tick : ℕ) (cell : Cell) (c k : ℕ) (b : Bool) → (is_leg c k (at h n.0 cell.circ) && not (is_live_circuit start.rules h c)) ≡ b → IsLegal start (NextCell n tick (Some cell) ∷ h) →
     OneSent start.rules h c k → OneSent start.rules (NextCell n tick (Some cell) ∷ h) c k
 sent-by start h n tick cell c k true is legal (inl none) = first-sent start h n tick cell c k legal is none
 sent-by start h n tick cell c k true is legal (inr some) =
@@ -97,7 +97,7 @@ sent-by start h n tick cell c k true is legal (inr some) =
 sent-by start h n tick cell c k false is legal (inl none) = inl (rw is none)
 sent-by start h n tick cell c k false is legal (inr some) = inr (some.0, (rw is some.1.0, or-true (is_leg c k (at h n.0 cell.circ) && (cell.command == 4)) (is_ended_by_us h c k) some.1.1))
 
-one-sent : (start : Start) (h : List Step) → IsLegal start h → (c k : ℕ) → OneSent start.rules h c k
+one-sent : (start : SwitchStart) (h : List Step) → IsLegal start h → (c k : ℕ) → OneSent start.rules h c k
 one-sent start [] legal c k = inl refl
 one-sent start (NextCell n tick (Some cell) ∷ h) legal c k = sent-by start h n tick cell c k _ refl legal (one-sent start h legal.1 c k)
 one-sent start (s ∷ h) legal c k = one-sent start h legal.1 c k
@@ -106,5 +106,5 @@ one-of : (rules : Rules) (h : List Step) (c k : ℕ) → OneSent rules h c k →
 one-of rules h c k (inl none) = inl none
 one-of rules h c k (inr some) = inr (some.0, some.1.0)
 
-pub torn_sends_one : (start : Start) (h : List Step) (c k : ℕ) → IsLegal start h → IsOneDestroy (sent_torn start.rules h c k)
+pub torn_sends_one : (start : SwitchStart) (h : List Step) (c k : ℕ) → IsLegal start h → IsOneDestroy (sent_torn start.rules h c k)
 torn_sends_one start h c k legal = one-of start.rules h c k (one-sent start h legal c k)

@@ -7,7 +7,7 @@ use Rattle.tr_io.specs.declared.answers.DialAnswer.{DialAnswer}
 use Rattle.tr_io.specs.declared.answers.OpenAnswer.TheVariants.{Opened}
 use Rattle.tr_io.specs.declared.step.Step.{Step}
 use Rattle.tr_io.specs.declared.step.Step.TheVariants.{ChannelDown, OpenCircuit, Take, NextCell, DialDone}
-use Rattle.switch_model.specs.Start.{Start}
+use Rattle.switch_model.specs.Start.{SwitchStart}
 use Rattle.switch_model.specs.Names.{Leg, is_leg}
 use Rattle.switch_model.specs.History.Channels.{next_given_id}
 use Rattle.switch_model.specs.History.Legs.{Port, port, circuits, hops, at, is_destroy_for}
@@ -23,7 +23,7 @@ other-by : (b : Bool) (n c : ℕ) → (n == c) ≡ b → (n ≡ c → ⊥) → (
 other-by true n c is unlike = absurd (unlike (same-number n c is))
 other-by false n c is unlike = is
 
-pub no-client-leg : (start : Start) (h : List Step) → IsLegal start h → (c : ℕ) → circuits h ≤ c → port h c 0 ≡ None
+pub no-client-leg : (start : SwitchStart) (h : List Step) → IsLegal start h → (c : ℕ) → circuits h ≤ c → port h c 0 ≡ None
 no-client-leg start [] legal c beyond = refl
 no-client-leg start (OpenCircuit chan id reply keys pad (Opened n) ∷ h) legal c beyond =
     let number = opened-number start h chan.0 id keys n legal.0.1 in
@@ -57,7 +57,7 @@ makes_leg h c k (DialDone order outcome (DialAnswer.Up n)) = (order.circ.0 == c)
 makes_leg h c k s = false
 
 -- such a leg is new
-pub leg-new : (start : Start) (h : List Step) (s : Step) (c k : ℕ) → IsLegal start (s ∷ h) → makes_leg h c k s ≡ true → port h c k ≡ None
+pub leg-new : (start : SwitchStart) (h : List Step) (s : Step) (c k : ℕ) → IsLegal start (s ∷ h) → makes_leg h c k s ≡ true → port h c k ≡ None
 leg-new start h (OpenCircuit chan id reply keys pad (Opened n)) c k legal makes =
     let number = opened-number start h chan.0 id keys n legal.0.1 in
     let same = same-number n.0 c (and-first (n.0 == c) _ makes) in
@@ -88,7 +88,7 @@ pub link-same : (b : Bool) (h : List Step) (n c k : ℕ) → (n == c) ≡ b → 
 link-same true h n c k is = let same = same-number n c is in rw (is, same) (turned (hops h c + 1) k)
 link-same false h n c k is = rw is refl
 
-pub leg-before : (start : Start) (h : List Step) (s : Step) (c k chan id : ℕ) → makes_leg h c k s ≡ false → is_leg c k (at (s ∷ h) chan id) ≡ true → is_leg c k (at h chan id) ≡ true
+pub leg-before : (start : SwitchStart) (h : List Step) (s : Step) (c k chan id : ℕ) → makes_leg h c k s ≡ false → is_leg c k (at (s ∷ h) chan id) ≡ true → is_leg c k (at h chan id) ≡ true
 leg-before start h (OpenCircuit n i reply keys pad (Opened m)) c k chan id none is =
     made-or ((n.0 == chan) && (i == id)) _ c k m.0 0 (at h chan id) none (ap (λ b. (m.0 == c) && b) (turned-zero k)) is
 leg-before start h (DialDone order outcome (DialAnswer.Up n)) c k chan id none is =
@@ -114,7 +114,7 @@ here-or false c k leg x is none = absurd (none is)
 none-some : {A : Type 0} (x : A) → ◌≡◌ {A = Option A} None (Some x) → ⊥
 none-some x same = cc
 
-ported-new : (start : Start) (h : List Step) (s : Step) (c k chan id : ℕ) → makes_leg h c k s ≡ true → (is_leg c k (at h chan id) ≡ true → ⊥) → is_leg c k (at (s ∷ h) chan id) ≡ true →
+ported-new : (start : SwitchStart) (h : List Step) (s : Step) (c k chan id : ℕ) → makes_leg h c k s ≡ true → (is_leg c k (at h chan id) ≡ true → ⊥) → is_leg c k (at (s ∷ h) chan id) ≡ true →
     port (s ∷ h) c k ≡ Some (record { chan = chan; id = id })
 ported-new start h (OpenCircuit n i reply keys pad (Opened m)) c k chan id makes none is =
     let both = here-or ((n.0 == chan) && (i == id)) c k _ (at h chan id) is none in
@@ -125,13 +125,13 @@ ported-new start h (DialDone order outcome (DialAnswer.Up n)) c k chan id makes 
     rw makes (port-is chan id n.0 (next_given_id h n.0) same_chan (ap (next_given_id h) same_chan ∙ same-number (next_given_id h chan) id (and-second (n.0 == chan) _ both)))
 ported-new start h s c k chan id makes none is = absurd cc
 
-ported-by : (start : Start) (h : List Step) (s : Step) (c k chan id : ℕ) (b : Bool) → makes_leg h c k s ≡ b → IsLegal start (s ∷ h) → (is_leg c k (at h chan id) ≡ true → port h c k ≡ Some (record { chan = chan; id = id })) →
+ported-by : (start : SwitchStart) (h : List Step) (s : Step) (c k chan id : ℕ) (b : Bool) → makes_leg h c k s ≡ b → IsLegal start (s ∷ h) → (is_leg c k (at h chan id) ≡ true → port h c k ≡ Some (record { chan = chan; id = id })) →
     is_leg c k (at (s ∷ h) chan id) ≡ true → port (s ∷ h) c k ≡ Some (record { chan = chan; id = id })
 ported-by start h s c k chan id true makes legal before is =
     ported-new start h s c k chan id makes (λ was. none-some (record { chan = chan; id = id }) (sym (leg-new start h s c k legal makes) ∙ before was)) is
 ported-by start h s c k chan id false makes legal before is = port-before h s c k makes ∙ before (leg-before start h s c k chan id makes is)
 
-pub ported : (start : Start) (h : List Step) → IsLegal start h → (c k chan id : ℕ) → is_leg c k (at h chan id) ≡ true → port h c k ≡ Some (record { chan = chan; id = id })
+pub ported : (start : SwitchStart) (h : List Step) → IsLegal start h → (c k chan id : ℕ) → is_leg c k (at h chan id) ≡ true → port h c k ≡ Some (record { chan = chan; id = id })
 ported start [] legal c k chan id is = absurd cc
 ported start (s ∷ h) legal c k chan id is = ported-by start h s c k chan id (makes_leg h c k s) refl legal (ported start h legal.1 c k chan id) is
 
@@ -144,12 +144,12 @@ none-made : (p : Option Port) → is_some p ≡ true → p ≡ None → ⊥
 none-made None made none = cc
 none-made (Some place) made none = cc
 
-stays-by : (start : Start) (h : List Step) (s : Step) (c k : ℕ) (b : Bool) → makes_leg h c k s ≡ b → IsLegal start (s ∷ h) → Lost h c k → Lost (s ∷ h) c k
+stays-by : (start : SwitchStart) (h : List Step) (s : Step) (c k : ℕ) (b : Bool) → makes_leg h c k s ≡ b → IsLegal start (s ∷ h) → Lost h c k → Lost (s ∷ h) c k
 stays-by start h s c k true makes legal lost = absurd (none-made (port h c k) lost.made (leg-new start h s c k legal makes))
 stays-by start h s c k false makes legal lost = record {
   made = ap is_some (port-before h s c k makes) ∙ lost.made;
   gone = λ chan id is. lost.gone chan id (leg-before start h s c k chan id makes is);
 }
 
-pub stays-lost : (start : Start) (h : List Step) (s : Step) (c k : ℕ) → IsLegal start (s ∷ h) → Lost h c k → Lost (s ∷ h) c k
+pub stays-lost : (start : SwitchStart) (h : List Step) (s : Step) (c k : ℕ) → IsLegal start (s ∷ h) → Lost h c k → Lost (s ∷ h) c k
 stays-lost start h s c k legal lost = stays-by start h s c k (makes_leg h c k s) refl legal lost

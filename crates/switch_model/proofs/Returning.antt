@@ -10,11 +10,11 @@ use Rattle.tr_io.specs.declared.answers.Difference.{Difference}
 use Rattle.tr_io.specs.declared.answers.Difference.TheVariants.{Note}
 use Rattle.tr_io.specs.declared.names.ClaimNote.{ClaimNote}
 use Rattle.tr_io.specs.declared.step.Step.{Step}
-use Rattle.switch_model.specs.Start.{Start}
+use Rattle.switch_model.specs.Start.{SwitchStart}
 use Rattle.switch_model.specs.Names.{way_of}
 use Rattle.switch_model.specs.History.Legs.{circuits}
 use Rattle.switch_model.specs.History.Circuit.{is_live_circuit, is_accepted_return}
-use Rattle.switch_model.specs.Waiting.Claims.{kept}
+use Rattle.switch_model.specs.Waiting.Claims.{claim_out}
 use Rattle.switch_model.specs.Answers.GiveBack.{is_note, returned, return_answer}
 use Rattle.circuit_model.specs.Batches.{forward_of, events_behind}
 use Rattle.switch_model.specs.History.Returns.{Closing, Goes, Closes, Full, closing_at, settled, settling_reason}
@@ -36,10 +36,10 @@ passed-by true true true false note a b place answer accepted = absurd cc
 passed-by true true true true note a b (Some n) answer accepted = absurd cc
 passed-by true true true true note a b None answer accepted = record { live = refl; note = refl; answer_is = refl }
 
-pub passed : (start : Start) (h : List Step) (note : ClaimNote) (place : Option ℕ) (answer : BackAnswer) → is_accepted_return (return_answer start h note place answer) ≡ true →
-    Passed (is_live_circuit start.rules h note.circ.0) (is_note note (kept h (way_of note))) (return_answer start h note place answer) answer
+pub passed : (start : SwitchStart) (h : List Step) (note : ClaimNote) (place : Option ℕ) (answer : BackAnswer) → is_accepted_return (return_answer start h note place answer) ≡ true →
+    Passed (is_live_circuit start.rules h note.circ.0) (is_note note (claim_out h (way_of note))) (return_answer start h note place answer) answer
 passed start h note place answer accepted =
-    passed-by (note.switch == start.name) (nat_lt note.circ.0 (circuits h)) (is_live_circuit start.rules h note.circ.0) (is_note note (kept h (way_of note))) note (Note None note) (Note (kept h (way_of note)) note) place answer accepted
+    passed-by (note.switch == start.name) (nat_lt note.circ.0 (circuits h)) (is_live_circuit start.rules h note.circ.0) (is_note note (claim_out h (way_of note))) note (Note None note) (Note (claim_out h (way_of note)) note) place answer accepted
 
 -- the first of the cells settle, and all where none closes
 pub record Settles (rules : Rules) (left : ℕ) (ev : List Event) (cells : List CircuitCell) : Type 0 where

@@ -4,7 +4,7 @@ use Rattle.circuit_model.specs.Events.{CircuitCell}
 use Rattle.circuit_model.specs.Sent.{one}
 use Rattle.circuit_model.specs.Words.{log}
 use Rattle.tr_io.specs.declared.step.Step.{Step}
-use Rattle.switch_model.specs.Start.{Start}
+use Rattle.switch_model.specs.Start.{SwitchStart}
 use Rattle.switch_model.specs.History.Circuit.{events, sent}
 use Rattle.switch_model.specs.History.Relayed.{AreComparable}
 use Rattle.switch_model.specs.Legal.{IsLegal}
@@ -25,7 +25,7 @@ comparable [] ys a b e = inl (ys, refl)
 comparable (x ∷ xs) [] a b e = inr (x ∷ xs, refl)
 comparable (x ∷ xs) (y ∷ ys) a b e = one-more x y xs ys (first-same e) (comparable xs ys a b (rest-same e))
 
-pub comparable_cells : (start : Start) (h g : List Step) (c d k : ℕ) → IsLegal start h → IsLegal start g → events start.rules h c ≡ events start.rules g d →
+pub comparable_cells : (start : SwitchStart) (h g : List Step) (c d k : ℕ) → IsLegal start h → IsLegal start g → events start.rules h c ≡ events start.rules g d →
     AreComparable (sent start.rules h c k) (sent start.rules g d k)
 comparable_cells start h g c d k legal other same =
     let one_h = sent_is_prefix start h legal c k in

@@ -13,7 +13,7 @@ use Rattle.tr_io.specs.declared.names.ChanNo.{ChanNo}
 use Rattle.tr_io.specs.declared.names.Dir.TheVariants.{Forth}
 use Rattle.tr_io.specs.declared.step.Step.{Step}
 use Rattle.tr_io.specs.declared.step.Step.TheVariants.{OpenCircuit, NextCell}
-use Rattle.switch_model.specs.Start.{Start}
+use Rattle.switch_model.specs.Start.{SwitchStart}
 use Rattle.switch_model.specs.Names.{Leg, is_leg, circuit_cell}
 use Rattle.switch_model.specs.History.Channels.{is_live_channel}
 use Rattle.switch_model.specs.History.Legs.{Port, port, on_channel, circuits, at, holds_id}
@@ -84,13 +84,13 @@ by-lane rules h chan c k f [] (leg ∷ legs) cell away all left of_leg alive =
     let first = queued-by h chan picked.circ picked.number c k (port h picked.circ picked.number) (queue rules h picked.circ picked.number) cell own left named of_leg in
     first-by rules h picked c k cell first.same.0 first.same.1 (record { holds = holds; later = first.later; queue_is = first.queue_is })
 
-first-if : (start : Start) (h : List Step) (chan tick c k : ℕ) (cell : Cell) (b : Bool) → is_live_channel h chan ≡ b → IsLegal start h → next_cell_answer start.rules h chan tick ≡ Some cell →
+first-if : (start : SwitchStart) (h : List Step) (chan tick c k : ℕ) (cell : Cell) (b : Bool) → is_live_channel h chan ≡ b → IsLegal start h → next_cell_answer start.rules h chan tick ≡ Some cell →
     is_leg c k (at h chan cell.circ) ≡ true → is_live_circuit start.rules h c ≡ true → IsFirst start.rules h c k cell
 first-if start h chan tick c k cell true on_live legal left of_leg alive =
     by-lane start.rules h chan c k (count_at start.rules h tick) (lane start.rules h chan) (waiting_legs start.rules h chan) cell (apart start h legal chan) (waits-below start.rules h chan (circuits h)) (rw on_live at left) of_leg alive
 first-if start h chan tick c k cell false on_live legal left of_leg alive = let none : None ≡ Some cell = rw on_live at left in absurd cc
 
-pub first-leaves : (start : Start) (h : List Step) (chan : ChanNo) (tick : ℕ) (cell : Cell) (c k : ℕ) → IsLegal start (NextCell chan tick (Some cell) ∷ h) → is_leg c k (at h chan.0 cell.circ) ≡ true → is_live_circuit start.rules h c ≡ true →
+pub first-leaves : (start : SwitchStart) (h : List Step) (chan : ChanNo) (tick : ℕ) (cell : Cell) (c k : ℕ) → IsLegal start (NextCell chan tick (Some cell) ∷ h) → is_leg c k (at h chan.0 cell.circ) ≡ true → is_live_circuit start.rules h c ≡ true →
     IsFirst start.rules h c k cell
 first-leaves start h chan tick cell c k legal of_leg alive = first-if start h chan.0 tick c k cell (is_live_channel h chan.0) refl legal.1 (sym legal.0.1) of_leg alive
 
@@ -100,7 +100,7 @@ unsent true true xs cell torn none = absurd cc
 unsent true false xs cell torn none = none
 unsent false live xs cell torn none = none
 
-none-sent : (start : Start) (h : List Step) → IsLegal start h → (c k : ℕ) → circuits h ≤ c → sent start.rules h c k ≡ []
+none-sent : (start : SwitchStart) (h : List Step) → IsLegal start h → (c k : ℕ) → circuits h ≤ c → sent start.rules h c k ≡ []
 none-sent start [] legal c k beyond = refl
 none-sent start (NextCell chan tick (Some cell) ∷ h) legal c k beyond =
     unsent (is_leg c k (at h chan.0 cell.circ)) (is_live_circuit start.rules h c) (sent start.rules h c k) (circuit_cell cell) (not-yet start h legal.1 c Forth beyond).torn (none-sent start h legal.1 c k beyond)
@@ -116,7 +116,7 @@ pub queued-next : (rules : Rules) (h : List Step) (c k : ℕ) (cell : Cell) → 
 queued-next rules h c k cell alive first begins =
     (first.later, ap (λ l. sent rules h c k ++ l) (sym first.queue_is) ∙ sent_and_queued rules h c k begins.rest alive first.holds begins.all)
 
-left-begins : (start : Start) (h : List Step) (chan : ChanNo) (tick : ℕ) (cell : Cell) (c k : ℕ) (b : Bool) → (is_leg c k (at h chan.0 cell.circ) && is_live_circuit start.rules h c) ≡ b → IsLegal start (NextCell chan tick (Some cell) ∷ h) →
+left-begins : (start : SwitchStart) (h : List Step) (chan : ChanNo) (tick : ℕ) (cell : Cell) (c k : ℕ) (b : Bool) → (is_leg c k (at h chan.0 cell.circ) && is_live_circuit start.rules h c) ≡ b → IsLegal start (NextCell chan tick (Some cell) ∷ h) →
     SentBegins start.rules h c k → Begins (if b then sent start.rules h c k ++ circuit_cell cell ∷ [] else sent start.rules h c k) (sendable (circuit_log start.rules h c) (sealed_count h c) k)
 left-begins start h chan tick cell c k true is legal begins =
     let alive = and-second (is_leg c k (at h chan.0 cell.circ)) _ is in
@@ -124,14 +124,14 @@ left-begins start h chan tick cell c k true is legal begins =
     record { rest = next.0; all = append_assoc (sent start.rules h c k) (circuit_cell cell ∷ []) next.0 ∙ next.1 }
 left-begins start h chan tick cell c k false is legal begins = begins
 
-opened-begins : (start : Start) (h : List Step) (s : Step) (c k n : ℕ) (b : Bool) → (n == c) ≡ b → opens c s ≡ (n == c) → n ≡ circuits h → IsLegal start h → sent start.rules (s ∷ h) c k ≡ sent start.rules h c k → SentBegins start.rules h c k → SentBegins start.rules (s ∷ h) c k
+opened-begins : (start : SwitchStart) (h : List Step) (s : Step) (c k n : ℕ) (b : Bool) → (n == c) ≡ b → opens c s ≡ (n == c) → n ≡ circuits h → IsLegal start h → sent start.rules (s ∷ h) c k ≡ sent start.rules h c k → SentBegins start.rules h c k → SentBegins start.rules (s ∷ h) c k
 opened-begins start h s c k n true is opened number legal same begins =
     let same_number = same-number n c is in
     none-begins _ _ (same ∙ none-sent start h legal c k (omega (arith, same_number, number)))
 opened-begins start h s c k n false is opened number legal same begins =
     subst (λ l. Begins l (sendable (circuit_log start.rules (s ∷ h) c) (sealed_count (s ∷ h) c) k)) (sym same) (both-begin _ _ _ begins (sendable-grows start.rules h s c k (opened ∙ is)))
 
-pub sent-begins : (start : Start) (h : List Step) → IsLegal start h → (c k : ℕ) → SentBegins start.rules h c k
+pub sent-begins : (start : SwitchStart) (h : List Step) → IsLegal start h → (c k : ℕ) → SentBegins start.rules h c k
 sent-begins start [] legal c k = none-begins _ _ refl
 sent-begins start (NextCell chan tick (Some cell) ∷ h) legal c k = left-begins start h chan tick cell c k _ refl legal (sent-begins start h legal.1 c k)
 sent-begins start (OpenCircuit chan id reply keys pad (Opened n) ∷ h) legal c k =
@@ -143,7 +143,7 @@ pub sendable-one : (l : Log) (bodies k : ℕ) → Begins (sendable l bodies k) (
 sendable-one l bodies zero = record { rest = drop (1 + bodies) (one l 0); all = take-append-drop (1 + bodies) (one l 0) }
 sendable-one l bodies (suc k) = same-list (one l (suc k))
 
-pub sent_is_prefix : (start : Start) (h : List Step) → IsLegal start h → (c k : ℕ) → (rest : List CircuitCell) × (sent start.rules h c k ++ rest ≡ one (circuit_log start.rules h c) k)
+pub sent_is_prefix : (start : SwitchStart) (h : List Step) → IsLegal start h → (c k : ℕ) → (rest : List CircuitCell) × (sent start.rules h c k ++ rest ≡ one (circuit_log start.rules h c) k)
 sent_is_prefix start h legal c k =
     let begins = both-begin _ _ _ (sent-begins start h legal c k) (sendable-one (circuit_log start.rules h c) (sealed_count h c) k) in
     (begins.rest, begins.all)
@@ -157,7 +157,7 @@ next-of xs more ys zs y is begins =
     let all : xs ++ y ∷ (more ++ begins.rest) ≡ zs = sym (append_assoc xs (y ∷ more) begins.rest) ∙ ap (λ l. l ++ begins.rest) is ∙ begins.all in
     subst (λ l. slice_get l (length xs) ≡ Some y) all (get-seam xs (more ++ begins.rest) y)
 
-pub next_leaves : (start : Start) (h : List Step) (chan : ChanNo) (tick : ℕ) (cell : Cell) (c k : ℕ) → IsLegal start (NextCell chan tick (Some cell) ∷ h) → is_leg c k (at h chan.0 cell.circ) ≡ true → is_live_circuit start.rules h c ≡ true →
+pub next_leaves : (start : SwitchStart) (h : List Step) (chan : ChanNo) (tick : ℕ) (cell : Cell) (c k : ℕ) → IsLegal start (NextCell chan tick (Some cell) ∷ h) → is_leg c k (at h chan.0 cell.circ) ≡ true → is_live_circuit start.rules h c ≡ true →
     slice_get (one (circuit_log start.rules h c) k) (length (sent start.rules h c k)) ≡ Some (circuit_cell cell)
 next_leaves start h chan tick cell c k legal of_leg alive =
     let next = queued-next start.rules h c k cell alive (first-leaves start h chan tick cell c k legal of_leg alive) (sent-begins start h legal.1 c k) in

@@ -15,7 +15,7 @@ use Rattle.switch_model.specs.Names.{same_dir, same_way, way_of}
 use Rattle.switch_model.specs.History.Teardowns.{teardown, reason_of}
 use Rattle.switch_model.specs.History.Circuit.{is_live_circuit, opens, lies_on, is_accepted_return}
 use Rattle.switch_model.specs.Waiting.Queues.{circuit_log, sealed_count}
-use Rattle.switch_model.specs.Waiting.Claims.{claimed, kept, bodies}
+use Rattle.switch_model.specs.Waiting.Claims.{claimed_count, claim_out, bodies}
 use Rattle.switch_model.specs.Answers.GiveBack.{is_note}
 use Rattle.switch_model.specs.Waiting.Contents.{bodies_with_room}
 use Rattle.switch_model.specs.History.Relayed.{settled_forth}
@@ -39,7 +39,7 @@ came_home rules h c Back = sealed_count h c
 
 abbrev pub WayHas : Rules → List Step → ℕ → Dir → Type 0
 WayHas rules h c dir =
-    WayIs (is_live_circuit rules h c) (kept h (record { circ = c; dir = dir })) (claimed h (record { circ = c; dir = dir })) (came_home rules h c dir)
+    WayIs (is_live_circuit rules h c) (claim_out h (record { circ = c; dir = dir })) (claimed_count h (record { circ = c; dir = dir })) (came_home rules h c dir)
     (bodies rules h (record { circ = c; dir = dir }) dir)
 
 -- a circuit that a step doesn't open was live before it
@@ -79,10 +79,10 @@ claims-more l m note out next sum total came now given more live none some is_to
 
 -- the note that is kept is the one that came back
 pub record IsOut (note : ClaimNote) (out : Option ClaimNote) : Type 0 where
-  pub kept : ClaimNote
-  pub out_is : out ≡ Some kept
-  pub first : kept.first ≡ note.first
-  pub count : kept.count ≡ note.count
+  pub claim_out : ClaimNote
+  pub out_is : out ≡ Some claim_out
+  pub first : claim_out.first ≡ note.first
+  pub count : claim_out.count ≡ note.count
 
 pub out-is : (note : ClaimNote) (out : Option ClaimNote) → is_note note out ≡ true → IsOut note out
 out-is note None is = absurd cc
@@ -92,7 +92,7 @@ out-is note (Some k) is =
     let workers_same = and-second (k.worker == note.worker) _ claims_same in
     let last = and-second (same_way (way_of k) (way_of note)) _ workers_same in
     record {
-      kept = k;
+      claim_out = k;
       out_is = refl;
       first = same-number k.first note.first (and-first (k.first == note.first) _ last);
       count = same-number k.count note.count (and-second (k.first == note.first) _ last);
@@ -102,7 +102,7 @@ pub comes-home : (l m : Bool) (note : ClaimNote) (out next : Option ClaimNote) (
     WayIs l out sum came given → WayIs m next sum now more
 comes-home l m note out next sum came now given more live none is_now grows own is = record {
   home = λ on.
-      let all : sum ≡ came + own.kept.count = subst (λ o. sum ≡ came + bodies_with_room o) own.out_is (is.home (live on)) in
+      let all : sum ≡ came + own.claim_out.count = subst (λ o. sum ≡ came + bodies_with_room o) own.out_is (is.home (live on)) in
       let count = own.count in
       subst (λ o. sum ≡ now + bodies_with_room o) (sym none) (omega (arith, all, count, is_now));
   noted = λ on. subst (λ o. BeginsAt now o) (sym none) tt;
@@ -112,8 +112,8 @@ comes-home l m note out next sum came now given more live none is_now grows own 
 -- its bodies are all there
 pub there : (l : Bool) (note : ClaimNote) (out : Option ClaimNote) (sum came given : ℕ) → l ≡ true → IsOut note out → WayIs l out sum came given → (note.first ≡ came) × (note.first + note.count ≤ given)
 there l note out sum came given on own is =
-    let all : sum ≡ came + own.kept.count = subst (λ o. sum ≡ came + bodies_with_room o) own.out_is (is.home on) in
-    let first : own.kept.first ≡ came = subst (λ o. BeginsAt came o) own.out_is (is.noted on) in
+    let all : sum ≡ came + own.claim_out.count = subst (λ o. sum ≡ came + bodies_with_room o) own.out_is (is.home on) in
+    let first : own.claim_out.first ≡ came = subst (λ o. BeginsAt came o) own.out_is (is.noted on) in
     let same = own.first in
     let count = own.count in
     let below = is.within on in
@@ -151,5 +151,5 @@ came-same rules h s c Forth none = ap (λ (l : List CircuitCell). length l) (for
 came-same rules h s c Back none = refl
 
 pub kept-other : (h : List Step) (note : ClaimNote) (place : Option ℕ) (answer : BackAnswer) (c : ℕ) (dir : Dir) → brings_home c dir (GiveBack note place answer) ≡ false →
-    kept (GiveBack note place answer ∷ h) (record { circ = c; dir = dir }) ≡ kept h (record { circ = c; dir = dir })
+    claim_out (GiveBack note place answer ∷ h) (record { circ = c; dir = dir }) ≡ claim_out h (record { circ = c; dir = dir })
 kept-other h note place answer c dir none = rw none refl

@@ -20,7 +20,7 @@ use Rattle.tr_io.specs.declared.step.OrderStep.{OrderStep}
 use Rattle.tr_io.specs.declared.step.Step.{Step}
 use Rattle.tr_io.specs.declared.step.Step.TheVariants.{OpenCircuit, Take, GiveBack, EdgeIn, EdgeOut, Drained, DialDone}
 use Rattle.switch_model.specs.Limits.{held_limit}
-use Rattle.switch_model.specs.Start.{Start}
+use Rattle.switch_model.specs.Start.{SwitchStart}
 use Rattle.switch_model.specs.Names.{circuit_cell}
 use Rattle.switch_model.specs.History.Legs.{at}
 use Rattle.switch_model.specs.History.Taken.{is_hop_leg, claimed_cells}
@@ -115,7 +115,7 @@ allowed true true false false full n m packed = (refl, refl)
 below : (a b : ℕ) → nat_le a b ≡ false → b < a
 below a b under = grind (arith, nat_tests)
 
-always-data : (start : Start) (h : List Step) (key : StreamKey) (octets : Octets) → Packed ≡ edge_in_answer start.rules h key (EventStep.Data octets) → AlwaysKeepsWindows start.rules (events start.rules h key.circ.0) →
+always-data : (start : SwitchStart) (h : List Step) (key : StreamKey) (octets : Octets) → Packed ≡ edge_in_answer start.rules h key (EventStep.Data octets) → AlwaysKeepsWindows start.rules (events start.rules h key.circ.0) →
     AlwaysKeepsWindows start.rules (Data key.serial octets.bytes.items ∷ events start.rules h key.circ.0)
 always-data start h key octets packed always =
     let rules = start.rules in
@@ -130,7 +130,7 @@ always-taken rules cell (TakeAnswer.Down circ reason) ev always =
     always-with rules _ (Answered cell.body) ev (λ is. always-other rules ev (Answered cell.body) (λ serial. refl) always) always
 always-taken rules cell answer ev always = always
 
-pub windows_kept : (start : Start) (h : List Step) (c : ℕ) → IsLegal start h → AlwaysKeepsWindows start.rules (events start.rules h c)
+pub windows_kept : (start : SwitchStart) (h : List Step) (c : ℕ) → IsLegal start h → AlwaysKeepsWindows start.rules (events start.rules h c)
 windows_kept start [] c legal = record { circuit = omega arith; stream = λ serial. omega arith }
 windows_kept start (OpenCircuit chan id reply (Some keys) pad (Opened n) ∷ h) c legal =
     let before = windows_kept start h c legal.1 in

@@ -10,7 +10,7 @@ use Rattle.tr_io.specs.declared.names.ClaimNote.{ClaimNote}
 use Rattle.tr_io.specs.declared.names.Dir.TheVariants.{Forth}
 use Rattle.tr_io.specs.declared.step.Step.{Step}
 use Rattle.tr_io.specs.declared.step.Step.TheVariants.{GiveBack}
-use Rattle.switch_model.specs.Start.{Start}
+use Rattle.switch_model.specs.Start.{SwitchStart}
 use Rattle.switch_model.specs.History.Taken.{claimed_cells}
 use Rattle.switch_model.specs.History.Circuit.{is_live_circuit, sent, events, is_accepted_return}
 use Rattle.circuit_model.specs.Batches.{forward_of, events_behind}
@@ -25,7 +25,7 @@ pub reason-behind : (rules : Rules) (left reason : ℕ) (ev : List Event) (befor
 reason-behind rules left reason ev [] closer rest go closes = rw (closes, ap (λ (e : Effects). e.close) closes) refl
 reason-behind rules left reason ev (cell ∷ before) closer rest go closes = rw go.0 (reason-behind rules left reason (forward_of cell ∷ ev) before closer rest go.1 closes)
 
-pub closing_return_is_down : (start : Start) (h : List Step) (note : ClaimNote) (place : Option ℕ) (a : BackAnswer) (reason : ℕ) (before : List CircuitCell) (closer : CircuitCell) (rest : List CircuitCell) →
+pub closing_return_is_down : (start : SwitchStart) (h : List Step) (note : ClaimNote) (place : Option ℕ) (a : BackAnswer) (reason : ℕ) (before : List CircuitCell) (closer : CircuitCell) (rest : List CircuitCell) →
     IsLegal start (GiveBack note place a ∷ h) → is_accepted_return a ≡ true → note.dir ≡ Forth → claimed_cells h note ≡ before ++ closer ∷ rest →
     AllGo start.rules (length (sent start.rules h note.circ.0 0)) (events start.rules h note.circ.0) before →
     effects start.rules (events_behind (events start.rules h note.circ.0) before) (forward_of closer) ≡ closing reason → a ≡ Down reason

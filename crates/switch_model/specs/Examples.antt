@@ -22,7 +22,7 @@ use Rattle.tr_io.specs.declared.step.Step.TheVariants.{ChannelUp, ChannelDown, O
 use Rattle.switch_model.specs.Limits.{given_id_base}
 use Rattle.switch_model.specs.Names.{Leg, chan_no, circ_no}
 use Rattle.switch_model.specs.Answers.NextCell.{cell_at}
-use Rattle.switch_model.specs.Start.{Start}
+use Rattle.switch_model.specs.Start.{SwitchStart}
 
 -- A peer connects at slot 0, and gets channel 0.
 abbrev pub peer_came : Step
@@ -61,7 +61,7 @@ bad_id keys reply =
     ∷ []
 
 -- The note of the first claim: one body, forth on circuit 0.
-abbrev pub first_note : Start → ClaimNote
+abbrev pub first_note : SwitchStart → ClaimNote
 first_note start = record {
   switch = start.name;
   claim = 0;
@@ -74,7 +74,7 @@ first_note start = record {
 
 -- A circuit is torn down while a worker has its cipher: the return finds it gone, DESTROY leaves in
 -- place of the answer to the opening, and then nothing.
-abbrev pub torn_while_claimed : Start → LayerKeys → List ℕ → List ℕ → List Step
+abbrev pub torn_while_claimed : SwitchStart → LayerKeys → List ℕ → List ℕ → List Step
 torn_while_claimed start keys reply body =
     nothing_left 0
     ∷ left 0 (cell_of 0 destroy_command (destroy destroy_requested).body)
@@ -87,7 +87,7 @@ torn_while_claimed start keys reply body =
     ∷ []
 
 -- Two relay cells wait, and one claim takes both.
-abbrev pub two_claimed : Start → LayerKeys → List ℕ → List ℕ → List ℕ → List Step
+abbrev pub two_claimed : SwitchStart → LayerKeys → List ℕ → List ℕ → List ℕ → List Step
 two_claimed start keys reply first second =
     Claim 0 (Some (record (first_note start) { count = 2 }))
     ∷ Take (chan_no 0) (cell_of 0 relay_command second) TakeAnswer.Queued

@@ -6,7 +6,7 @@ use Rattle.circuit_model.specs.Words.{in_order}
 use Rattle.tr_io.specs.declared.dials.DialStep.{DialStep}
 use Rattle.tr_io.specs.declared.step.Step.{Step}
 use Rattle.tr_io.specs.declared.step.Step.TheVariants.{ChannelUp, ChannelDown, OpenCircuit, Take, Claim, GiveBack, Abandon, NextCell, EdgeIn, EdgeOut, Drained, DialOrder, DialDone, TearDown, Live, Halt, Halted}
-use Rattle.switch_model.specs.Start.{Start}
+use Rattle.switch_model.specs.Start.{SwitchStart}
 use Rattle.switch_model.specs.Conditions.{MeetsCondition}
 use Rattle.switch_model.specs.Waiting.Dials.{Dial, dials, dials_out, dial_step}
 use Rattle.switch_model.specs.Answers.ChannelUp.{channel_up_answer}
@@ -39,7 +39,7 @@ IsDialOrder rules h None = dials rules h ≡ []
 IsDialOrder rules h (Some order) = (Some order ≡ dial_order_answer rules h) ⊎ IsOutAgain rules h order
 
 -- Whether a step has the answer that the steps before it give.
-abbrev pub IsAnswered : Start → List Step → Step → Type 0
+abbrev pub IsAnswered : SwitchStart → List Step → Step → Type 0
 IsAnswered start h (ChannelUp slot side a) = a ≡ channel_up_answer h
 IsAnswered start h (ChannelDown chan a) = a ≡ channel_down_answer h chan.0
 IsAnswered start h (OpenCircuit chan id reply keys pad a) = a ≡ open_answer start h chan.0 id keys
@@ -59,14 +59,14 @@ IsAnswered start h (Halt of) = ⊤
 IsAnswered start h (Halted a) = a ≡ halted_answer h
 
 -- Whether a step is right behind these steps: its call's condition is met, and it has its answer.
-abbrev pub IsRightStep : Start → List Step → Step → Type 0
+abbrev pub IsRightStep : SwitchStart → List Step → Step → Type 0
 IsRightStep start h s = MeetsCondition s × IsAnswered start h s
 
 -- A legal history.
-abbrev pub IsLegal : Start → List Step → Type 0
+abbrev pub IsLegal : SwitchStart → List Step → Type 0
 IsLegal start [] = ⊤
 IsLegal start (s ∷ h) = IsRightStep start h s × IsLegal start h
 
 -- The same of a history that is listed oldest first.
-unfoldable pub IsLegalFrom : Start → List Step → Type 0
+unfoldable pub IsLegalFrom : SwitchStart → List Step → Type 0
 IsLegalFrom start h = IsLegal start (in_order h)

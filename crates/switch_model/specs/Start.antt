@@ -2,7 +2,7 @@
 use Rattle.std.specs.Prelude.{ℕ}
 use Rattle.circuit_model.specs.Rules.{Rules}
 
-pub record Start : Type 0 where
+pub record SwitchStart : Type 0 where
   -- the switch's name, which its claims carry
   pub name : ℕ
   pub rules : Rules

@@ -22,18 +22,18 @@ ghost use Rattle.switch_model.specs.History.Legs.{circuits, at};
 ghost use Rattle.switch_model.specs.Names.{Way, is_leg};
 ghost use Rattle.switch_model.specs.Waiting.Queues.{circuit_log};
 ghost use Rattle.switch_model.specs.History.Relayed.{bodies_from_hops, AlwaysKeepsWindows, IsRelayed};
-ghost use Rattle.switch_model.specs.Waiting.Rest.{owed};
+ghost use Rattle.switch_model.specs.Waiting.Rest.{owed_cells};
 ghost use Rattle.circuit_model.specs.Batches.{forward_of, events_behind};
 ghost use Rattle.switch_model.specs.History.Returns.{AllGo};
 ghost use Rattle.switch_model.specs.Answers.NextCell.{next_cell_answer, IsOldestDestroy};
-ghost use Rattle.switch_model.specs.Start.{Start};
+ghost use Rattle.switch_model.specs.Start.{SwitchStart};
 ghost use Rattle.switch_model.specs.History.Taken.{claimed_cells, taken_forth, taken_back};
 
 /// Behind each event of a circuit of a legal history no more DATA was packaged than was granted, for the
 /// circuit and for each of its streams.
 #[tactic(auto, using(crate::proofs::WindowsKept::windows_kept))]
 pub fn no_window_is_passed()
-    ensures { (start : Start) (h : List Step) (c : ℕ) → IsLegal start h → AlwaysKeepsWindows start.rules (events start.rules h c) }
+    ensures { (start : SwitchStart) (h : List Step) (c : ℕ) → IsLegal start h → AlwaysKeepsWindows start.rules (events start.rules h c) }
 {}
 
 /// The bodies from next hops stand in a circuit's history as they were taken, live or torn down.
@@ -45,7 +45,7 @@ pub fn bodies_from_next_hops_keep_their_order()
 /// Of each circuit of a legal history, live or torn down: the forward cells in its history are the beginning of
 /// those taken, the bodies from next hops are those taken, and no window is passed.
 pub fn each_circuit_relays_in_order()
-    ensures { (start : Start) (h : List Step) (c : ℕ) → IsLegal start h →
+    ensures { (start : SwitchStart) (h : List Step) (c : ℕ) → IsLegal start h →
         IsRelayed start.rules (events start.rules h c) (taken_forth h c) (taken_back h c) }
 {}
 
@@ -53,7 +53,7 @@ pub fn each_circuit_relays_in_order()
 /// (1), and no body before it closes: the answer is Down with that reason, and the circuit is torn down.
 #[tactic(auto, using(crate::proofs::WrongSendmes::closing_return_is_down, crate::proofs::WrongSendmes::down_ends_circuit))]
 pub fn a_closing_body_ends_its_circuit()
-    ensures answer { (start : Start) (h : List Step) (note : ClaimNote) (place : Option ℕ) (a : BackAnswer) (reason : ℕ)
+    ensures answer { (start : SwitchStart) (h : List Step) (note : ClaimNote) (place : Option ℕ) (a : BackAnswer) (reason : ℕ)
         (before : List CircuitCell) (closer : CircuitCell) (rest : List CircuitCell) →
         IsLegal start (GiveBack note place a ∷ h) → is_accepted_return a ≡ true → note.dir ≡ Forth →
         claimed_cells h note ≡ before ++ closer ∷ rest →
@@ -68,18 +68,18 @@ pub fn a_closing_body_ends_its_circuit()
 #[tactic(auto, using(crate::proofs::Leaving::no_channel_sends, crate::proofs::Leaving::none_leaves, crate::proofs::Leaving::none_is_owed))]
 pub fn nothing_leaves_where_nothing_is_owed()
     ensures gone { (rules : Rules) (h : List Step) (chan tick : ℕ) → is_live_channel h chan ≡ false → next_cell_answer rules h chan tick ≡ None }
-    ensures none { (rules : Rules) (h : List Step) (chan tick : ℕ) → is_live_channel h chan ≡ true → owed rules h chan ≡ [] →
+    ensures none { (rules : Rules) (h : List Step) (chan tick : ℕ) → is_live_channel h chan ≡ true → owed_cells rules h chan ≡ [] →
         next_cell_answer rules h chan tick ≡ None }
     ensures owed { (rules : Rules) (h : List Step) (chan tick : ℕ) → is_live_channel h chan ≡ true → next_cell_answer rules h chan tick ≡ None →
-        owed rules h chan ≡ [] }
+        owed_cells rules h chan ≡ [] }
 {}
 
 /// A claim finds nothing exactly where no direction is ready.
 #[tactic(auto, using(crate::proofs::Leaving::claim_finds_nothing, crate::proofs::ClaimFinds::claim_finds_one))]
 pub fn a_claim_finds_nothing_where_none_is_ready()
-    ensures none { (start : Start) (h : List Step) (worker : ℕ) → ((way : Way) → is_ready start.rules h way ≡ false) →
+    ensures none { (start : SwitchStart) (h : List Step) (worker : ℕ) → ((way : Way) → is_ready start.rules h way ≡ false) →
         claim_answer start h worker ≡ None }
-    ensures one { (start : Start) (h : List Step) (worker : ℕ) (way : Way) → is_ready start.rules h way ≡ true →
+    ensures one { (start : SwitchStart) (h : List Step) (worker : ℕ) (way : Way) → is_ready start.rules h way ≡ true →
         is_some (claim_answer start h worker) ≡ true }
 {}
 
@@ -93,7 +93,7 @@ pub fn a_torn_circuit_sends_destroys_alone()
 /// A circuit that was torn down is never live again.
 #[tactic(auto, using(crate::proofs::StaysTorn::torn_stays_torn))]
 pub fn a_torn_circuit_stays_torn()
-    ensures { (start : Start) (newer older : List Step) (c : ℕ) → IsLegal start (newer ++ older) → c < circuits older →
+    ensures { (start : SwitchStart) (newer older : List Step) (c : ℕ) → IsLegal start (newer ++ older) → c < circuits older →
         is_live_circuit start.rules older c ≡ false → is_live_circuit start.rules (newer ++ older) c ≡ false }
 {}
 
@@ -101,7 +101,7 @@ pub fn a_torn_circuit_stays_torn()
 /// And once this side's DESTROY has left on a leg, no CircID is that leg's any more.
 #[tactic(auto, using(crate::proofs::OneDestroy::torn_sends_one, crate::proofs::OneDestroy::ended_leg_is_gone))]
 pub fn a_torn_circuit_sends_one_destroy_a_leg()
-    ensures one { (start : Start) (h : List Step) (c k : ℕ) → IsLegal start h → IsOneDestroy (sent_torn start.rules h c k) }
-    ensures ended { (start : Start) (h : List Step) (c k chan id : ℕ) → IsLegal start h → is_ended_by_us h c k ≡ true →
+    ensures one { (start : SwitchStart) (h : List Step) (c k : ℕ) → IsLegal start h → IsOneDestroy (sent_torn start.rules h c k) }
+    ensures ended { (start : SwitchStart) (h : List Step) (c k chan id : ℕ) → IsLegal start h → is_ended_by_us h c k ≡ true →
         is_leg c k (at h chan id) ≡ false }
 {}

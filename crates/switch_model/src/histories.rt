@@ -29,7 +29,7 @@ ghost use Rattle.switch_model.specs.History.Circuit.{is_live_circuit, sent, even
 ghost use Rattle.switch_model.specs.Waiting.Queues.{circuit_log, sealed_count, sendable, queue};
 ghost use Rattle.circuit_model.specs.Batches.{forward_of};
 ghost use Rattle.switch_model.specs.History.Returns.{Goes, closing_at};
-ghost use Rattle.switch_model.specs.Start.{Start};
+ghost use Rattle.switch_model.specs.Start.{SwitchStart};
 ghost use Rattle.switch_model.specs.History.Past.{past, concerns};
 ghost use Rattle.switch_model.specs.Legal.{IsLegal};
 ghost use Rattle.switch_model.specs.Examples.{closing_return, ended_channel, quiet_switch, one_circuit, bad_id, torn_while_claimed, two_claimed, crossing_destroys, hop_cell_then_return};
@@ -90,45 +90,45 @@ pub fn a_truncated_leg_keeps_its_reason()
 /// The first steps of a legal history are a legal history.
 #[tactic(auto, using(crate::proofs::FirstSteps::first_steps_legal))]
 pub fn first_steps_are_legal()
-    ensures { (start : Start) (newer older : List Step) → IsLegal start (newer ++ older) → IsLegal start older }
+    ensures { (start : SwitchStart) (newer older : List Step) → IsLegal start (newer ++ older) → IsLegal start older }
 {}
 
 /// A circuit is opened, and the answer to its opening is the first cell that leaves.
 pub fn answer_to_an_opening_leaves()
-    ensures { (start : Start) (keys : LayerKeys) (reply : List ℕ) → 1 ≤ start.circuits → IsLegal start (one_circuit keys reply) }
+    ensures { (start : SwitchStart) (keys : LayerKeys) (reply : List ℕ) → 1 ≤ start.circuits → IsLegal start (one_circuit keys reply) }
 {}
 
 /// An opening at a CircID of the wrong side is refused, and DESTROY 1 leaves.
 pub fn bad_id_is_answered_by_destroy()
-    ensures { (start : Start) (keys : LayerKeys) (reply : Cell) → IsReply reply (Some keys) → IsLegal start (bad_id keys reply) }
+    ensures { (start : SwitchStart) (keys : LayerKeys) (reply : Cell) → IsReply reply (Some keys) → IsLegal start (bad_id keys reply) }
 {}
 
 /// A circuit is torn down while its cipher is at a worker: the return finds it gone, one DESTROY 3
 /// leaves, and nothing else of the circuit.
 pub fn torn_circuit_sends_one_destroy()
-    ensures { (start : Start) (keys : LayerKeys) (reply body : List ℕ) → length body ≤ 65535 → 1 ≤ start.circuits →
+    ensures { (start : SwitchStart) (keys : LayerKeys) (reply body : List ℕ) → length body ≤ 65535 → 1 ≤ start.circuits →
         IsLegal start (torn_while_claimed start keys reply body) }
 {}
 
 /// A claim takes what waits in its direction, up to 32 bodies: here two.
 pub fn a_claim_takes_what_waits()
-    ensures { (start : Start) (keys : LayerKeys) (reply first second : List ℕ) → length first ≤ 65535 → length second ≤ 65535 →
+    ensures { (start : SwitchStart) (keys : LayerKeys) (reply first second : List ℕ) → length first ≤ 65535 → length second ≤ 65535 →
         1 ≤ start.circuits → IsLegal start (two_claimed start keys reply first second) }
 {}
 
 /// While our DESTROY waits its CircID is in use. The peer's DESTROY takes it away, and the CircID is free.
 pub fn crossing_destroy_frees_the_id()
-    ensures { (start : Start) (keys : LayerKeys) (refused : Cell) (reply reason : List ℕ) → IsReply refused (Some keys) →
+    ensures { (start : SwitchStart) (keys : LayerKeys) (refused : Cell) (reply reason : List ℕ) → IsReply refused (Some keys) →
         length reason ≤ 65535 → 1 ≤ start.circuits → IsLegal start (crossing_destroys keys refused reply reason) }
 {}
 
 /// A channel that ends tears its circuits down, and nothing leaves on it any more.
 pub fn an_ended_channel_sends_nothing()
-    ensures { (start : Start) (keys : LayerKeys) (reply : List ℕ) (late : Cell) → IsWellFormed late →
+    ensures { (start : SwitchStart) (keys : LayerKeys) (reply : List ℕ) (late : Cell) → IsWellFormed late →
         1 ≤ start.circuits → IsLegal start (ended_channel keys reply late) }
 {}
 
 /// A new switch has nothing to hand out. It halts once as many accepting slots have ended as there are.
 pub fn a_new_switch_is_quiet()
-    ensures { (start : Start) → IsLegal start quiet_switch }
+    ensures { (start : SwitchStart) → IsLegal start quiet_switch }
 {}

@@ -6,7 +6,7 @@ ghost use Rattle.circuit_model.specs.Sent.{one};
 ghost use Rattle.tr_io.specs.declared.names.ChanNo.{ChanNo};
 ghost use Rattle.tr_io.specs.declared.step.Step.{Step};
 ghost use Rattle.tr_io.specs.declared.step.Step.TheVariants.{NextCell};
-ghost use Rattle.switch_model.specs.Start.{Start};
+ghost use Rattle.switch_model.specs.Start.{SwitchStart};
 ghost use Rattle.switch_model.specs.Names.{is_leg, circuit_cell};
 ghost use Rattle.switch_model.specs.History.LegEnds.{is_ended_outside};
 ghost use Rattle.switch_model.specs.History.Legs.{at, holds_id};
@@ -21,14 +21,14 @@ ghost use Rattle.switch_model.specs.Legal.{IsLegal};
 /// for the circuit's events.
 #[tactic(auto, using(crate::proofs::SentBegins::sent_is_prefix))]
 pub fn each_leg_sends_a_prefix()
-    ensures { (start : Start) (h : List Step) → IsLegal start h → (c k : ℕ) →
+    ensures { (start : SwitchStart) (h : List Step) → IsLegal start h → (c k : ℕ) →
         (rest : List CircuitCell) × (sent start.rules h c k ++ rest ≡ one (circuit_log start.rules h c) k) }
 {}
 
 /// A cell that leaves on leg k of a live circuit is the next one that the one-thread relay sends there.
 #[tactic(auto, using(crate::proofs::SentBegins::next_leaves))]
 pub fn each_leg_sends_the_next_cell()
-    ensures { (start : Start) (h : List Step) (chan : ChanNo) (tick : ℕ) (cell : Cell) (c k : ℕ) →
+    ensures { (start : SwitchStart) (h : List Step) (chan : ChanNo) (tick : ℕ) (cell : Cell) (c k : ℕ) →
         IsLegal start (NextCell chan tick (Some cell) ∷ h) →
         is_leg c k (at h chan.0 cell.circ) ≡ true → is_live_circuit start.rules h c ≡ true →
         slice_get (one (circuit_log start.rules h c) k) (length (sent start.rules h c k)) ≡ Some (circuit_cell cell) }
@@ -37,7 +37,7 @@ pub fn each_leg_sends_the_next_cell()
 /// A DESTROY that waits in a channel's lane is for no leg of a live circuit, so none passes cells of its leg.
 #[tactic(auto, using(crate::proofs::LaneIds::waiting_destroy_apart))]
 pub fn no_waiting_destroy_is_for_a_live_leg()
-    ensures { (start : Start) (h : List Step) (chan c k : ℕ) (d : Destroy) → IsLegal start h → Contains (lane start.rules h chan) d →
+    ensures { (start : SwitchStart) (h : List Step) (chan c k : ℕ) (d : Destroy) → IsLegal start h → Contains (lane start.rules h chan) d →
         is_leg c k (at h chan d.id) ≡ true → is_live_circuit start.rules h c ≡ false }
 {}
 
@@ -45,14 +45,14 @@ pub fn no_waiting_destroy_is_for_a_live_leg()
 /// list begins the other, whatever other circuits did.
 #[tactic(auto, using(crate::proofs::SameEvents::comparable_cells))]
 pub fn the_same_events_send_comparable_cells()
-    ensures { (start : Start) (h g : List Step) (c d k : ℕ) → IsLegal start h → IsLegal start g →
+    ensures { (start : SwitchStart) (h g : List Step) (c d k : ℕ) → IsLegal start h → IsLegal start g →
         events start.rules h c ≡ events start.rules g d → AreComparable (sent start.rules h c k) (sent start.rules g d k) }
 {}
 
 /// Where nothing waits on a leg of a live circuit that has its CircID, all that may leave there was sent.
 #[tactic(auto, using(crate::proofs::LegsAtRest::all_sent))]
 pub fn at_rest_a_leg_has_sent_all()
-    ensures { (start : Start) (h : List Step) (c k : ℕ) → IsLegal start h → is_live_circuit start.rules h c ≡ true → holds_id h c k ≡ true →
+    ensures { (start : SwitchStart) (h : List Step) (c k : ℕ) → IsLegal start h → is_live_circuit start.rules h c ≡ true → holds_id h c k ≡ true →
         queue start.rules h c k ≡ [] → sent start.rules h c k ≡ sendable (circuit_log start.rules h c) (sealed_count h c) k }
 {}
 
@@ -60,6 +60,6 @@ pub fn at_rest_a_leg_has_sent_all()
 /// channel ended.
 #[tactic(auto, using(crate::proofs::AllSent::at_rest_all_sent))]
 pub fn at_rest_all_is_sent()
-    ensures { (start : Start) (h : List Step) (c k : ℕ) → IsLegal start h → IsAtRest start.rules h c → is_ended_outside h c k ≡ false →
+    ensures { (start : SwitchStart) (h : List Step) (c k : ℕ) → IsLegal start h → IsAtRest start.rules h c → is_ended_outside h c k ≡ false →
         sent start.rules h c k ≡ one (circuit_log start.rules h c) k }
 {}

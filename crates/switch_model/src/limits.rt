@@ -15,12 +15,12 @@ ghost use Rattle.tr_io.specs.declared.step.Step.{Step};
 ghost use Rattle.tor_spec.specs.CellCommands.{relay_command};
 ghost use Rattle.tor_spec.specs.Reasons.{destroy_resource_limit};
 ghost use Rattle.switch_model.specs.Limits.{channel_limit, held_limit};
-ghost use Rattle.switch_model.specs.Start.{Start};
+ghost use Rattle.switch_model.specs.Start.{SwitchStart};
 ghost use Rattle.switch_model.specs.Names.{circ_no};
 ghost use Rattle.switch_model.specs.History.Channels.{channel_at, is_live_channel, live_channels};
 ghost use Rattle.switch_model.specs.History.Legs.{at};
 ghost use Rattle.switch_model.specs.History.Circuit.{is_live_circuit};
-ghost use Rattle.switch_model.specs.Waiting.Queues.{circuit_log, held};
+ghost use Rattle.switch_model.specs.Waiting.Queues.{circuit_log, held_count};
 ghost use Rattle.tr_io.specs.declared.answers.EdgeAnswer.TheVariants.{Shut};
 ghost use Rattle.tr_io.specs.declared.answers.ShutWhy.{ShutWhy};
 ghost use Rattle.tr_io.specs.declared.names.StreamKey.{StreamKey};
@@ -43,7 +43,7 @@ pub fn sixty_five_channels_are_too_many()
 /// A good opening is refused where as many circuits are live as may be.
 #[tactic(auto, using(crate::proofs::Fullness::circuits_full))]
 pub fn a_full_switch_opens_no_circuit()
-    ensures { (start : Start) (h : List Step) (chan id : ℕ) (keys : LayerKeys) →
+    ensures { (start : SwitchStart) (h : List Step) (chan id : ℕ) (keys : LayerKeys) →
         is_live_channel h chan ≡ true → (id == 0) ≡ false → is_in_use start.rules h chan id ≡ false →
         is_peers_id (channel_at h chan) id ≡ true → start.circuits ≤ live_circuits start.rules h →
         open_answer start h chan id (Some keys) ≡ Refused (OpenRefusal.Full start.circuits) }
@@ -52,7 +52,7 @@ pub fn a_full_switch_opens_no_circuit()
 /// A job of another switch is a stranger's, whatever it holds.
 #[tactic(auto, using(crate::proofs::Fullness::foreign_claim))]
 pub fn a_foreign_job_is_a_strangers()
-    ensures { (start : Start) (h : List Step) (note : ClaimNote) (place : Option ℕ) →
+    ensures { (start : SwitchStart) (h : List Step) (note : ClaimNote) (place : Option ℕ) →
         (note.switch == start.name) ≡ false → give_back_answer start h note place ≡ Stranger (Note None note) }
 {}
 
@@ -62,7 +62,7 @@ pub fn one_cell_too_many_closes()
     ensures { (rules : Rules) (h : List Step) (chan : ℕ) (cell : Cell) (c : ℕ) →
         is_live_channel h chan ≡ true → cell.command ≡ relay_command →
         at h chan cell.circ ≡ Some (record { circ = c; number = 0 }) → is_live_circuit rules h c ≡ true →
-        held rules h c Forth ≡ held_limit → take_answer rules h chan cell ≡ TakeAnswer.Down (circ_no c) destroy_resource_limit }
+        held_count rules h c Forth ≡ held_limit → take_answer rules h chan cell ≡ TakeAnswer.Down (circ_no c) destroy_resource_limit }
 {}
 
 /// Bytes of a joined stream are shut out where the stream's window is used up, and else where the

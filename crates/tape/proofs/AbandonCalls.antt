@@ -10,7 +10,7 @@ use Rattle.tr_io.specs.declared.step.Step.TheVariants as Steps
 use Rattle.switch_model.specs.Answers.Abandon.{abandon_answer}
 use Rattle.switch_model.specs.History.Circuit.{is_live_circuit}
 use Rattle.switch_model.specs.Legal.{IsLegal}
-use Rattle.switch_model.specs.Start.{Start}
+use Rattle.switch_model.specs.Start.{SwitchStart}
 use Rattle.switch_core.specs.Returning.{OfPlace}
 use Rattle.switch_core.specs.Started.{Started, SwitchAdds, SwitchStands}
 use Rattle.tape.specs.declared.record.Record.TheVariants.{Abandon}
@@ -19,7 +19,7 @@ use Rattle.tape.specs.KeptJobs.{IsNoStranger, kept_job}
 use Rattle.tape.specs.Playing.{Makes, PlayerStands}
 use Rattle.tape.specs.Steps.{tape_start, with_step, abandon_of}
 use Rattle.tape.proofs.JobPlaces.{IsOwn, job_differs_nowhere, return_gone, return_own}
-use Rattle.tape.proofs.JobsReturned.{abandoned, jobs_returned, job_there, Kept}
+use Rattle.tape.proofs.JobsReturned.{abandoned, jobs_returned, job_there, IsKeptJob}
 use Rattle.tape.proofs.Placeless.{abandoned_to_gone}
 use Rattle.tape.proofs.ReturnCalls.{ComesHome, Without}
 
@@ -56,7 +56,7 @@ abandoned-home : (old new : Started) (h : List Step) (claim : ℕ) (job : JobPar
     ComesHome old new h now a (abandon_of old.start.rules h note) (λ x. Steps.Abandon note None x)
 unfolding SwitchAdds
 abandoned-home old new h claim job note jobs now a is st stands put of =
-    let name : old.start.name ≡ 0 = ap (λ (s : Start). s.name) is in
+    let name : old.start.name ≡ 0 = ap (λ (s : SwitchStart). s.name) is in
     let behind : SwitchStands new (Steps.Abandon note None a ∷ h) =
     abandoned-behind old new h claim job note a
     (is_live_circuit old.start.rules h note.circ.0) refl name st.switch stands of in
@@ -86,7 +86,7 @@ pub job_abandoned : (old new : Started) (claim : ℕ) (job : JobParts) (jobs now
 job_abandoned old new claim job jobs now a is there put of =
     let rules = old.start.rules in
     let found : (h : List Step) → PlayerStands rules (record { switch = old; jobs = jobs }) h →
-    Kept rules h claim (kept_job h claim) job =
+    IsKeptJob rules h claim (kept_job h claim) job =
     λ h st. job_there rules h claim (jobs claim) (kept_job h claim) job (st.jobs.job claim) there in
     let home : (h : List Step) (st : PlayerStands rules (record { switch = old; jobs = jobs }) h) →
     ComesHome old new h now a (abandon_of rules h (found h st).note) (λ x. Steps.Abandon (found h st).note None x) =

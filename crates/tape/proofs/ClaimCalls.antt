@@ -9,7 +9,7 @@ use Rattle.tr_io.specs.declared.step.Step.{Step}
 use Rattle.tr_io.specs.declared.step.Step.TheVariants as Steps
 use Rattle.switch_model.specs.Answers.Claim.{claim_answer}
 use Rattle.switch_model.specs.Legal.{IsLegal}
-use Rattle.switch_model.specs.Start.{Start}
+use Rattle.switch_model.specs.Start.{SwitchStart}
 use Rattle.switch_core.specs.Claiming.{Carries, ClaimCase, given_note}
 use Rattle.switch_core.specs.Started.{Started, SwitchAdds, SwitchStands}
 use Rattle.tape.specs.declared.record.Record.TheVariants.{Claim}
@@ -30,7 +30,7 @@ job_given old new worker a job note jobs now is given its added has put =
     let adds : SwitchAdds old new (Steps.Claim worker (Some job.note)) =
     subst (λ x. ClaimCase x (new ≡ old) (SwitchAdds old new (Steps.Claim worker (given_note x)))) given added in
     let carries : Carries old.relays old.state job = subst (IfJob (Carries old.relays old.state)) given has in
-    let name : old.start.name ≡ 0 = ap (λ (s : Start). s.name) is in
+    let name : old.start.name ≡ 0 = ap (λ (s : SwitchStart). s.name) is in
     let legal : (h : List Step) → SwitchStands old h → IsLegal old.start (Steps.Claim worker (Some job.note) ∷ h) =
     λ h st. subst (λ s. IsLegal s (Steps.Claim worker (Some job.note) ∷ h)) adds.start
     (adds.stands h st).state.steps.legal in
@@ -68,7 +68,7 @@ nothing_given old new worker a jobs is nothing added =
             switch = adds.stands h st.switch;
             jobs =
                 jobs_stay old.start h (Steps.Claim worker None) jobs (legal h st.switch)
-                (record { jobs = λ l claim. refl; leaves = λ l note. record { kept = refl; away = refl }; own = tt }) st.jobs;
+                (record { jobs = λ l claim. refl; leaves = λ l note. record { claim_out = refl; away = refl }; own = tt }) st.jobs;
             own = (tt, st.own);
           });
       right_is = λ h st. right h st.switch;

@@ -9,17 +9,17 @@ use Rattle.tor_spec.specs.CellStream.{IsBytes}
 use Rattle.tape.specs.Fronts.{field}
 
 -- A field between what is before and behind it.
-pub field_of : (at n : ℕ) (before x behind : List ℕ) → length before ≡ at → length x ≡ n → field at n (before ++ (x ++ behind)) ≡ x
-field_of at n before x behind is_at is_n =
-    let dropped : drop at (before ++ (x ++ behind)) ≡ x ++ behind =
-    ap (λ k. drop k (before ++ (x ++ behind))) (sym is_at) ∙ drop-append_seam before (x ++ behind) in
-    ap (take n) dropped ∙ ap (λ k. take k (x ++ behind)) (sym is_n) ∙ take-append_seam x behind
+pub field_of : (at n : ℕ) (before x later_bytes : List ℕ) → length before ≡ at → length x ≡ n → field at n (before ++ (x ++ later_bytes)) ≡ x
+field_of at n before x later_bytes is_at is_n =
+    let dropped : drop at (before ++ (x ++ later_bytes)) ≡ x ++ later_bytes =
+    ap (λ k. drop k (before ++ (x ++ later_bytes))) (sym is_at) ∙ drop-append_seam before (x ++ later_bytes) in
+    ap (take n) dropped ∙ ap (λ k. take k (x ++ later_bytes)) (sym is_n) ∙ take-append_seam x later_bytes
 
-pub behind_of : (at : ℕ) (before behind : List ℕ) → length before ≡ at → drop at (before ++ behind) ≡ behind
-behind_of at before behind is = ap (λ k. drop k (before ++ behind)) (sym is) ∙ drop-append_seam before behind
+pub behind_of : (at : ℕ) (before later_bytes : List ℕ) → length before ≡ at → drop at (before ++ later_bytes) ≡ later_bytes
+behind_of at before later_bytes is = ap (λ k. drop k (before ++ later_bytes)) (sym is) ∙ drop-append_seam before later_bytes
 
-pub byte_of : (at : ℕ) (before : List ℕ) (x : ℕ) (behind : List ℕ) → length before ≡ at → slice_index (before ++ x ∷ behind) at ≡ x
-byte_of at before x behind is = ap (λ k. slice_index (before ++ x ∷ behind) k) (sym is) ∙ get_or-append_seam before x behind 0
+pub byte_of : (at : ℕ) (before : List ℕ) (x : ℕ) (later_bytes : List ℕ) → length before ≡ at → slice_index (before ++ x ∷ later_bytes) at ≡ x
+byte_of at before x later_bytes is = ap (λ k. slice_index (before ++ x ∷ later_bytes) k) (sym is) ∙ get_or-append_seam before x later_bytes 0
 
 pub four : (n : ℕ) → length (to_be_bytes w32 n) ≡ 4
 four n = refl

@@ -11,7 +11,7 @@ use Rattle.tr_io.specs.declared.step.Step.TheVariants as Steps
 use Rattle.switch_model.specs.Answers.GiveBack.{give_back_answer, done}
 use Rattle.switch_model.specs.History.Circuit.{is_live_circuit}
 use Rattle.switch_model.specs.Legal.{IsLegal}
-use Rattle.switch_model.specs.Start.{Start}
+use Rattle.switch_model.specs.Start.{SwitchStart}
 use Rattle.switch_core.specs.Returning.{OfPlace}
 use Rattle.switch_core.specs.Started.{Started, SwitchAdds, SwitchStands}
 use Rattle.tape.specs.declared.record.Record.TheVariants.{GiveBack}
@@ -20,7 +20,7 @@ use Rattle.tape.specs.KeptJobs.{IsNoStranger, kept_job}
 use Rattle.tape.specs.Playing.{Makes, PlayerStands}
 use Rattle.tape.specs.Steps.{tape_start, with_step, give_back_of}
 use Rattle.tape.proofs.JobPlaces.{done_own, IsOwn, job_differs_nowhere, return_gone, return_own}
-use Rattle.tape.proofs.JobsReturned.{given_back, jobs_returned, job_there, Kept}
+use Rattle.tape.proofs.JobsReturned.{given_back, jobs_returned, job_there, IsKeptJob}
 use Rattle.tape.proofs.Placeless.{given_to_gone}
 use Rattle.tape.proofs.ReturnCalls.{ComesHome, Without}
 
@@ -57,7 +57,7 @@ given-home : (old new : Started) (h : List Step) (claim : ℕ) (job : JobParts) 
     ComesHome old new h now a (give_back_of old.start.rules h note) (λ x. Steps.GiveBack note None x)
 unfolding SwitchAdds
 given-home old new h claim job note jobs now a is st stands put of =
-    let name : old.start.name ≡ 0 = ap (λ (s : Start). s.name) is in
+    let name : old.start.name ≡ 0 = ap (λ (s : SwitchStart). s.name) is in
     let behind : SwitchStands new (Steps.GiveBack note None a ∷ h) =
     given-behind old new h claim job note a
     (is_live_circuit old.start.rules h note.circ.0) refl name st.switch stands of in
@@ -105,7 +105,7 @@ pub job_given_back : (old new : Started) (claim : ℕ) (job : JobParts) (done_pa
 job_given_back old new claim job done_parts jobs now a is there put note start input of =
     let rules = old.start.rules in
     let found : (h : List Step) → PlayerStands rules (record { switch = old; jobs = jobs }) h →
-    Kept rules h claim (kept_job h claim) job =
+    IsKeptJob rules h claim (kept_job h claim) job =
     λ h st. job_there rules h claim (jobs claim) (kept_job h claim) job (st.jobs.job claim) there in
     let home : (h : List Step) (st : PlayerStands rules (record { switch = old; jobs = jobs }) h) →
     ComesHome old new h now a (give_back_of rules h (found h st).note) (λ x. Steps.GiveBack (found h st).note None x) =

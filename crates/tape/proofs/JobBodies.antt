@@ -10,8 +10,8 @@ use Rattle.tr_io.specs.declared.names.Dir.{Dir}
 use Rattle.tr_io.specs.declared.names.Dir.TheVariants.{Forth, Back}
 use Rattle.tr_io.specs.declared.step.Step.{Step}
 use Rattle.tr_io.specs.declared.step.Step.TheVariants.{Claim}
-use Rattle.switch_model.specs.Start.{Start}
-use Rattle.switch_model.specs.Waiting.Claims.{claimed, kept}
+use Rattle.switch_model.specs.Start.{SwitchStart}
+use Rattle.switch_model.specs.Waiting.Claims.{claimed_count, claim_out}
 use Rattle.switch_model.specs.Waiting.Contents.{bodies_in}
 use Rattle.switch_model.specs.Waiting.Queues.{circuit_log}
 use Rattle.switch_model.proofs.Common.{drop-front}
@@ -44,36 +44,36 @@ none-out : (k : Option KeptClaim) → kept_note k ≡ None → k ≡ None
 none-out None none = refl
 none-out (Some k) none = absurd cc
 
-behind-home : (settled given : List CircuitCell) (waiting : List WaitingCell) (first : ℕ) →
-    settled ++ [] ++ map cell_waiting waiting ≡ given → first ≡ length settled →
-    drop first given ≡ map cell_waiting waiting
-behind-home settled given waiting first cells is =
+behind-home : (settled given : List CircuitCell) (waiting_bodies : List WaitingCell) (first : ℕ) →
+    settled ++ [] ++ map cell_waiting waiting_bodies ≡ given → first ≡ length settled →
+    drop first given ≡ map cell_waiting waiting_bodies
+behind-home settled given waiting_bodies first cells is =
     ap (λ n. drop n given) is
     ∙ ap (drop (length settled)) (sym cells)
-    ∙ ap (λ l. drop (length settled) (l ++ map cell_waiting waiting)) (append-nil settled)
-    ∙ drop-front settled (map cell_waiting waiting)
+    ∙ ap (λ l. drop (length settled) (l ++ map cell_waiting waiting_bodies)) (append-nil settled)
+    ∙ drop-front settled (map cell_waiting waiting_bodies)
 
 first-waiting : (c : ℕ) (dir : Dir) (way : WayState) (settled given : List CircuitCell) (count : ℕ)
     (known : Option ClaimNote) (all : List ℕ) (note : ClaimNote) → WayStands c dir way settled given count known all →
     known ≡ None → note.first ≡ count →
-    take note.count (drop note.first given) ≡ waiting_cells (take note.count way.waiting)
+    take note.count (drop note.first given) ≡ waiting_cells (take note.count way.waiting_bodies)
 first-waiting c dir way settled given count known all note own none is =
-    let out : way.kept ≡ None = none-out way.kept (own.kept ∙ none) in
-    let cells : settled ++ [] ++ map cell_waiting way.waiting ≡ given =
-    subst (λ k. settled ++ kept_cells k ++ map cell_waiting way.waiting ≡ given) out own.cells in
-    let sum : way.claimed ≡ length settled + 0 =
-    subst (λ k. way.claimed ≡ length settled + length (kept_cells k)) out own.out in
-    let begin : note.first ≡ length settled = omega (arith, is, own.claimed, sum) in
-    ap (take note.count) (behind-home settled given way.waiting note.first cells begin)
-    ∙ take-map cell_waiting note.count way.waiting
+    let out : way.claim_out ≡ None = none-out way.claim_out (own.claim_out ∙ none) in
+    let cells : settled ++ [] ++ map cell_waiting way.waiting_bodies ≡ given =
+    subst (λ k. settled ++ kept_cells k ++ map cell_waiting way.waiting_bodies ≡ given) out own.cells in
+    let sum : way.claimed_count ≡ length settled + 0 =
+    subst (λ k. way.claimed_count ≡ length settled + length (kept_cells k)) out own.out in
+    let begin : note.first ≡ length settled = omega (arith, is, own.claimed_count, sum) in
+    ap (take note.count) (behind-home settled given way.waiting_bodies note.first cells begin)
+    ∙ take-map cell_waiting note.count way.waiting_bodies
 
 -- the bodies that a claim takes out
 
-pub bodies_taken : (start : Start) (s : State) (h : List Step) (note : ClaimNote) (x : CircuitState) (dir : Dir) →
+pub bodies_taken : (start : SwitchStart) (s : State) (h : List Step) (note : ClaimNote) (x : CircuitState) (dir : Dir) →
     Stands start s h → slot_at s.circuits note.circ.0 ≡ Some x →
-    kept h (record { circ = note.circ.0; dir = dir }) ≡ None →
-    note.first ≡ claimed h (record { circ = note.circ.0; dir = dir }) →
-    first_bodies note.count (way_of_circuit x dir).waiting ≡ bodies_in start.rules h note dir
+    claim_out h (record { circ = note.circ.0; dir = dir }) ≡ None →
+    note.first ≡ claimed_count h (record { circ = note.circ.0; dir = dir }) →
+    first_bodies note.count (way_of_circuit x dir).waiting_bodies ≡ bodies_in start.rules h note dir
 bodies_taken start s h note x Forth st live none is =
     let own = circuit_stands start s h note.circ.0 x st live in
     ap (map body_of) (sym (first-waiting note.circ.0 Forth x.forth _ _ _ _ _ note own.forth none is))
@@ -102,16 +102,16 @@ is-kept (Some k) note out = record { claim = k; is = refl; its = cc }
 out-cells : (c : ℕ) (dir : Dir) (way : WayState) (settled given : List CircuitCell) (count : ℕ)
     (known : Option ClaimNote) (all : List ℕ) (note : ClaimNote) → WayStands c dir way settled given count known all →
     known ≡ Some note →
-    kept_cells way.kept ≡ take note.count (drop note.first given)
+    kept_cells way.claim_out ≡ take note.count (drop note.first given)
 out-cells c dir way settled given count known all note own out =
-    let k : IsKept way.kept note = is-kept way.kept note (own.kept ∙ out) in
+    let k : IsKept way.claim_out note = is-kept way.claim_out note (own.claim_out ∙ out) in
     ap kept_cells k.is
     ∙ sym (claimed-same c dir way settled given count known all k.claim own k.is)
     ∙ ap (λ (n : ClaimNote). take n.count (drop n.first given)) k.its
 
-pub bodies_stay_out : (start : Start) (s : State) (h : List Step) (note : ClaimNote) (x : CircuitState) (dir : Dir) →
+pub bodies_stay_out : (start : SwitchStart) (s : State) (h : List Step) (note : ClaimNote) (x : CircuitState) (dir : Dir) →
     Stands start s h → slot_at s.circuits note.circ.0 ≡ Some x →
-    kept h (record { circ = note.circ.0; dir = dir }) ≡ Some note →
+    claim_out h (record { circ = note.circ.0; dir = dir }) ≡ Some note →
     bodies_out_of (way_of_circuit x dir) ≡ bodies_in start.rules h note dir
 bodies_stay_out start s h note x Forth st live out =
     let own = circuit_stands start s h note.circ.0 x st live in

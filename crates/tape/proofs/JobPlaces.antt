@@ -22,8 +22,8 @@ use Rattle.switch_model.specs.History.Legs.{circuits, holds_id}
 use Rattle.switch_model.specs.History.Past.{Past, past}
 use Rattle.switch_model.specs.Legal.{IsLegal}
 use Rattle.switch_model.specs.Names.{same_note, way_of}
-use Rattle.switch_model.specs.Start.{Start}
-use Rattle.switch_model.specs.Waiting.Claims.{kept}
+use Rattle.switch_model.specs.Start.{SwitchStart}
+use Rattle.switch_model.specs.Waiting.Claims.{claim_out}
 use Rattle.switch_model.specs.Waiting.Contents.{claimed_bodies, IsFirstDifference}
 use Rattle.switch_model.proofs.BodiesStay.{claimed_bodies_stay}
 use Rattle.switch_model.proofs.Common.{self_eq}
@@ -73,7 +73,7 @@ start-by : (relay : Relay) (dir : Dir) → start_out (Some relay) dir ≡ Some (
 start-by relay Forth = refl
 start-by relay Back = refl
 
-bodies-now : (start : Start) (h : List Step) (job : JobParts) (note : ClaimNote) → IsLegal start h →
+bodies-now : (start : SwitchStart) (h : List Step) (job : JobParts) (note : ClaimNote) → IsLegal start h →
     (was : WasClaimed start.rules h job note) → job.bodies.items ≡ claimed_bodies start.rules h note
 bodies-now start h job note legal was =
     was.bodies
@@ -99,8 +99,8 @@ job_differs_nowhere s h claim job note place st stands live first =
     let start : Some job.cipher ≡ start_out (slot_at s.relays c) note.dir =
     ap Some cipher ∙ sym (start-by kept_relay.relay note.dir) ∙ ap (λ o. start_out o note.dir) (sym kept_relay.is) in
     let bodies : job.bodies.items ≡ bodies_out (slot_at s.state.circuits c) note.dir =
-    bodies-now s.start h job note st.state.steps.legal stands.claimed
-    ∙ sym (bodies_stay_out s.start s.state h note there.circuit note.dir st.state there.is out.kept)
+    bodies-now s.start h job note st.state.steps.legal stands.origin
+    ∙ sym (bodies_stay_out s.start s.state h note there.circuit note.dir st.state there.is out.claim_out)
     ∙ ap (λ o. bodies_out o note.dir) (sym there.is) in
     no-place _ _ _ _ place start bodies first
 
@@ -111,16 +111,16 @@ same-self note =
     rw (self_eq note.switch, self_eq note.claim, self_eq note.worker, self-way (way_of note), self_eq note.first, self_eq note.count)
     refl
 
-pub return_passes : (start : Start) (h : List Step) (note : ClaimNote) (answer : BackAnswer) →
+pub return_passes : (start : SwitchStart) (h : List Step) (note : ClaimNote) (answer : BackAnswer) →
     note.switch ≡ start.name → note.circ.0 < circuits h → is_live_circuit start.rules h note.circ.0 ≡ true →
-    kept h (way_of note) ≡ Some note →
+    claim_out h (way_of note) ≡ Some note →
     return_answer start h note None answer ≡ answer
 return_passes start h note answer name opened live out =
     let own : (note.switch == start.name) ≡ true = ap (λ n. n == start.name) name ∙ self_eq start.name in
     let inside : nat_lt note.circ.0 (circuits h) ≡ true = lt-ltb note.circ.0 (circuits h) opened in
     rw (own, inside, live, out, same-self note) refl
 
-pub return_gone : (start : Start) (h : List Step) (note : ClaimNote) (place : Option ℕ) (answer : BackAnswer) →
+pub return_gone : (start : SwitchStart) (h : List Step) (note : ClaimNote) (place : Option ℕ) (answer : BackAnswer) →
     note.switch ≡ start.name → note.circ.0 < circuits h → is_live_circuit start.rules h note.circ.0 ≡ false →
     return_answer start h note place answer ≡ Gone
 return_gone start h note place answer name opened torn =
@@ -142,17 +142,17 @@ pub done_own : (rules : Rules) (h : List Step) (note : ClaimNote) (dir : Dir) �
 done_own rules h note Back = tt
 done_own rules h note Forth = done-by-own _
 
-own-by : (start : Start) (h : List Step) (claim : ℕ) (job : JobParts) (note : ClaimNote) (answer : BackAnswer)
+own-by : (start : SwitchStart) (h : List Step) (claim : ℕ) (job : JobParts) (note : ClaimNote) (answer : BackAnswer)
     (b : Bool) → is_live_circuit start.rules h note.circ.0 ≡ b → start.name ≡ 0 →
     JobStands start.rules h claim job note → IsOwn answer →
     IsOwn (return_answer start h note None answer)
 own-by start h claim job note answer true live name stands own =
     subst IsOwn
-    (sym (return_passes start h note answer (stands.switch ∙ sym name) stands.opened live (stands.out live).kept)) own
+    (sym (return_passes start h note answer (stands.switch ∙ sym name) stands.opened live (stands.out live).claim_out)) own
 own-by start h claim job note answer false torn name stands own =
     subst IsOwn (sym (return_gone start h note None answer (stands.switch ∙ sym name) stands.opened torn)) tt
 
-pub return_own : (start : Start) (h : List Step) (claim : ℕ) (job : JobParts) (note : ClaimNote)
+pub return_own : (start : SwitchStart) (h : List Step) (claim : ℕ) (job : JobParts) (note : ClaimNote)
     (answer : BackAnswer) → start.name ≡ 0 → JobStands start.rules h claim job note → IsOwn answer →
     IsOwn (return_answer start h note None answer)
 return_own start h claim job note answer name stands own =

@@ -14,8 +14,8 @@ use Rattle.switch_model.specs.History.Legs.{circuits}
 use Rattle.switch_model.specs.History.Past.{Past, past}
 use Rattle.switch_model.specs.Legal.{IsLegal}
 use Rattle.switch_model.specs.Names.{Way, same_way, way_of}
-use Rattle.switch_model.specs.Start.{Start}
-use Rattle.switch_model.specs.Waiting.Claims.{kept, next_way}
+use Rattle.switch_model.specs.Start.{SwitchStart}
+use Rattle.switch_model.specs.Waiting.Claims.{claim_out, next_way}
 use Rattle.switch_model.proofs.ClaimFinds.{way-is}
 use Rattle.switch_model.proofs.Claiming.{Claimed, claimed-by}
 use Rattle.switch_model.proofs.Common.{same-number}
@@ -41,13 +41,13 @@ cipher_kept rules relay p Back stands = stands.back
 
 -- what the note of a claim says
 
-switch-by : (start : Start) (h : List Step) (worker : ℕ) (note : ClaimNote) (o : Option Way) →
+switch-by : (start : SwitchStart) (h : List Step) (worker : ℕ) (note : ClaimNote) (o : Option Way) →
     Some note ≡ option_map (note_for start h worker) o → note.switch ≡ start.name
 switch-by start h worker note None is = absurd cc
 switch-by start h worker note (Some way) is =
     let same : note ≡ note_for start h worker way = cc in ap (λ (n : ClaimNote). n.switch) same
 
-live-opened : (start : Start) (h : List Step) (c : ℕ) → IsLegal start h → is_live_circuit start.rules h c ≡ true →
+live-opened : (start : SwitchStart) (h : List Step) (c : ℕ) → IsLegal start h → is_live_circuit start.rules h c ≡ true →
     c < circuits h
 live-opened start h c legal live = elim (cases_lt c (circuits h)) [
   | inl below ↦ below
@@ -71,7 +71,7 @@ job_claimed s h worker job name st legal carries =
       number = refl;
       switch = switch-by s.start h worker note (next_way rules h) legal.0.1 ∙ name;
       opened = live-opened s.start h note.circ.0 legal.1 taken.live;
-      claimed = record {
+      origin = record {
         newer = [];
         worker = worker;
         older = h;
@@ -82,7 +82,7 @@ job_claimed s h worker job name st legal carries =
             ∙ bodies_left rules h worker note note note.dir;
       };
       out = λ live. record {
-        kept = rw (self-way (way_of note)) refl;
+        claim_out = rw (self-way (way_of note)) refl;
         cipher =
             carries.cipher
             ∙ cipher_kept rules carries.relay (past rules h note.circ.0) note.dir relay
@@ -93,24 +93,24 @@ job_claimed s h worker job name st legal carries =
 -- the others
 
 apart-by : (h : List Step) (note other : ClaimNote) (b : Bool) → same_way (way_of note) (way_of other) ≡ b →
-    kept h (way_of note) ≡ None → kept h (way_of other) ≡ Some other → b ≡ false
+    claim_out h (way_of note) ≡ None → claim_out h (way_of other) ≡ Some other → b ≡ false
 apart-by h note other true is home out =
-    let same : kept h (way_of note) ≡ Some other =
-    subst (λ (w : Way). kept h w ≡ Some other) (sym (way-is (way_of note) (way_of other) is)) out in
+    let same : claim_out h (way_of note) ≡ Some other =
+    subst (λ (w : Way). claim_out h w ≡ Some other) (sym (way-is (way_of note) (way_of other) is)) out in
     let no : None ≡ Some other = sym home ∙ same in
     absurd cc
 apart-by h note other false is home out = refl
 
-claim-leaves : (h : List Step) (worker : ℕ) (note other : ClaimNote) → kept h (way_of note) ≡ None →
-    kept h (way_of other) ≡ Some other → LeavesOut h (Claim worker (Some note)) other
+claim-leaves : (h : List Step) (worker : ℕ) (note other : ClaimNote) → claim_out h (way_of note) ≡ None →
+    claim_out h (way_of other) ≡ Some other → LeavesOut h (Claim worker (Some note)) other
 claim-leaves h worker note other home out =
     let apart : same_way (way_of note) (way_of other) ≡ false =
     apart-by h note other (same_way (way_of note) (way_of other)) refl home out in
-    record { kept = rw apart refl; away = refl }
+    record { claim_out = rw apart refl; away = refl }
 
-claimed-at : (start : Start) (h : List Step) (worker : ℕ) (job : JobParts) (jobs : ℕ → Option JobParts) (claim : ℕ)
+claimed-at : (start : SwitchStart) (h : List Step) (worker : ℕ) (job : JobParts) (jobs : ℕ → Option JobParts) (claim : ℕ)
     (b : Bool) → (job.note.claim == claim) ≡ b → IsLegal start (Claim worker (Some job.note) ∷ h) →
-    kept h (way_of job.note) ≡ None →
+    claim_out h (way_of job.note) ≡ None →
     JobStands start.rules (Claim worker (Some job.note) ∷ h) job.note.claim job job.note →
     JobAt start.rules h claim (jobs claim) (kept_job h claim) →
     JobAt start.rules (Claim worker (Some job.note) ∷ h) claim (if b then Some job else jobs claim)

@@ -9,8 +9,8 @@ use Rattle.circuit_model.specs.Rules.{Rules}
 use Rattle.switch_model.specs.History.Circuit.{is_live_circuit}
 use Rattle.switch_model.specs.Legal.{IsLegal}
 use Rattle.switch_model.specs.Names.{Way, same_way, way_of}
-use Rattle.switch_model.specs.Start.{Start}
-use Rattle.switch_model.specs.Waiting.Claims.{kept}
+use Rattle.switch_model.specs.Start.{SwitchStart}
+use Rattle.switch_model.specs.Waiting.Claims.{claim_out}
 use Rattle.switch_model.proofs.ClaimFinds.{way-is}
 use Rattle.switch_model.proofs.Common.{self_eq, same-number}
 use Rattle.switch_model.proofs.Ways.{brings_home, kept-other}
@@ -28,23 +28,23 @@ given-leaves : (h : List Step) (note : ClaimNote) (place : Option ℕ) (a : Back
     same_way (way_of note) (way_of other) ≡ false → LeavesOut h (GiveBack note place a) other
 given-leaves h note place a other apart =
     let away : brings_home other.circ.0 other.dir (GiveBack note place a) ≡ false = rw apart refl in
-    record { kept = kept-other h note place a other.circ.0 other.dir away; away = away }
+    record { claim_out = kept-other h note place a other.circ.0 other.dir away; away = away }
 
 pub given_back : (note : ClaimNote) (place : Option ℕ) (a : BackAnswer) → TakesHome (GiveBack note place a) note
 given_back note place a = record { jobs = λ h claim. refl; leaves = λ h other apart. given-leaves h note place a other apart }
 
 pub abandoned : (note : ClaimNote) (place : Option ℕ) (a : BackAnswer) → TakesHome (Abandon note place a) note
-abandoned note place a = record { jobs = λ h claim. refl; leaves = λ h other apart. record { kept = refl; away = refl } }
+abandoned note place a = record { jobs = λ h claim. refl; leaves = λ h other apart. record { claim_out = refl; away = refl } }
 
 -- what is kept by a number
 
-pub record Kept (rules : Rules) (h : List Step) (claim : ℕ) (k : Option ClaimNote) (job : JobParts) : Type 0 where
+pub record IsKeptJob (rules : Rules) (h : List Step) (claim : ℕ) (k : Option ClaimNote) (job : JobParts) : Type 0 where
   pub note : ClaimNote
   pub is : k ≡ Some note
   pub stands : JobStands rules h claim job note
 
 pub job_there : (rules : Rules) (h : List Step) (claim : ℕ) (o : Option JobParts) (k : Option ClaimNote)
-    (job : JobParts) → JobAt rules h claim o k → o ≡ Some job → Kept rules h claim k job
+    (job : JobParts) → JobAt rules h claim o k → o ≡ Some job → IsKeptJob rules h claim k job
 job_there rules h claim (Some found) (Some note) job at is =
     let same : found ≡ job = cc in
     record { note = note; is = refl; stands = subst (λ j. JobStands rules h claim j note) same at }
@@ -72,19 +72,19 @@ other-number note other claim apart number same =
 apart-by : (rules : Rules) (h : List Step) (claim number : ℕ) (job : JobParts) (note other : ClaimNote) (b : Bool) →
     same_way (way_of note) (way_of other) ≡ b → (note.claim == number) ≡ false → other.claim ≡ number →
     JobStands rules h claim job note →
-    is_live_circuit rules h other.circ.0 ≡ true → kept h (way_of other) ≡ Some other → b ≡ false
+    is_live_circuit rules h other.circ.0 ≡ true → claim_out h (way_of other) ≡ Some other → b ≡ false
 apart-by rules h claim number job note other true is differs counted stands live out =
     let same : way_of note ≡ way_of other = way-is (way_of note) (way_of other) is in
     let up : is_live_circuit rules h note.circ.0 ≡ true =
     subst (λ (w : Way). is_live_circuit rules h w.circ ≡ true) (sym same) live in
-    let own : kept h (way_of other) ≡ Some note = subst (λ (w : Way). kept h w ≡ Some note) same (stands.out up).kept in
+    let own : claim_out h (way_of other) ≡ Some note = subst (λ (w : Way). claim_out h w ≡ Some note) same (stands.out up).claim_out in
     let both : Some note ≡ Some other = sym own ∙ out in
     absurd (other-number note other number differs counted cc)
 apart-by rules h claim number job note other false is differs counted stands live out = refl
 
 -- the jobs without it
 
-returned-at : (start : Start) (h : List Step) (s : Step) (note : ClaimNote) (claim number : ℕ) (job : JobParts)
+returned-at : (start : SwitchStart) (h : List Step) (s : Step) (note : ClaimNote) (claim number : ℕ) (job : JobParts)
     (jobs : ℕ → Option JobParts) (b : Bool) → (note.claim == number) ≡ b → IsLegal start (s ∷ h) → TakesHome s note →
     JobStands start.rules h claim job note →
     JobAt start.rules h number (jobs number) (kept_job h number) →
@@ -96,7 +96,7 @@ returned-at start h s note claim number job jobs false is legal takes stands at 
     (apart-by start.rules h claim number job note other (same_way (way_of note) (way_of other)) refl is counted stands live
     out)) at
 
-pub jobs_returned : (start : Start) (h : List Step) (s : Step) (note : ClaimNote) (claim : ℕ) (job : JobParts)
+pub jobs_returned : (start : SwitchStart) (h : List Step) (s : Step) (note : ClaimNote) (claim : ℕ) (job : JobParts)
     (jobs now : ℕ → Option JobParts) → IsLegal start (s ∷ h) → TakesHome s note →
     JobStands start.rules h claim job note →
     ((number : ℕ) → now number ≡ (if claim == number then None else jobs number)) → JobsStand start.rules h jobs →

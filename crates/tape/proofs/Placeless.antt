@@ -8,10 +8,10 @@ use Rattle.switch_machine.specs.Stands.{Stands}
 use Rattle.switch_machine.specs.State.{State}
 use Rattle.switch_model.specs.Answers.Abandon.{abandon_answer}
 use Rattle.switch_model.specs.Answers.GiveBack.{give_back_answer}
-use Rattle.switch_model.specs.Start.{Start}
+use Rattle.switch_model.specs.Start.{SwitchStart}
 use Rattle.switch_core.specs.Started.{Started, SwitchStands}
 
-given-state : (start : Start) (s : State) (note : ClaimNote) (place : Option ℕ) (h : List Step) →
+given-state : (start : SwitchStart) (s : State) (note : ClaimNote) (place : Option ℕ) (h : List Step) →
     Gone ≡ give_back_answer start h note None →
     Stands start s (GiveBack note place Gone ∷ h) → Stands start s (GiveBack note None Gone ∷ h)
 given-state start s note place h gone st = record {
@@ -42,7 +42,7 @@ given_to_gone s note place h gone st = record {
   relays = record { count_is = st.relays.count_is; relay = λ c. st.relays.relay c };
 }
 
-abandoned-state : (start : Start) (s : State) (note : ClaimNote) (place : Option ℕ) (h : List Step) →
+abandoned-state : (start : SwitchStart) (s : State) (note : ClaimNote) (place : Option ℕ) (h : List Step) →
     Gone ≡ abandon_answer start h note None →
     Stands start s (Abandon note place Gone ∷ h) → Stands start s (Abandon note None Gone ∷ h)
 abandoned-state start s note place h gone st = record {

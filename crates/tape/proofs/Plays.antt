@@ -105,7 +105,7 @@ pub up_plays : (rules : Rules) (old new : Started) (jobs : ℕ → Option JobPar
 up_plays rules old new jobs slot side a answers more is other case written =
     plays rules (ChannelUp slot side) old new jobs (Steps.ChannelUp slot side a) (up_bytes a) answers more is
     (up_second _ _ a other case)
-    (record { jobs = λ h claim. refl; leaves = λ h note. record { kept = refl; away = refl }; own = tt })
+    (record { jobs = λ h claim. refl; leaves = λ h note. record { claim_out = refl; away = refl }; own = tt })
     (λ h said. record { makes = ap (λ x. Some (Steps.ChannelUp slot side x)) said; answers = ap up_bytes said }) written
 
 -- What an opening comes to, by its cell.
@@ -135,7 +135,7 @@ open_plays rules old new jobs chan y pad request id opening a kind answers more 
     (open_second _ _ a other case)) in
     plays rules (OpenCircuit chan y pad request) old new jobs
     (Steps.OpenCircuit chan request.id o.reply o.keys o.pad a) (open_bytes (opening_kind pad) a) answers more is adds
-    (record { jobs = λ h claim. refl; leaves = λ h note. record { kept = refl; away = refl }; own = tt })
+    (record { jobs = λ h claim. refl; leaves = λ h note. record { claim_out = refl; away = refl }; own = tt })
     (λ h said. record {
       makes = ap (λ x. Some (Steps.OpenCircuit chan request.id o.reply o.keys o.pad x)) said;
       answers = ap (open_bytes (opening_kind pad)) said;
@@ -150,7 +150,7 @@ pub take_plays : (rules : Rules) (old new : Started) (jobs : ℕ → Option JobP
 take_plays rules old new jobs chan cell a answers more is other case written =
     plays rules (Take chan (bare_cell cell)) old new jobs (Steps.Take chan (bare_cell cell) a)
     (take_bytes a) answers more is (bare_adds old new chan cell a (take_second _ _ a other case))
-    (record { jobs = λ h claim. refl; leaves = λ h note. record { kept = refl; away = refl }; own = tt })
+    (record { jobs = λ h claim. refl; leaves = λ h note. record { claim_out = refl; away = refl }; own = tt })
     (λ h said. record {
       makes = ap (λ x. Some (Steps.Take chan (bare_cell cell) x)) said;
       answers = ap take_bytes said;
@@ -163,7 +163,7 @@ pub next_plays : (rules : Rules) (old new : Started) (jobs : ℕ → Option JobP
     (record { switch = new; jobs = jobs }) answers more
 next_plays rules old new jobs chan tick a answers more is adds written =
     plays rules (NextCell chan tick) old new jobs (Steps.NextCell chan tick a) (next_bytes a) answers more is adds
-    (record { jobs = λ h claim. refl; leaves = λ h note. record { kept = refl; away = refl }; own = tt })
+    (record { jobs = λ h claim. refl; leaves = λ h note. record { claim_out = refl; away = refl }; own = tt })
     (λ h said. record {
       makes = ap (λ x. Some (Steps.NextCell chan tick x)) said;
       answers = ap next_bytes said;
@@ -177,7 +177,7 @@ pub tear_down_plays : (rules : Rules) (old new : Started) (jobs : ℕ → Option
 tear_down_plays rules old new jobs circ reason a answers more is adds written =
     plays rules (TearDown circ reason) old new jobs (Steps.TearDown circ reason a)
     (tear_down_bytes a) answers more is adds
-    (record { jobs = λ h claim. refl; leaves = λ h note. record { kept = refl; away = refl }; own = tt })
+    (record { jobs = λ h claim. refl; leaves = λ h note. record { claim_out = refl; away = refl }; own = tt })
     (λ h said. record {
       makes = ap (λ x. Some (Steps.TearDown circ reason x)) said;
       answers = ap tear_down_bytes said;

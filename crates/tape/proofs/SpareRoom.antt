@@ -9,14 +9,14 @@ use Rattle.tr_io.specs.declared.step.Step.{Step}
 use Rattle.tr_io.specs.declared.step.Step.TheVariants as Steps
 use Rattle.switch_machine.specs.Stands.{Stands}
 use Rattle.switch_machine.specs.State.{State}
-use Rattle.switch_model.specs.Start.{Start}
+use Rattle.switch_model.specs.Start.{SwitchStart}
 use Rattle.switch_core.specs.Started.{Started, SwitchStands, SwitchAdds}
 use Rattle.tape.specs.Fronts.{bare_body, bare_cell}
 
 abbrev cell_with : ℕ → ℕ → Body → Cell
 cell_with circ command body = record { circ = circ; command = command; body = body }
 
-bare_stands : (start : Start) (s : State) (chan : ChanNo) (circ command : ℕ) (body : Body) (a : TakeAnswer)
+bare_stands : (start : SwitchStart) (s : State) (chan : ChanNo) (circ command : ℕ) (body : Body) (a : TakeAnswer)
     (h : List Step) →
     Stands start s (Steps.Take chan (cell_with circ command body) a ∷ h) →
     Stands start s (Steps.Take chan (cell_with circ command (bare_body body)) a ∷ h)

@@ -9,11 +9,11 @@ use Rattle.tape.specs.Records.{front_of}
 use Rattle.tape.specs.Steps.{step_of, answer_of, with_step, steps_behind, answers_behind, steps_of, output, IsRecords}
 
 -- One record more was read.
-pub records_more : (bytes : List ℕ) (records : List Record) (rest behind : List ℕ) (r : Record) → IsRecords bytes records rest → front_of rest ≡ record_and r behind → IsRecords bytes (records ++ r ∷ []) behind
+pub records_more : (bytes : List ℕ) (records : List Record) (rest later_bytes : List ℕ) (r : Record) → IsRecords bytes records rest → front_of rest ≡ record_and r later_bytes → IsRecords bytes (records ++ r ∷ []) later_bytes
 unfolding IsRecords
-records_more bytes [] rest behind r read front = (behind, (ap front_of read ∙ front, refl))
-records_more bytes (first ∷ more) rest behind r read front =
-    (read.0, (read.1.0, records_more read.0 more rest behind r read.1.1 front))
+records_more bytes [] rest later_bytes r read front = (later_bytes, (ap front_of read ∙ front, refl))
+records_more bytes (first ∷ more) rest later_bytes r read front =
+    (read.0, (read.1.0, records_more read.0 more rest later_bytes r read.1.1 front))
 
 -- It makes one step more, if it makes one, and its answer is behind the others.
 pub steps_more : (rules : Rules) (h : List Step) (records : List Record) (r : Record) →
@@ -37,5 +37,5 @@ answers_append rules h (r ∷ records) more =
     ap (λ xs. answer_of rules h r ++ xs) (answers_append rules (with_step (step_of rules h r) h) records more)
     ∙ sym (append_assoc (answer_of rules h r) (answers_behind rules (with_step (step_of rules h r) h) records) (answers_behind rules (steps_behind rules (with_step (step_of rules h r) h) records) more))
 
-pub front_of_output : (rules : Rules) (records more : List Record) → (behind : List ℕ) × (output rules (records ++ more) ≡ output rules records ++ behind)
+pub front_of_output : (rules : Rules) (records more : List Record) → (later_bytes : List ℕ) × (output rules (records ++ more) ≡ output rules records ++ later_bytes)
 front_of_output rules records more = (answers_behind rules (steps_of rules records) more, answers_append rules [] records more)

@@ -11,7 +11,7 @@ use Rattle.switch_core.specs.declared.relay.Relay.{Relay}
 use Rattle.switch_machine.specs.State.{State, slot_at}
 use Rattle.switch_machine.specs.Machine.{new_state}
 use Rattle.switch_machine.proofs.Laws.{stands_new}
-use Rattle.switch_model.specs.Start.{Start}
+use Rattle.switch_model.specs.Start.{SwitchStart}
 use Rattle.tape.specs.declared.input.Ending.{Ending}
 use Rattle.tape.specs.declared.record.Record.{Record}
 use Rattle.tape.specs.Fronts.{record_and, less, no_record, unbuilt}
@@ -29,7 +29,7 @@ use Rattle.tape.proofs.Tapes.{records_more, steps_more, answers_more}
 
 -- What holds at each turn: the player stands for the steps of the records that were played, of which
 -- there is at most one for each byte.
-pub record Turn (rules : Rules) (tape first rest : List ℕ) (p : PlayerState) (answers : List ℕ) (contents now : Option (List ℕ)) (faults faults_now : ℕ) : Type 0 where
+pub record TapeTurn (rules : Rules) (tape first rest : List ℕ) (p : PlayerState) (answers : List ℕ) (contents now : Option (List ℕ)) (faults faults_now : ℕ) : Type 0 where
   pub counted : faults ≤ faults_now
   pub paid : p.switch.state.steps + length rest ≤ length tape
   pub records : List Record
@@ -40,11 +40,11 @@ pub record Turn (rules : Rules) (tape first rest : List ℕ) (p : PlayerState) (
 behind_player : (rules : Rules) (p : PlayerState) (records : List Record) → p.switch.start ≡ tape_start rules → PlayerStands rules p (steps_of rules records) → SwitchBehind rules records
 behind_player rules p records start stands = record { switch = p.switch; start = start; stands = stands.switch; own = stands.own }
 
-behind_turn : (rules : Rules) (tape first rest : List ℕ) (p : PlayerState) (answers : List ℕ) (contents now : Option (List ℕ)) (faults faults_now : ℕ) → (turn : Turn rules tape first rest p answers contents now faults faults_now) → SwitchBehind rules turn.records
+behind_turn : (rules : Rules) (tape first rest : List ℕ) (p : PlayerState) (answers : List ℕ) (contents now : Option (List ℕ)) (faults faults_now : ℕ) → (turn : TapeTurn rules tape first rest p answers contents now faults faults_now) → SwitchBehind rules turn.records
 behind_turn rules tape first rest p answers contents now faults faults_now turn = behind_player rules p turn.records turn.start turn.stands
 
 -- A new switch stands for the history without steps.
-new_stands : (start : Start) (state : State) (relays : List (Option Relay)) → state ≡ new_state → relays ≡ [] → SwitchStands (record { start = start; state = state; relays = relays }) []
+new_stands : (start : SwitchStart) (state : State) (relays : List (Option Relay)) → state ≡ new_state → relays ≡ [] → SwitchStands (record { start = start; state = state; relays = relays }) []
 unfolding slot_at
 new_stands start state relays new none = record {
   state = stands_new start state new;
@@ -61,7 +61,7 @@ new_player rules switch jobs new no_relays no_jobs = record {
 }
 
 pub first_turn : (rules : Rules) (tape first : List ℕ) (switch : Started) (jobs : ℕ → Option JobParts) (answers : List ℕ) (contents : Option (List ℕ)) (faults : ℕ) → length first ≤ length tape → switch.start ≡ tape_start rules →
-    switch.state ≡ new_state → switch.relays ≡ [] → ((claim : ℕ) → jobs claim ≡ None) → answers ≡ [] → Turn rules tape first first (record { switch = switch; jobs = jobs }) answers contents contents faults faults
+    switch.state ≡ new_state → switch.relays ≡ [] → ((claim : ℕ) → jobs claim ≡ None) → answers ≡ [] → TapeTurn rules tape first first (record { switch = switch; jobs = jobs }) answers contents contents faults faults
 unfolding IsRecords answers_behind steps_behind
 first_turn rules tape first switch jobs answers contents faults within started new no_relays no_jobs none = record {
   counted = omega arith;
@@ -119,16 +119,16 @@ breaks rules first rest records answers contents now after faults faults_now beh
 }
 
 -- A switch that was made for a tape's rules has them.
-pub made_so : (rules : Rules) (made : Start) → made ≡ tape_start rules → made ≡ tape_start made.rules
-made_so rules made is = is ∙ ap (λ (s : Start). tape_start s.rules) (sym is)
+pub made_so : (rules : Rules) (made : SwitchStart) → made ≡ tape_start rules → made ≡ tape_start made.rules
+made_so rules made is = is ∙ ap (λ (s : SwitchStart). tape_start s.rules) (sym is)
 
-played_under : (rules : Rules) (made : Start) (r : Record) (old new : PlayerState) (answers more : List ℕ) → made ≡ tape_start rules → PlaysOn made.rules r old new answers more → PlaysOn rules r old new answers more
-played_under rules made r old new answers more is plays = subst (λ (s : Start). PlaysOn s.rules r old new answers more) is plays
+played_under : (rules : Rules) (made : SwitchStart) (r : Record) (old new : PlayerState) (answers more : List ℕ) → made ≡ tape_start rules → PlaysOn made.rules r old new answers more → PlaysOn rules r old new answers more
+played_under rules made r old new answers more is plays = subst (λ (s : SwitchStart). PlaysOn s.rules r old new answers more) is plays
 
 -- The next turn.
-pub next_turn : (rules : Rules) (tape first rest behind : List ℕ) (old new : PlayerState) (r : Record) (answers more left : List ℕ) (contents now after : Option (List ℕ)) (faults faults_now faults_after : ℕ) → Turn rules tape first rest old answers contents now faults faults_now →
+pub next_turn : (rules : Rules) (tape first rest behind : List ℕ) (old new : PlayerState) (r : Record) (answers more left : List ℕ) (contents now after : Option (List ℕ)) (faults faults_now faults_after : ℕ) → TapeTurn rules tape first rest old answers contents now faults faults_now →
     record_and r behind ≡ front_of rest → length behind < length rest → PlaysOn old.switch.start.rules r old new answers more → new.switch.start ≡ old.switch.start → new.switch.state.steps ≤ old.switch.state.steps + 1 → HandedOn more left now after → faults_now ≤ faults_after →
-    Turn rules tape first behind new left contents after faults faults_after
+    TapeTurn rules tape first behind new left contents after faults faults_after
 next_turn rules tape first rest behind old new r answers more left contents now after faults faults_now faults_after turn front shorter plays started step handed counted =
     let on : PlaysOn rules r old new answers more = played_under rules old.switch.start r old new answers more turn.start plays in
     record {
@@ -144,13 +144,13 @@ next_turn rules tape first rest behind old new r answers more left contents now 
 
 -- The same turn by what the player was equal to.
 pub turn_of : (rules : Rules) (a b : Started) (j k : Jobs) (tape first rest : List ℕ) (answers : List ℕ) (contents now : Option (List ℕ)) (faults faults_now : ℕ) → a ≡ b → j ≡ k →
-    Turn rules tape first rest (player_state b k) answers contents now faults faults_now → Turn rules tape first rest (player_state a j) answers contents now faults faults_now
+    TapeTurn rules tape first rest (player_state b k) answers contents now faults faults_now → TapeTurn rules tape first rest (player_state a j) answers contents now faults faults_now
 turn_of rules a b j k tape first rest answers contents now faults faults_now is same turn =
-    subst (λ s. Turn rules tape first rest (player_state s j) answers contents now faults faults_now) (sym is)
-    (subst (λ x. Turn rules tape first rest (player_state b x) answers contents now faults faults_now) (sym same) turn)
+    subst (λ s. TapeTurn rules tape first rest (player_state s j) answers contents now faults faults_now) (sym is)
+    (subst (λ x. TapeTurn rules tape first rest (player_state b x) answers contents now faults faults_now) (sym same) turn)
 
 -- A turn in which the sink fails.
-pub turn_breaks : (rules : Rules) (tape first rest behind : List ℕ) (old new : PlayerState) (r : Record) (answers more : List ℕ) (contents now after : Option (List ℕ)) (faults faults_now faults_after : ℕ) → Turn rules tape first rest old answers contents now faults faults_now →
+pub turn_breaks : (rules : Rules) (tape first rest behind : List ℕ) (old new : PlayerState) (r : Record) (answers more : List ℕ) (contents now after : Option (List ℕ)) (faults faults_now faults_after : ℕ) → TapeTurn rules tape first rest old answers contents now faults faults_now →
     record_and r behind ≡ front_of rest → PlaysOn old.switch.start.rules r old new answers more → new.switch.start ≡ old.switch.start → IsPartWritten now more after → Rose faults_now faults_after → Broken rules first contents after faults faults_after
 turn_breaks rules tape first rest behind old new r answers more contents now after faults faults_now faults_after turn front plays started part rose =
     let on : PlaysOn rules r old new answers more = played_under rules old.switch.start r old new answers more turn.start plays in
@@ -172,19 +172,19 @@ pub unbuilt_at : (ending : Ending) (tape rest : List ℕ) (kind : ℕ) → unbui
 unfolding status_at
 unbuilt_at ending tape rest kind front = ap (status_by ending (length tape - length rest) rest) (sym front)
 
-pub stops : (rules : Rules) (status : Status) (ending : Ending) (tape first rest : List ℕ) (p : PlayerState) (answers : List ℕ) (contents now : Option (List ℕ)) (faults faults_now : ℕ) → Turn rules tape first rest p answers contents now faults faults_now →
+pub stops : (rules : Rules) (status : Status) (ending : Ending) (tape first rest : List ℕ) (p : PlayerState) (answers : List ℕ) (contents now : Option (List ℕ)) (faults faults_now : ℕ) → TapeTurn rules tape first rest p answers contents now faults faults_now →
     status_at ending (length tape - length rest) rest ≡ Some status → Stopped rules status ending tape first answers contents now
 stops rules status ending tape first rest p answers contents now faults faults_now turn at =
     record { records = turn.records; rest = rest; behind = behind_turn _ _ _ _ _ _ _ _ _ _ turn; gathered = turn.gathered; cause = inl at }
 
-pub stops_short : (rules : Rules) (status : Status) (ending : Ending) (tape first rest : List ℕ) (p : PlayerState) (answers : List ℕ) (contents now : Option (List ℕ)) (faults faults_now : ℕ) → Turn rules tape first rest p answers contents now faults faults_now →
+pub stops_short : (rules : Rules) (status : Status) (ending : Ending) (tape first rest : List ℕ) (p : PlayerState) (answers : List ℕ) (contents now : Option (List ℕ)) (faults faults_now : ℕ) → TapeTurn rules tape first rest p answers contents now faults faults_now →
     status ≡ Memory → Stopped rules status ending tape first answers contents now
 stops_short rules status ending tape first rest p answers contents now faults faults_now turn memory =
     record { records = turn.records; rest = rest; behind = behind_turn _ _ _ _ _ _ _ _ _ _ turn; gathered = turn.gathered; cause = inr memory }
 
 -- The rules that a tape says are those of the switch that was made for them.
-pub ahead_of : (rules : Rules) (made : Start) (tape first : List ℕ) → made ≡ tape_start rules → rules_and rules first ≡ rules_ahead tape → rules_ahead tape ≡ rules_and made.rules first
-ahead_of rules made tape first is ahead = sym ahead ∙ ap (λ (s : Start). rules_and s.rules first) (sym is)
+pub ahead_of : (rules : Rules) (made : SwitchStart) (tape first : List ℕ) → made ≡ tape_start rules → rules_and rules first ≡ rules_ahead tape → rules_ahead tape ≡ rules_and made.rules first
+ahead_of rules made tape first is ahead = sym ahead ∙ ap (λ (s : SwitchStart). rules_and s.rules first) (sym is)
 
 -- How the playing ends, once the last answers are written or the sink failed.
 pub ends_whole : (rules : Rules) (status : Status) (ending : Ending) (tape first answers last : List ℕ) (now : Option (List ℕ)) (w : SinkRun) → rules_ahead tape ≡ rules_and rules first → Stopped rules status ending tape first answers w.contents now → last ≡ answers → IsWritten now last w.contents_after → IsFlushed w → EndsPlay status ending tape w

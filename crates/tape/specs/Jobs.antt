@@ -6,7 +6,7 @@ use Rattle.tape.specs.declared.jobs.Jobs.{Jobs}
 use Rattle.tape.specs.declared.jobs.KeptJob.{KeptJob}
 
 abbrev pub job_of : KeptJob → JobParts
-job_of kept = kept.job
+job_of job_entry = job_entry.job
 
 -- The job with this claim number, if it is kept.
 abbrev pub job_at : Jobs → ℕ → Option JobParts

@@ -17,7 +17,7 @@ use Rattle.switch_model.specs.History.Circuit.{is_live_circuit}
 use Rattle.switch_model.specs.History.Legs.{circuits}
 use Rattle.switch_model.specs.History.Past.{Past, past}
 use Rattle.switch_model.specs.Names.{way_of}
-use Rattle.switch_model.specs.Waiting.Claims.{kept}
+use Rattle.switch_model.specs.Waiting.Claims.{claim_out}
 use Rattle.switch_model.specs.Waiting.Contents.{claimed_bodies}
 use Rattle.tape.specs.KeptJobs.{kept_job}
 
@@ -36,7 +36,7 @@ pub record WasClaimed (rules : Rules) (h : List Step) (job : JobParts) (note : C
 
 -- The claim is out, and the job has its direction's cipher.
 pub record IsOut (rules : Rules) (h : List Step) (job : JobParts) (note : ClaimNote) : Type 0 where
-  pub kept : kept h (way_of note) ≡ Some note
+  pub claim_out : claim_out h (way_of note) ≡ Some note
   pub cipher : job.cipher ≡ way_cipher rules (past rules h note.circ.0) note.dir
 
 -- A job that is kept by this claim number: its claim is out while its circuit is live.
@@ -45,7 +45,7 @@ pub record JobStands (rules : Rules) (h : List Step) (claim : ℕ) (job : JobPar
   pub number : note.claim ≡ claim
   pub switch : note.switch ≡ 0
   pub opened : note.circ.0 < circuits h
-  pub claimed : WasClaimed rules h job note
+  pub origin : WasClaimed rules h job note
   pub out : is_live_circuit rules h note.circ.0 ≡ true → IsOut rules h job note
 
 abbrev pub JobAt : Rules → List Step → ℕ → Option JobParts → Option ClaimNote → Type 0

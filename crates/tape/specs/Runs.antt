@@ -15,7 +15,7 @@ use Rattle.tr_io.specs.declared.step.Step.{Step}
 use Rattle.switch_model.specs.History.Circuit.{sent}
 use Rattle.switch_model.specs.Waiting.Queues.{circuit_log}
 use Rattle.switch_model.specs.Legal.{IsLegal}
-use Rattle.switch_model.specs.Start.{Start}
+use Rattle.switch_model.specs.Start.{SwitchStart}
 use Rattle.switch_core.specs.Started.{Started, SwitchStands}
 use Rattle.tape.specs.TapeRules.{RulesFrontOf, rules_and, less_than_rules, no_rules, rules_ahead}
 use Rattle.tape.specs.KeptJobs.{HasNoStranger}
@@ -94,7 +94,7 @@ IsFrontOfOutput rules first answers =
     (all : List Record) (rest : List ℕ) → IsRecords first all rest → BeginsNone rest → (behind : List ℕ) × (output rules all ≡ answers ++ behind)
 
 -- What was sent on leg k of circuit c begins what the one-thread relay sends there.
-abbrev pub BeginsOnLeg : Start → List Step → ℕ → ℕ → Type 0
+abbrev pub BeginsOnLeg : SwitchStart → List Step → ℕ → ℕ → Type 0
 BeginsOnLeg start h c k =
     (rest : List CircuitCell) × (sent start.rules h c k ++ rest ≡ one (circuit_log start.rules h c) k)
 

@@ -6,7 +6,7 @@ use Rattle.tr_io.specs.declared.names.ClaimNote.{ClaimNote}
 use Rattle.tr_io.specs.declared.step.Step.{Step}
 use Rattle.tr_io.specs.declared.step.Step.TheVariants as Steps
 use Rattle.switch_model.specs.Limits.{circuit_limit}
-use Rattle.switch_model.specs.Start.{Start}
+use Rattle.switch_model.specs.Start.{SwitchStart}
 use Rattle.switch_model.specs.Answers.ChannelUp.{channel_up_answer}
 use Rattle.switch_model.specs.Answers.OpenCircuit.{open_answer}
 use Rattle.switch_model.specs.Answers.Take.{take_answer}
@@ -29,7 +29,7 @@ use Rattle.tape.specs.Kinds.NextCell.{next_bytes}
 use Rattle.tape.specs.Kinds.TearDown.{tear_down_bytes}
 
 -- The switch that a tape is played on: its name is 0.
-abbrev pub tape_start : Rules → Start
+abbrev pub tape_start : Rules → SwitchStart
 tape_start rules = record { name = 0; rules = rules; circuits = circuit_limit }
 
 -- A job that the tape keeps comes back as it was given out, so that no place of it differs: worked,

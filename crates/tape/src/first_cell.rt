@@ -24,10 +24,10 @@ pub fn first_cell(alloc: Global, bytes: &[u8]) -> Result<Option<(Cell, &[u8])>, 
     ensures well_formed { IfOk result (λ found. IfSome found (λ x. IsWellFormed x.0)) }
     ensures shorter { IfOk result (λ found. IfSome found (λ x. length x.1.now < length bytes.now)) }
 {
-    let Some((cell, behind)) = split_cell(bytes) else {
+    let Some((cell, rest_bytes)) = split_cell(bytes) else {
         return Ok(None);
     };
-    Ok(Some((read_cell(alloc, cell)?, behind)))
+    Ok(Some((read_cell(alloc, cell)?, rest_bytes)))
 }
 
 /// The bytes of the cell that these begin with, if they have all of it, and those behind it.

@@ -60,7 +60,7 @@ impl Jobs {
         ensures job { result ≡ job_at self.old claim }
         ensures others { (other : ℕ) → job_at self.new other ≡ (if claim == other then None else job_at self.old other) }
     {
-        let kept = self.by_claim.remove(&claim)?;
-        Some(kept.into_job())
+        let job_entry = self.by_claim.remove(&claim)?;
+        Some(job_entry.into_job())
     }
 }

@@ -142,11 +142,11 @@ fn play_records<K: Sink>(
             return Ok(Status::Memory);
         };
         match front {
-            Front::Whole(record, behind) => {
+            Front::Whole(record, rest_bytes) => {
                 let Ok(()) = player.play(record) else {
                     return Ok(Status::Memory);
                 };
-                rest = behind;
+                rest = rest_bytes;
             }
             Front::Cut => return Ok(cut_status(input.ending, place, rest)),
             Front::Bad => return Ok(Status::BadTape(place)),

@@ -105,9 +105,9 @@ fn one_create_fast_is_answered(rt: HostRuntime) -> Result<(), Fail> {
 }
 
 /// The bytes behind the first so many.
-fn behind(bytes: &[u8], length: usize) -> Result<&[u8], &'static str> {
+fn bytes_after(bytes: &[u8], length: usize) -> Result<&[u8], &'static str> {
     match bytes.split_at_checked(length) {
-        Some((_, behind)) => Ok(behind),
+        Some((_, bytes_after)) => Ok(bytes_after),
         None => Err("too few bytes"),
     }
 }
@@ -119,14 +119,17 @@ fn one_padded_opening_is_answered(rt: HostRuntime) -> Result<(), Fail> {
     let mut padded = Vec::new(rt.alloc());
     put(&mut padded, front(plain.as_slice(), 6)?)?;
     put(&mut padded, &[0x0f])?;
-    put(&mut padded, front(behind(plain.as_slice(), 7)?, 28)?)?;
+    put(&mut padded, front(bytes_after(plain.as_slice(), 7)?, 28)?)?;
     put(&mut padded, &[0x5a; 16])?;
-    put(&mut padded, behind(plain.as_slice(), 35)?)?;
+    put(&mut padded, bytes_after(plain.as_slice(), 35)?)?;
     let run = play_tape(rt.alloc(), padded.as_slice(), 4096, &[], &[])?;
     let mut expected = Vec::new(rt.alloc());
     put(&mut expected, &UP)?;
     put(&mut expected, &[0x0f, 0, 0, 0, 0, 0, 0, 0, 0, 0])?;
-    put(&mut expected, behind(answers(rt.alloc())?.as_slice(), 20)?)?;
+    put(
+        &mut expected,
+        bytes_after(answers(rt.alloc())?.as_slice(), 20)?,
+    )?;
     assert_eq!(rt; run.status, Status::Done);
     assert_eq!(rt; run.sink.as_slice(), expected.as_slice());
     // The key is cut, and the cell is cut.

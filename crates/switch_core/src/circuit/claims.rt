@@ -23,9 +23,9 @@ impl Circuit {
     /// The first bodies that wait in a claim's direction go out with it. There is room then for what comes
     /// of them: a body and an order of each one forth, a cell of each one back.
     pub fn give_out(&mut self, note: ClaimNote) -> Result<(), AllocError>
-        requires none_out { (way_of_circuit self.old note.dir).kept ≡ None }
-        requires enough { note.count ≤ length (way_of_circuit self.old note.dir).waiting }
-        requires fits { self.old.forth.claimed + length self.old.forth.waiting < 2 ^ 64 }
+        requires none_out { (way_of_circuit self.old note.dir).claim_out ≡ None }
+        requires enough { note.count ≤ length (way_of_circuit self.old note.dir).waiting_bodies }
+        requires fits { self.old.forth.claimed_count + length self.old.forth.waiting_bodies < 2 ^ 64 }
         ensures ok { OnOk result (self.new ≡ with_claim note self.old) }
         ensures err { OnErr result (self.new ≡ self.old) }
     {
@@ -37,9 +37,9 @@ impl Circuit {
 
     /// The first bodies that wait forth go out. Each may package one body back and make one order.
     fn give_out_forth(&mut self, note: ClaimNote) -> Result<(), AllocError>
-        requires none_out { self.old.forth.kept ≡ None }
-        requires enough { note.count ≤ length self.old.forth.waiting }
-        requires fits { self.old.forth.claimed + length self.old.forth.waiting < 2 ^ 64 }
+        requires none_out { self.old.forth.claim_out ≡ None }
+        requires enough { note.count ≤ length self.old.forth.waiting_bodies }
+        requires fits { self.old.forth.claimed_count + length self.old.forth.waiting_bodies < 2 ^ 64 }
         ensures ok { OnOk result (self.new ≡ record self.old { forth = claimed_way note self.old.forth }) }
         ensures err { OnErr result (self.new ≡ self.old) }
     {
@@ -51,9 +51,9 @@ impl Circuit {
 
     /// The first bodies that wait back go out. Each will be a cell on the leg.
     fn give_out_back(&mut self, note: ClaimNote) -> Result<(), AllocError>
-        requires none_out { self.old.back.kept ≡ None }
-        requires enough { note.count ≤ length self.old.back.waiting }
-        requires fits { self.old.forth.claimed < 2 ^ 64 }
+        requires none_out { self.old.back.claim_out ≡ None }
+        requires enough { note.count ≤ length self.old.back.waiting_bodies }
+        requires fits { self.old.forth.claimed_count < 2 ^ 64 }
         ensures ok { OnOk result (self.new ≡ record self.old { back = claimed_way note self.old.back }) }
         ensures err { OnErr result (self.new ≡ self.old) }
     {

@@ -9,7 +9,7 @@ use tr_io::names::{ClaimNote, Dir};
 impl Circuit {
     /// The note of the claim that is out of a direction.
     pub fn note_out(&self, dir: Dir) -> Option<ClaimNote>
-        ensures { result ≡ kept_note (way_of_circuit self.now dir).kept }
+        ensures { result ≡ kept_note (way_of_circuit self.now dir).claim_out }
     {
         match dir {
             Dir::Forth => self.forth.note_out(),

@@ -10,8 +10,8 @@ impl Circuit {
     /// The bodies of the backward claim come home sealed as these: they are the next cells of the leg towards the
     /// client. It takes no memory.
     pub fn seal_back(&mut self, sealed: &[Opened])
-        requires count { length sealed.now ≡ kept_length self.old.back.kept }
-        requires out { kept_length self.old.back.kept ≤ self.old.back.claimed }
+        requires count { length sealed.now ≡ kept_length self.old.back.claim_out }
+        requires out { kept_length self.old.back.claim_out ≤ self.old.back.claimed_count }
         ensures { self.new ≡ with_sealed (sealed_cells_of sealed.now) self.old }
     {
         for number in 0..sealed.len() {

@@ -36,7 +36,7 @@ pub fn slot_bodies(
 /// The bodies of a claim go out with it.
 pub fn give_out_of(slot: &mut Option<Circuit>, note: ClaimNote) -> Result<(), AllocError>
     requires claim { MayClaim slot.old note }
-    requires fits { IfSome slot.old (λ x. x.forth.claimed + length x.forth.waiting < 2 ^ 64) }
+    requires fits { IfSome slot.old (λ x. x.forth.claimed_count + length x.forth.waiting_bodies < 2 ^ 64) }
     ensures ok { OnOk result (slot.new ≡ option_map (with_claim note) slot.old) }
     ensures err { OnErr result (slot.new ≡ slot.old) }
 {

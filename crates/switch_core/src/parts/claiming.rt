@@ -46,7 +46,7 @@ impl Parts {
             worker,
             circ: CircNo(offer.circ as u64),
             dir: offer.dir,
-            first: way.claimed(),
+            first: way.claimed_count(),
             count: way.claim_size(),
         })
     }

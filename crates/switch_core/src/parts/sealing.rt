@@ -15,8 +15,8 @@ impl Parts {
     pub fn seal_back(&mut self, circ: CircNo, sealed: &[Opened])
         requires steps { self.old.steps < 2 ^ 62 }
         requires live { IsTrue (is_some (slot_at self.old.circuits circ.0)) }
-        requires count { IfSome (slot_at self.old.circuits circ.0) (λ x. length sealed.now ≡ kept_length x.back.kept) }
-        requires out { IfSome (slot_at self.old.circuits circ.0) (λ x. kept_length x.back.kept ≤ x.back.claimed) }
+        requires count { IfSome (slot_at self.old.circuits circ.0) (λ x. length sealed.now ≡ kept_length x.back.claim_out) }
+        requires out { IfSome (slot_at self.old.circuits circ.0) (λ x. kept_length x.back.claim_out ≤ x.back.claimed_count) }
         ensures { self.new ≡ sealed_by self.old circ.0 (sealed_cells_of sealed.now) }
     {
         let slot = &mut self.circuits[circ.0 as usize];

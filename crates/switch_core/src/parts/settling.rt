@@ -23,20 +23,20 @@ impl Parts {
         circ: CircNo,
         relay: &mut RelayCircuit,
         rules: &Rules,
-        opened: &[Opened],
+        opened_bodies: &[Opened],
     ) -> BackAnswer
         requires steps { self.old.steps < 2 ^ 62 }
         requires live { IsTrue (is_some (slot_at self.old.circuits circ.0)) }
-        requires count { IfSome (slot_at self.old.circuits circ.0) (λ x. length opened.now ≡ kept_length x.forth.kept) }
-        requires most { length opened.now ≤ 32 }
+        requires count { IfSome (slot_at self.old.circuits circ.0) (λ x. length opened_bodies.now ≡ kept_length x.forth.claim_out) }
+        requires most { length opened_bodies.now ≤ 32 }
         requires calls { IfSome (slot_at self.old.circuits circ.0) (λ x. CallsFit (home_count x.forth) relay.old) }
         ensures steps { self.new.steps ≡ self.old.steps + 1 }
-        ensures grown { CallsGrow (length opened.now) relay.old relay.new }
-        ensures settles { PartsSettle (rules_of rules.now) self.old self.new circ.0 relay.old relay.new opened.now result }
+        ensures grown { CallsGrow (length opened_bodies.now) relay.old relay.new }
+        ensures settles { PartsSettle (rules_of rules.now) self.old self.new circ.0 relay.old relay.new opened_bodies.now result }
     {
         let mut counters = self.counters;
         let slot = &mut self.circuits[circ.0 as usize];
-        let reason = settle_forth_of(slot, relay, rules, &mut counters, opened);
+        let reason = settle_forth_of(slot, relay, rules, &mut counters, opened_bodies);
         let answer = self.finish(circ, reason);
         self.counters.bodies = counters.bodies;
         self.counters.dial_orders = counters.dial_orders;

@@ -51,8 +51,8 @@ fn an_abandoned_job_of_another_switch_is_a_strangers(rt: HostRuntime) -> Result<
         switch.channel_up(0, Side::PeerOpened),
         UpAnswer::Up(ChanNo(0))
     );
-    let opened = switch.open_circuit(ChanNo(0), 0x8000_0001, &opening);
-    assert_eq!(rt; opened, OpenAnswer::Opened(CircNo(0)));
+    let open_answer = switch.open_circuit(ChanNo(0), 0x8000_0001, &opening);
+    assert_eq!(rt; open_answer, OpenAnswer::Opened(CircNo(0)));
     let answer = switch.abandon(job(rt.alloc(), 1)?);
     let why = Difference::Note {
         kept: None,
@@ -71,8 +71,8 @@ fn an_abandoned_job_finds_its_circuit_gone(rt: HostRuntime) -> Result<(), Fail> 
         switch.channel_up(0, Side::PeerOpened),
         UpAnswer::Up(ChanNo(0))
     );
-    let opened = switch.open_circuit(ChanNo(0), 0x8000_0001, &opening);
-    assert_eq!(rt; opened, OpenAnswer::Opened(CircNo(0)));
+    let open_answer = switch.open_circuit(ChanNo(0), 0x8000_0001, &opening);
+    assert_eq!(rt; open_answer, OpenAnswer::Opened(CircNo(0)));
     assert_eq!(rt; switch.tear_down(CircNo(0), 8), BackAnswer::Down(8));
     assert_eq!(rt; switch.abandon(job(rt.alloc(), 0)?), BackAnswer::Gone);
     assert_eq!(rt; switch.steps(), 4);

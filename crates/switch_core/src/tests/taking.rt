@@ -61,8 +61,8 @@ fn relay_cells_wait(rt: HostRuntime) -> Result<(), Fail> {
 #[test]
 fn other_cells_are_passed_over(rt: HostRuntime) -> Result<(), Fail> {
     let mut switch = with_two_circuits(rt.alloc())?;
-    let gone = switch.take(ChanNo(1), &cell(circ_id(0), 3));
-    assert_eq!(rt; gone, TakeAnswer::PassedOver(Why::NoChannel));
+    let down_answer = switch.take(ChanNo(1), &cell(circ_id(0), 3));
+    assert_eq!(rt; down_answer, TakeAnswer::PassedOver(Why::NoChannel));
     let padding = switch.take(CHANNEL, &cell(0, 0));
     assert_eq!(rt; padding, TakeAnswer::PassedOver(Why::Padding));
     let negotiation = switch.take(CHANNEL, &cell(0, 12));
@@ -90,8 +90,12 @@ fn a_destroy_ends_its_circuit_without_one_of_ours(rt: HostRuntime) -> Result<(),
     assert!(rt; switch.next_cell(CHANNEL, 0).is_none());
     let again = switch.take(CHANNEL, &cell(circ_id(0), 3));
     assert_eq!(rt; again, TakeAnswer::PassedOver(Why::NoCircuit));
-    let opened = switch.open_circuit(CHANNEL, circ_id(0), &opening_at(rt.alloc(), circ_id(0), 5)?);
-    assert_eq!(rt; opened, OpenAnswer::Opened(CircNo(2)));
+    let open_answer = switch.open_circuit(
+        CHANNEL,
+        circ_id(0),
+        &opening_at(rt.alloc(), circ_id(0), 5)?,
+    );
+    assert_eq!(rt; open_answer, OpenAnswer::Opened(CircNo(2)));
     Ok(())
 }
 
@@ -118,8 +122,8 @@ fn destroys_that_cross_free_the_circid(rt: HostRuntime) -> Result<(), Fail> {
     let reply = switch.next_cell(CHANNEL, 0).ok_or("a reply")?;
     assert_eq!(rt; reply.circ, circ_id(1));
     assert!(rt; switch.next_cell(CHANNEL, 0).is_none());
-    let opened = switch.open_circuit(CHANNEL, circ_id(0), &opening);
-    assert_eq!(rt; opened, OpenAnswer::Opened(CircNo(2)));
+    let open_answer = switch.open_circuit(CHANNEL, circ_id(0), &opening);
+    assert_eq!(rt; open_answer, OpenAnswer::Opened(CircNo(2)));
     Ok(())
 }
 

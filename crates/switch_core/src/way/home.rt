@@ -10,7 +10,7 @@ use tr_io::names::ClaimNote;
 impl Way {
     /// The note of the claim that is out.
     pub fn note_out(&self) -> Option<ClaimNote>
-        ensures { result ≡ kept_note self.now.state.kept }
+        ensures { result ≡ kept_note self.now.state.claim_out }
     {
         self.claim
     }

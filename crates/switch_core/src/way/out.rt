@@ -28,23 +28,23 @@ impl Way {
     }
 
     /// How many bodies were claimed.
-    pub fn claimed(&self) -> u64
-        ensures { result ≡ self.now.state.claimed }
+    pub fn claimed_count(&self) -> u64
+        ensures { result ≡ self.now.state.claimed_count }
     {
-        self.claimed
+        self.claimed_count
     }
 
     /// How many bodies a claim would take out.
     pub fn claim_size(&self) -> u32
-        ensures { result ≡ min claim_limit (length self.now.state.waiting) }
+        ensures { result ≡ min claim_limit (length self.now.state.waiting_bodies) }
     {
-        let waiting = self.bodies.len() - self.out_count();
-        waiting.min(MOST_CLAIMED) as u32
+        let waiting_count = self.bodies.len() - self.out_count();
+        waiting_count.min(MOST_CLAIMED) as u32
     }
 
     /// How many bodies are out.
     pub fn out_count(&self) -> usize
-        ensures { result ≡ kept_length self.now.state.kept }
+        ensures { result ≡ kept_length self.now.state.claim_out }
     {
         match &self.claim {
             Some(note) => note.count as usize,
@@ -54,9 +54,9 @@ impl Way {
 
     /// A copy of the payloads of the first bodies that wait, where no claim is out.
     pub fn first_bodies(&self, alloc: Global, count: u32) -> Result<List<[u8; 509]>, AllocError>
-        requires none_out { self.now.state.kept ≡ None }
-        requires enough { count ≤ length self.now.state.waiting }
-        ensures { IfOk result (λ bodies. bodies.items ≡ first_bodies count self.now.state.waiting) }
+        requires none_out { self.now.state.claim_out ≡ None }
+        requires enough { count ≤ length self.now.state.waiting_bodies }
+        ensures { IfOk result (λ bodies. bodies.items ≡ first_bodies count self.now.state.waiting_bodies) }
     {
         let mut payloads = List::with_room(alloc, count)?;
         for place in 0..count as usize {
@@ -67,13 +67,13 @@ impl Way {
 
     /// The first bodies that wait go out with a claim. They stay where they are.
     pub fn give_out(&mut self, note: ClaimNote)
-        requires none_out { self.old.state.kept ≡ None }
-        requires enough { note.count ≤ length self.old.state.waiting }
-        requires fits { self.old.state.claimed + note.count < 2 ^ 64 }
+        requires none_out { self.old.state.claim_out ≡ None }
+        requires enough { note.count ≤ length self.old.state.waiting_bodies }
+        requires fits { self.old.state.claimed_count + note.count < 2 ^ 64 }
         ensures state { self.new.state ≡ claimed_way note self.old.state }
         ensures spare { self.new.spare ≡ self.old.spare }
     {
-        self.claimed += note.count as u64;
+        self.claimed_count += note.count as u64;
         self.claim = Some(note);
     }
 }

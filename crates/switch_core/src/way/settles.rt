@@ -23,8 +23,8 @@ impl Way {
 
     /// The command of the cell of this number among those of the claim that is out.
     pub fn command_out(&self, number: usize) -> u8
-        requires { number < kept_length self.now.state.kept }
-        ensures { result ≡ command_at number (kept_cells self.now.state.kept) }
+        requires { number < kept_length self.now.state.claim_out }
+        ensures { result ≡ command_at number (kept_cells self.now.state.claim_out) }
     {
         self.bodies[number].command
     }

@@ -22,7 +22,7 @@ use Rattle.switch_model.specs.History.Circuit.{events, is_accepted_return, is_li
 use Rattle.switch_model.specs.History.EdgePast.{edge_past}
 use Rattle.switch_model.specs.History.Legs.{holds_id}
 use Rattle.switch_model.specs.History.Past.{past}
-use Rattle.switch_model.specs.Start.{Start}
+use Rattle.switch_model.specs.Start.{SwitchStart}
 use Rattle.switch_model.specs.Waiting.Lanes.{lane}
 use Rattle.tor_spec.specs.Reasons.{destroy_internal}
 use Rattle.tr_io.specs.declared.answers.BackAnswer.{BackAnswer}
@@ -33,7 +33,7 @@ use Rattle.tr_io.specs.declared.step.Step.TheVariants.{Abandon}
 abbrev giving_up : ClaimNote → Option ℕ → ℕ → Step
 giving_up n place reason = Abandon n place (BackAnswer.Down reason)
 
-torn-kept : (start : Start) (s : State) (h : List Step) (n : ClaimNote) (place : Option ℕ) (reason : ℕ) (x : CircuitState) → Stands start s h → slot_at s.circuits n.circ.0 ≡ Some x → BackAnswer.Down reason ≡ abandon_answer start h n place →
+torn-kept : (start : SwitchStart) (s : State) (h : List Step) (n : ClaimNote) (place : Option ℕ) (reason : ℕ) (x : CircuitState) → Stands start s h → slot_at s.circuits n.circ.0 ≡ Some x → BackAnswer.Down reason ≡ abandon_answer start h n place →
     Stands start (torn_state start.rules (events start.rules h n.circ.0) (counted s) n.circ.0 reason x) (giving_up n place reason ∷ h)
 torn-kept start s h n place reason x st found said =
     let rules = start.rules in
@@ -66,7 +66,7 @@ torn-kept start s h n place reason x st found said =
     })
 
 -- a refusal changes nothing
-refused-kept : (start : Start) (s : State) (h : List Step) (n : ClaimNote) (place : Option ℕ) (a : BackAnswer) → is_accepted_return a ≡ false → Stands start s h → a ≡ abandon_answer start h n place → Stands start (counted s) (Abandon n place a ∷ h)
+refused-kept : (start : SwitchStart) (s : State) (h : List Step) (n : ClaimNote) (place : Option ℕ) (a : BackAnswer) → is_accepted_return a ≡ false → Stands start s h → a ≡ abandon_answer start h n place → Stands start (counted s) (Abandon n place a ∷ h)
 refused-kept start s h n place BackAnswer.Settled refused st said = absurd cc
 refused-kept start s h n place (BackAnswer.Down reason) refused st said = absurd cc
 refused-kept start s h n place BackAnswer.Gone refused st said =
@@ -81,7 +81,7 @@ refused-state rules ev s n (Some x) (BackAnswer.Down reason) refused = absurd cc
 refused-state rules ev s n (Some x) BackAnswer.Gone refused = refl
 refused-state rules ev s n (Some x) (BackAnswer.Stranger why) refused = refl
 
-by-answer : (start : Start) (s : State) (h : List Step) (n : ClaimNote) (place : Option ℕ) (a : BackAnswer) → Stands start s h → abandon_result start.name s n place ≡ a → a ≡ abandon_answer start h n place →
+by-answer : (start : SwitchStart) (s : State) (h : List Step) (n : ClaimNote) (place : Option ℕ) (a : BackAnswer) → Stands start s h → abandon_result start.name s n place ≡ a → a ≡ abandon_answer start h n place →
     Stands start (abandon_state_of start.rules (events start.rules h n.circ.0) s n (slot_at s.circuits n.circ.0) a) (Abandon n place a ∷ h)
 by-answer start s h n place BackAnswer.Settled st same said =
     let accepted = accepts start.name s n place (λ x. BackAnswer.Down destroy_internal) BackAnswer.Settled refl same in
@@ -94,6 +94,6 @@ by-answer start s h n place BackAnswer.Gone st same said =
 by-answer start s h n place (BackAnswer.Stranger why) st same said =
     rw (refused-state start.rules (events start.rules h n.circ.0) s n (slot_at s.circuits n.circ.0) (BackAnswer.Stranger why) refl) (refused-kept start s h n place (BackAnswer.Stranger why) refl st said)
 
-pub abandon_kept : (start : Start) (s : State) (h : List Step) (n : ClaimNote) (place : Option ℕ) → Stands start s h →
+pub abandon_kept : (start : SwitchStart) (s : State) (h : List Step) (n : ClaimNote) (place : Option ℕ) → Stands start s h →
     Stands start (abandon_state start.name start.rules (events start.rules h) s n place) (Abandon n place (abandon_result start.name s n place) ∷ h)
 abandon_kept start s h n place st = by-answer start s h n place (abandon_result start.name s n place) st refl (abandon_said start s h n place st)

@@ -12,7 +12,7 @@ use Rattle.tr_io.specs.declared.names.Dir.TheVariants.{Back, Forth}
 use Rattle.tr_io.specs.declared.step.Step.{Step}
 use Rattle.switch_model.specs.History.EdgePast.{numbers_of}
 use Rattle.switch_model.specs.Names.{Way, same_way}
-use Rattle.switch_model.specs.Waiting.Claims.{claimed, count_way, first_waiting, is_ready, waits_here}
+use Rattle.switch_model.specs.Waiting.Claims.{claimed_count, count_way, first_waiting, is_ready, waits_here}
 use Rattle.switch_machine.specs.Calls.Claim.{Offer, offered, sooner, soonest_below}
 use Rattle.switch_machine.specs.State.{State}
 use Rattle.switch_model.proofs.ClaimFinds.{way-is, ways-same}
@@ -32,7 +32,7 @@ IsSoonest offers (Some w) = LeastOffer offers w
 
 -- what the history's directions offer among some bodies
 abbrev pub offers_on : Rules → List Step → List Way → Way → Option ℕ
-offers_on rules h l w = if is_ready rules h w then slice_get (numbers_of w l) (claimed h w) else None
+offers_on rules h l w = if is_ready rules h w then slice_get (numbers_of w l) (claimed_count h w) else None
 
 pub some-none : {A : Type 0} (o : Option A) (x : A) → o ≡ None → o ≡ Some x → ⊥
 some-none o x e f = cc
@@ -68,23 +68,23 @@ at-end w older true i is none le =
     omega (arith, numbers-length w older)
 at-end w older false i is none le = absurd cc
 
-waits-not : (rules : Rules) (h : List Step) (v : Way) (older : List Way) (i : ℕ) → is_ready rules h v ≡ true → claimed h v ≡ count_way v older → waits_here rules h v older ≡ false → ⊥
-waits-not rules h v older i ready last not = let yes : nat_le (claimed h v) (count_way v older) ≡ true = grind (arith, nat_tests) in let both : (true && true) ≡ false = rw (ready, yes) at not in cc
+waits-not : (rules : Rules) (h : List Step) (v : Way) (older : List Way) (i : ℕ) → is_ready rules h v ≡ true → claimed_count h v ≡ count_way v older → waits_here rules h v older ≡ false → ⊥
+waits-not rules h v older i ready last not = let yes : nat_le (claimed_count h v) (count_way v older) ≡ true = grind (arith, nat_tests) in let both : (true && true) ≡ false = rw (ready, yes) at not in cc
 
 here : (rules : Rules) (h : List Step) (way : Way) (older : List Way) → IsSoonest (offers_on rules h older) None → (b : Bool) → waits_here rules h way older ≡ b →
     IsSoonest (offers_on rules h (way ∷ older)) (if b then Some way else None)
 here rules h way older none true is =
     let ready = and-first (is_ready rules h way) _ is in
-    let last = at-end way older (is_ready rules h way) (claimed h way) ready (none way) (and-second (is_ready rules h way) _ is) in
+    let last = at-end way older (is_ready rules h way) (claimed_count h way) ready (none way) (and-second (is_ready rules h way) _ is) in
     record {
       number = length older;
-      has = rw (ready, self-way way) (get-at-end (numbers_of way older) (length older) (claimed h way) (last ∙ sym (numbers-length way older)));
-      least = λ v n e. elim (offer-by v older (same_way way v) (is_ready rules h v) (claimed h v) n e) [
+      has = rw (ready, self-way way) (get-at-end (numbers_of way older) (length older) (claimed_count h way) (last ∙ sym (numbers-length way older)));
+      least = λ v n e. elim (offer-by v older (same_way way v) (is_ready rules h v) (claimed_count h v) n e) [
         | inl f ↦ absurd (some-none (offers_on rules h older v) n (none v) f)
         | inr f ↦ omega (arith, f.1.1.1)
       ];
     }
-here rules h way older none false is = λ v. none-if (offers_on rules h (way ∷ older) v) (λ n e. elim (offer-by v older (same_way way v) (is_ready rules h v) (claimed h v) n e) [
+here rules h way older none false is = λ v. none-if (offers_on rules h (way ∷ older) v) (λ n e. elim (offer-by v older (same_way way v) (is_ready rules h v) (claimed_count h v) n e) [
   | inl f ↦ some-none (offers_on rules h older v) n (none v) f
   | inr f ↦ waits-not rules h v older 0 f.0 f.1.1.0 (subst (λ w. waits_here rules h w older ≡ false) (way-is way v f.1.0) is)
 ])
@@ -94,10 +94,10 @@ found-by : (rules : Rules) (h : List Step) (way : Way) (older : List Way) (o : O
 found-by rules h way older None none = here rules h way older none (waits_here rules h way older) refl
 found-by rules h way older (Some w) own = record {
   number = own.number;
-  has = offer-more w older (same_way way w) (is_ready rules h w) (claimed h w) own.number own.has;
-  least = λ v n e. elim (offer-by v older (same_way way v) (is_ready rules h v) (claimed h v) n e) [
+  has = offer-more w older (same_way way w) (is_ready rules h w) (claimed_count h w) own.number own.has;
+  least = λ v n e. elim (offer-by v older (same_way way v) (is_ready rules h v) (claimed_count h v) n e) [
     | inl f ↦ own.least v n f
-    | inr f ↦ omega (arith, f.1.1.1, offer-below rules h older w (is_ready rules h w) (claimed h w) own.number own.has)
+    | inr f ↦ omega (arith, f.1.1.1, offer-below rules h older w (is_ready rules h w) (claimed_count h w) own.number own.has)
   ];
 }
 

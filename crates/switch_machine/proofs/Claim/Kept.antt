@@ -16,7 +16,7 @@ use Rattle.switch_model.specs.History.Past.{past}
 use Rattle.switch_model.specs.Legal.{IsRightStep}
 use Rattle.switch_model.specs.Limits.{worker_limit}
 use Rattle.switch_model.specs.Names.{Way, same_dir, same_way, way_of}
-use Rattle.switch_model.specs.Start.{Start}
+use Rattle.switch_model.specs.Start.{SwitchStart}
 use Rattle.switch_model.specs.Waiting.Counts.{cell_count, tick}
 use Rattle.switch_model.specs.Waiting.Dials.{dials_made, was_handed_out}
 use Rattle.switch_model.specs.Waiting.Lanes.{lane}
@@ -56,22 +56,22 @@ moved a b c d e f g = append_assoc a b c ∙ ap (λ l. a ++ l) f ∙ ap (λ l. l
 
 -- the first bodies of a direction go out
 way-claimed : (c : ℕ) (d : Dir) (w : WayState) (settled given : List CircuitCell) (count : ℕ) (known : Option ClaimNote) (all : List ℕ) (n : ClaimNote) → WayStands c d w settled given count known all →
-    is_none w.kept ≡ true → n.circ.0 ≡ c → n.dir ≡ d → n.first ≡ w.claimed → n.count ≤ length w.waiting → WayStands c d (claimed_way n w) settled given (count + n.count) (Some n) all
+    is_none w.claim_out ≡ true → n.circ.0 ≡ c → n.dir ≡ d → n.first ≡ w.claimed_count → n.count ≤ length w.waiting_bodies → WayStands c d (claimed_way n w) settled given (count + n.count) (Some n) all
 way-claimed c d w settled given count known all n own home circ dir first few =
-    let none = none-kept w.kept home in
-    let zero_out : length (kept_cells w.kept) ≡ 0 = rw none refl in
-    let taken : length (map cell_waiting (take n.count w.waiting)) ≡ n.count = length-map (take n.count w.waiting) cell_waiting ∙ length-taken n.count w.waiting few in
-    let numbers_taken : length (map number_waiting (take n.count w.waiting)) ≡ n.count = length-map (take n.count w.waiting) number_waiting ∙ length-taken n.count w.waiting few in
+    let none = none-kept w.claim_out home in
+    let zero_out : length (kept_cells w.claim_out) ≡ 0 = rw none refl in
+    let taken : length (map cell_waiting (take n.count w.waiting_bodies)) ≡ n.count = length-map (take n.count w.waiting_bodies) cell_waiting ∙ length-taken n.count w.waiting_bodies few in
+    let numbers_taken : length (map number_waiting (take n.count w.waiting_bodies)) ≡ n.count = length-map (take n.count w.waiting_bodies) number_waiting ∙ length-taken n.count w.waiting_bodies few in
     record {
-      claimed = omega (arith, own.claimed);
+      claimed_count = omega (arith, own.claimed_count);
       out = omega (arith, own.out, taken, zero_out);
-      kept = refl;
+      claim_out = refl;
       noted = record { circ = circ; dir_is = dir; first = omega (arith, first, own.out, zero_out); count = sym taken };
-      cells = moved settled (map cell_waiting (take n.count w.waiting)) (map cell_waiting (drop n.count w.waiting)) (map cell_waiting w.waiting) given (map-cut cell_waiting n.count w.waiting)
-          (subst (λ l. settled ++ l ++ map cell_waiting w.waiting ≡ given) none own.cells);
-      claimed_numbers = own.claimed_numbers ++ map number_waiting (take n.count w.waiting);
+      cells = moved settled (map cell_waiting (take n.count w.waiting_bodies)) (map cell_waiting (drop n.count w.waiting_bodies)) (map cell_waiting w.waiting_bodies) given (map-cut cell_waiting n.count w.waiting_bodies)
+          (subst (λ l. settled ++ l ++ map cell_waiting w.waiting_bodies ≡ given) none own.cells);
+      claimed_numbers = own.claimed_numbers ++ map number_waiting (take n.count w.waiting_bodies);
       claimed_all = grind (arith, common_steps, numbers_taken, own.claimed_all);
-      numbers = append_assoc own.claimed_numbers _ _ ∙ ap (λ l. own.claimed_numbers ++ l) (map-cut number_waiting n.count w.waiting) ∙ own.numbers;
+      numbers = append_assoc own.claimed_numbers _ _ ∙ ap (λ l. own.claimed_numbers ++ l) (map-cut number_waiting n.count w.waiting_bodies) ∙ own.numbers;
     }
 
 own-way : (n : ClaimNote) (c : ℕ) (d : Dir) → n.circ.0 ≡ c → n.dir ≡ d → same_way (way_of n) (record { circ = c; dir = d }) ≡ true
@@ -81,7 +81,7 @@ other-way : (n : ClaimNote) (c : ℕ) (d e : Dir) → n.dir ≡ e → same_dir e
 other-way n c d e dir unlike = rw (dir, unlike) (and-false (n.circ.0 == c))
 
 circuit-claimed : (rules : Rules) (closes : List Ordered) (h : List Step) (worker c : ℕ) (n : ClaimNote) (d : Dir) (x : CircuitState) → CircuitStands rules closes x c (past rules h c) (λ j. holds_id h c j) (edge_past rules h c) →
-    n.circ.0 ≡ c → n.dir ≡ d → is_none (way_of_circuit x d).kept ≡ true → n.first ≡ (way_of_circuit x d).claimed → n.count ≤ length (way_of_circuit x d).waiting →
+    n.circ.0 ≡ c → n.dir ≡ d → is_none (way_of_circuit x d).claim_out ≡ true → n.first ≡ (way_of_circuit x d).claimed_count → n.count ≤ length (way_of_circuit x d).waiting_bodies →
     CircuitStands rules closes (with_way x d (claimed_way n (way_of_circuit x d))) c (past rules (Claim worker (Some n) ∷ h) c) (λ j. holds_id (Claim worker (Some n) ∷ h) c j) (edge_past rules (Claim worker (Some n) ∷ h) c)
 circuit-claimed rules closes h worker c n Forth x own circ dir home first few = record {
   live = own.live;
@@ -124,9 +124,9 @@ same-dial x Back w = refl
 record ClaimOf (s : State) (n : ClaimNote) : Type 0 where
   pub circuit : CircuitState
   pub found : slot_at s.circuits n.circ.0 ≡ Some circuit
-  pub home : is_none (way_of_circuit circuit n.dir).kept ≡ true
-  pub first : n.first ≡ (way_of_circuit circuit n.dir).claimed
-  pub few : n.count ≤ length (way_of_circuit circuit n.dir).waiting
+  pub home : is_none (way_of_circuit circuit n.dir).claim_out ≡ true
+  pub first : n.first ≡ (way_of_circuit circuit n.dir).claimed_count
+  pub few : n.count ≤ length (way_of_circuit circuit n.dir).waiting_bodies
 
 home-by : (b : Bool) (o : Option ℕ) (n : ℕ) → (if b then o else None) ≡ Some n → b ≡ true
 home-by true o n e = refl
@@ -140,16 +140,16 @@ claim-of_by name s worker number w n (Some x) found has is =
     subst (ClaimOf s) it (record {
       circuit = x;
       found = found;
-      home = home-by (is_none (way_of_circuit x w.dir).kept) (first_number (way_of_circuit x w.dir).waiting) number has;
+      home = home-by (is_none (way_of_circuit x w.dir).claim_out) (first_number (way_of_circuit x w.dir).waiting_bodies) number has;
       first = refl;
       few = omega arith;
     })
 
-claim-of : (start : Start) (s : State) (worker : ℕ) (o : Option Offer) (n : ClaimNote) → IsBest (offered s) (λ v. v.circ < length s.circuits) o → claim_result_of start.name s worker o ≡ Some n → ClaimOf s n
+claim-of : (start : SwitchStart) (s : State) (worker : ℕ) (o : Option Offer) (n : ClaimNote) → IsBest (offered s) (λ v. v.circ < length s.circuits) o → claim_result_of start.name s worker o ≡ Some n → ClaimOf s n
 claim-of start s worker None n best is = absurd cc
 claim-of start s worker (Some b) n best is = claim-of_by start.name s worker b.number b.way n (slot_at s.circuits b.way.circ) refl best.has is
 
-claim-out : (start : Start) (s : State) (h : List Step) (worker : ℕ) (n : ClaimNote) → Stands start s h → ClaimOf s n → IsRightStep start h (Claim worker (Some n)) →
+claim-out : (start : SwitchStart) (s : State) (h : List Step) (worker : ℕ) (n : ClaimNote) → Stands start s h → ClaimOf s n → IsRightStep start h (Claim worker (Some n)) →
     Stands start (claim_state_by s (Some n)) (Claim worker (Some n) ∷ h)
 claim-out start s h worker n st of right =
     let rules = start.rules in
@@ -186,10 +186,10 @@ claim-out start s h worker n st of right =
       not_yet = st.not_yet;
     })
 
-claim-by : (start : Start) (s : State) (h : List Step) (worker : ℕ) (o : Option ClaimNote) → claim_result start.name s worker ≡ o → IsRightStep start h (Claim worker o) → Stands start s h →
+claim-by : (start : SwitchStart) (s : State) (h : List Step) (worker : ℕ) (o : Option ClaimNote) → claim_result start.name s worker ≡ o → IsRightStep start h (Claim worker o) → Stands start s h →
     Stands start (claim_state_by s o) (Claim worker o ∷ h)
 claim-by start s h worker (Some n) is right st = claim-out start s h worker n st (claim-of start s worker (soonest s) n (soonest-best s (length s.circuits)) is) right
 claim-by start s h worker None is right st = step-alone start s h (Claim worker None) refl right st
 
-pub claim_kept : (start : Start) (s : State) (h : List Step) (worker : ℕ) → worker < worker_limit → Stands start s h → Stands start (claim_state start.name s worker) (Claim worker (claim_result start.name s worker) ∷ h)
+pub claim_kept : (start : SwitchStart) (s : State) (h : List Step) (worker : ℕ) → worker < worker_limit → Stands start s h → Stands start (claim_state start.name s worker) (Claim worker (claim_result start.name s worker) ∷ h)
 claim_kept start s h worker known st = claim-by start s h worker (claim_result start.name s worker) refl (known, claim_said start s h worker st) st

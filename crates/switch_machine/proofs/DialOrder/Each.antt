@@ -4,7 +4,7 @@ use Rattle.std.proofs.Common.{◌≡◌, ℕ, ◌&&◌, ◌<◌, Bool, true, fal
 use Rattle.std.specs.List.{AllByRecursion, filter}
 use Rattle.tr_io.specs.declared.dials.DialStep.{DialStep}
 use Rattle.tr_io.specs.declared.step.Step.{Step}
-use Rattle.switch_model.specs.Start.{Start}
+use Rattle.switch_model.specs.Start.{SwitchStart}
 use Rattle.switch_model.specs.Answers.DialOrder.{first_dial}
 use Rattle.switch_model.specs.Legal.{IsDialOrder, IsOutAgain}
 use Rattle.switch_model.specs.Waiting.Dials.{Dial, dials, dials_made, is_open, was_handed_out}
@@ -19,13 +19,13 @@ use Rattle.switch_machine.proofs.DialOrder.Open.{open-in, state_of}
 use Rattle.switch_machine.proofs.DialOrder.Said.{dial_order_said, step-said}
 
 -- A state with this answer.
-pub record Answers (start : Start) (h : List Step) (a : Option DialStep) : Type 0 where
+pub record Answers (start : SwitchStart) (h : List Step) (a : Option DialStep) : Type 0 where
   pub state : State
   pub stands : Stands start state h
   pub answer : dial_order_result state ≡ a
 
 -- any orders that are out may be handed out again
-again-free : (start : Start) (s : State) (h : List Step) (again : List ℕ) → Stands start s h →
+again-free : (start : SwitchStart) (s : State) (h : List Step) (again : List ℕ) → Stands start s h →
     AllByRecursion (λ c. is_handed_out (dial_in s c) ≡ true) again → AreOnce again → Stands start (record s { again = again }) h
 again-free start s h again st out once = record {
   steps = st.steps;
@@ -40,7 +40,7 @@ again-free start s h again st out once = record {
   not_yet = st.not_yet;
 }
 
-oldest-each : (start : Start) (s : State) (h : List Step) (a : Option DialStep) → Stands start s h →
+oldest-each : (start : SwitchStart) (s : State) (h : List Step) (a : Option DialStep) → Stands start s h →
     first_dial h (dials start.rules h) ≡ a → Answers start h a
 oldest-each start s h a st same =
     let stands : Stands start (record s { again = [] }) h = again-free start s h [] st tt tt in
@@ -68,7 +68,7 @@ passed : (test : Dial → Bool) (l : List Dial) (d : Dial) → IsIn d (filter te
 passed test [] d inside = absurd inside
 passed test (first ∷ l) d inside = passed-by test first d l (filter test l) (test first) refl (passed test l d) inside
 
-out-each : (start : Start) (s : State) (h : List Step) (order : DialStep) → Stands start s h →
+out-each : (start : SwitchStart) (s : State) (h : List Step) (order : DialStep) → Stands start s h →
     IsOutAgain start.rules h order → Answers start h (Some order)
 out-each start s h order st is =
     let rules = start.rules in
@@ -86,7 +86,7 @@ out-each start s h order st is =
           (step-said start t h dial.circ (state_of (was_handed_out h) dial) dial stands refl refl ∙ sym is.given));
     }
 
-pub order-each : (start : Start) (s : State) (h : List Step) (a : Option DialStep) → Stands start s h →
+pub order-each : (start : SwitchStart) (s : State) (h : List Step) (a : Option DialStep) → Stands start s h →
     IsDialOrder start.rules h a → Answers start h a
 order-each start s h None st none = oldest-each start s h None st (ap (first_dial h) none)
 order-each start s h (Some order) st (inl same) = oldest-each start s h (Some order) st (sym same)

@@ -3,7 +3,7 @@ use Rattle.std.proofs.Common.{◌≡◌, ℕ, ◌≤◌, ◌==◌, Bool, true, f
 use Rattle.std.specs.List.{AllByRecursion, filter}
 use Rattle.tr_io.specs.declared.step.Step.{Step}
 use Rattle.tr_io.specs.declared.step.Step.TheVariants.{DialOrder}
-use Rattle.switch_model.specs.Start.{Start}
+use Rattle.switch_model.specs.Start.{SwitchStart}
 use Rattle.switch_model.specs.History.EdgePast.{edge_past}
 use Rattle.switch_model.specs.History.Legs.{at, holds_id}
 use Rattle.switch_model.specs.History.Past.{past}
@@ -35,7 +35,7 @@ abbrev giving : State → OpenDial → Step
 giving s given = DialOrder (Some (order_step s given))
 
 -- an order that is handed out again was handed out before
-again-kept : (start : Start) (s : State) (h : List Step) (c : ℕ) (again : List ℕ) (o : Option DialState) → Stands start s h →
+again-kept : (start : SwitchStart) (s : State) (h : List Step) (c : ℕ) (again : List ℕ) (o : Option DialState) → Stands start s h →
     s.again ≡ c ∷ again → dial_in s c ≡ o → is_handed_out o ≡ true →
     IsDialOrder start.rules h (option_map (order_step s) (option_map (dial_of c) o)) →
     Stands start (dial_order_state_by s (c ∷ again)) (DialOrder (option_map (order_step s) (option_map (dial_of c) o)) ∷ h)
@@ -71,7 +71,7 @@ again-kept start s h c again (Some x) st listed has out right =
     }
 
 -- no other circuit's last order has its number
-apart-by : (start : Start) (s : State) (h : List Step) (c d : ℕ) (x : DialState) (last : Dial) →
+apart-by : (start : SwitchStart) (s : State) (h : List Step) (c d : ℕ) (x : DialState) (last : Dial) →
     (it : IsOpenOf start.rules h c x) → (c == d) ≡ false → last_of (filter (is_from d) (dials_made start.rules h)) ≡ Some last →
     (x.order == last.order) ≡ false
 apart-by start s h c d x last it other is =
@@ -88,7 +88,7 @@ same-last : (o : Option Dial) (d e : Dial) → o ≡ Some d → o ≡ Some e →
 same-last o d e is other = cc
 
 -- the oldest that waits is handed out
-given-kept : (start : Start) (s : State) (h : List Step) (given : OpenDial) (x : CircuitState) → Stands start s h →
+given-kept : (start : SwitchStart) (s : State) (h : List Step) (given : OpenDial) (x : CircuitState) → Stands start s h →
     s.again ≡ [] → slot_at s.circuits given.circ ≡ Some x → x.dial ≡ Some given.dial → given.dial.handed_out ≡ false →
     IsDialOrder start.rules h (Some (order_step s given)) →
     Stands start (record (counted s) { circuits = with_slot s.circuits given.circ (Some (circuit_dialled x)) })
@@ -141,7 +141,7 @@ given-kept start s h given x st none found has never right =
       not_yet = st.not_yet;
     }
 
-none-kept : (start : Start) (s : State) (h : List Step) → Stands start s h → IsDialOrder start.rules h None →
+none-kept : (start : SwitchStart) (s : State) (h : List Step) → Stands start s h → IsDialOrder start.rules h None →
     Stands start (counted s) (DialOrder None ∷ h)
 none-kept start s h st right = step-alone start s h (DialOrder None) refl (tt, right) st
 
@@ -150,7 +150,7 @@ with-dial : (slots : List (Option CircuitState)) (c : ℕ) (o : Option CircuitSt
 with-dial slots c None dial found has = absurd cc
 with-dial slots c (Some x) dial found has = (x, (found, has))
 
-oldest-kept : (start : Start) (s : State) (h : List Step) (o : Option OpenDial) → Stands start s h → s.again ≡ [] →
+oldest-kept : (start : SwitchStart) (s : State) (h : List Step) (o : Option OpenDial) → Stands start s h → s.again ≡ [] →
     OldestIs (offers_of s) (length s.circuits) o → IsDialOrder start.rules h (option_map (order_step s) o) →
     Stands start (dialled_state s o) (DialOrder (option_map (order_step s) o) ∷ h)
 oldest-kept start s h None st none best right = none-kept start s h st right
@@ -159,13 +159,13 @@ oldest-kept start s h (Some given) st none own right =
     let it = with-dial s.circuits given.circ (slot_at s.circuits given.circ) given.dial refl w.is_open in
     rw it.1.0 (given-kept start s h given it.0 st none it.1.0 it.1.1 w.never right)
 
-kept-by : (start : Start) (s : State) (h : List Step) (again : List ℕ) → Stands start s h → s.again ≡ again →
+kept-by : (start : SwitchStart) (s : State) (h : List Step) (again : List ℕ) → Stands start s h → s.again ≡ again →
     AllByRecursion (λ c. is_handed_out (dial_in s c) ≡ true) again →
     IsDialOrder start.rules h (option_map (order_step s) (next_dial_by s again)) →
     Stands start (dial_order_state_by s again) (DialOrder (option_map (order_step s) (next_dial_by s again)) ∷ h)
 kept-by start s h [] st same out right = oldest-kept start s h (oldest_dial s) st same (oldest-best s (length s.circuits)) right
 kept-by start s h (c ∷ again) st same out right = again-kept start s h c again (dial_in s c) st same refl out.0 right
 
-pub dial_order_kept : (start : Start) (s : State) (h : List Step) → Stands start s h →
+pub dial_order_kept : (start : SwitchStart) (s : State) (h : List Step) → Stands start s h →
     Stands start (dial_order_state s) (DialOrder (dial_order_result s) ∷ h)
 dial_order_kept start s h st = kept-by start s h s.again st refl st.dials.are_out (dial_order_right start s h st)

@@ -4,7 +4,7 @@ use Rattle.std.specs.List.{filter}
 use Rattle.circuit_model.specs.NextHop.{next_hop}
 use Rattle.circuit_model.specs.Rules.{Rules}
 use Rattle.tr_io.specs.declared.step.Step.{Step}
-use Rattle.switch_model.specs.Start.{Start}
+use Rattle.switch_model.specs.Start.{SwitchStart}
 use Rattle.switch_model.specs.Answers.EdgeOut.{Ordered}
 use Rattle.switch_model.specs.History.Circuit.{is_live_circuit}
 use Rattle.switch_model.specs.History.EdgePast.{edge_past}
@@ -33,7 +33,7 @@ open-at rules closes h c None dial gone alive dials last = let both : false ≡ 
 open-at rules closes h c (Some x) dial own alive dials last = rw (own.dial, dials, last) refl
 
 -- an order that is open by the history is the open order of its circuit
-pub open-in : (start : Start) (s : State) (h : List Step) (dial : Dial) → Stands start s h →
+pub open-in : (start : SwitchStart) (s : State) (h : List Step) (dial : Dial) → Stands start s h →
     IsIn dial (dials_made start.rules h) → is_open start.rules h dial ≡ true →
     dial_in s dial.circ ≡ Some (state_of (was_handed_out h) dial)
 open-in start s h dial st inside open_is =
@@ -88,6 +88,6 @@ open-of rules closes h c (Some x) y own has =
       is = it.1.1.1;
     }
 
-pub in-open : (start : Start) (s : State) (h : List Step) (c : ℕ) (y : DialState) → Stands start s h → dial_in s c ≡ Some y →
+pub in-open : (start : SwitchStart) (s : State) (h : List Step) (c : ℕ) (y : DialState) → Stands start s h → dial_in s c ≡ Some y →
     IsOpenOf start.rules h c y
 in-open start s h c y st has = open-of start.rules s.last_closes h c (slot_at s.circuits c) y (st.circuits.circuit c) has

@@ -2,7 +2,7 @@
 use Rattle.std.proofs.Common.{◌≡◌, ℕ, zero, suc, length, List, Option, Some, None, refl}
 use Rattle.tr_io.specs.declared.names.Dest.{Dest}
 use Rattle.tr_io.specs.declared.step.Step.{Step}
-use Rattle.switch_model.specs.Start.{Start}
+use Rattle.switch_model.specs.Start.{SwitchStart}
 use Rattle.switch_model.specs.History.Channels.{channels}
 use Rattle.switch_model.specs.Waiting.Dials.{channel_to, leads_to}
 use Rattle.switch_machine.specs.Calls.DialOrder.{dialled_below, is_dialled_to}
@@ -15,7 +15,7 @@ leads-said : (to : Dest) (x : Option ChannelState) (p : ChannelPast) → Channel
 leads-said to None p gone = rw gone.channel refl
 leads-said to (Some x) p own = rw own.channel refl
 
-below-said : (start : Start) (s : State) (h : List Step) (to : Dest) (n : ℕ) → Stands start s h →
+below-said : (start : SwitchStart) (s : State) (h : List Step) (to : Dest) (n : ℕ) → Stands start s h →
     dialled_below s.channels to n ≡ channel_to h to n
 below-said start s h to zero st = refl
 below-said start s h to (suc n) st = rw (
@@ -24,6 +24,6 @@ below-said start s h to (suc n) st = rw (
       (channel_past start.rules h n) (st.channels.channel n),
 ) refl
 
-pub over-said : (start : Start) (s : State) (h : List Step) (to : Dest) → Stands start s h →
+pub over-said : (start : SwitchStart) (s : State) (h : List Step) (to : Dest) → Stands start s h →
     dialled_below s.channels to (length s.channels) ≡ channel_to h to (channels h)
 over-said start s h to st = rw (st.numbers.channels) (below-said start s h to (channels h) st)

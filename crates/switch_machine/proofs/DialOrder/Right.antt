@@ -4,7 +4,7 @@ use Rattle.std.specs.List.{AllByRecursion, Contains}
 use Rattle.circuit_model.specs.Rules.{Rules}
 use Rattle.tr_io.specs.declared.dials.DialStep.{DialStep}
 use Rattle.tr_io.specs.declared.step.Step.{Step}
-use Rattle.switch_model.specs.Start.{Start}
+use Rattle.switch_model.specs.Start.{SwitchStart}
 use Rattle.switch_model.specs.Answers.DialOrder.{dial_order_answer, first_dial}
 use Rattle.switch_model.specs.Legal.{IsDialOrder, IsOutAgain}
 use Rattle.switch_model.specs.Waiting.Dials.{Dial, dial_step, dials, dials_out, is_from}
@@ -36,7 +36,7 @@ found-in : (c : ℕ) (l : List Dial) (d : Dial) → find (is_from c) l ≡ Some 
 found-in c [] d found = absurd cc
 found-in c (first ∷ l) d found = found-by c first d l (is_from c first) found (found-in c l d)
 
-again-right : (start : Start) (s : State) (h : List Step) (c : ℕ) (o : Option DialState) → Stands start s h →
+again-right : (start : SwitchStart) (s : State) (h : List Step) (c : ℕ) (o : Option DialState) → Stands start s h →
     dial_in s c ≡ o → is_handed_out o ≡ true →
     IsDialOrder start.rules h (option_map (order_step s) (option_map (dial_of c) o))
 again-right start s h c None st has out = absurd cc
@@ -46,7 +46,7 @@ again-right start s h c (Some x) st has out =
     { dial = it.made; out = found-in c (dials_out start.rules h) it.made it.found; given = refl } in
     subst (λ t. IsDialOrder start.rules h (Some t)) (sym it.step_is) (inr is_out)
 
-right-by : (start : Start) (s : State) (h : List Step) (again : List ℕ) → s.again ≡ again → Stands start s h →
+right-by : (start : SwitchStart) (s : State) (h : List Step) (again : List ℕ) → s.again ≡ again → Stands start s h →
     AllByRecursion (λ c. is_handed_out (dial_in s c) ≡ true) again →
     IsDialOrder start.rules h (option_map (order_step s) (next_dial_by s again))
 right-by start s h [] same st out =
@@ -54,6 +54,6 @@ right-by start s h [] same st out =
     same (dial_order_said start s h st))
 right-by start s h (c ∷ again) same st out = again-right start s h c (dial_in s c) st refl out.0
 
-pub dial_order_right : (start : Start) (s : State) (h : List Step) → Stands start s h →
+pub dial_order_right : (start : SwitchStart) (s : State) (h : List Step) → Stands start s h →
     IsDialOrder start.rules h (dial_order_result s)
 dial_order_right start s h st = right-by start s h s.again refl st st.dials.are_out

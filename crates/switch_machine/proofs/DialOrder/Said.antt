@@ -4,7 +4,7 @@ use Rattle.std.specs.List.{AllByRecursion, filter}
 use Rattle.circuit_model.specs.Rules.{Rules}
 use Rattle.tr_io.specs.declared.dials.DialStep.{DialStep}
 use Rattle.tr_io.specs.declared.step.Step.{Step}
-use Rattle.switch_model.specs.Start.{Start}
+use Rattle.switch_model.specs.Start.{SwitchStart}
 use Rattle.switch_model.specs.Answers.DialOrder.{first_dial}
 use Rattle.switch_model.specs.Waiting.Dials.{Dial, dial_step, dials, dials_made, dials_out, is_from, is_open, was_handed_out}
 use Rattle.switch_machine.specs.Calls.DialMemory.{dial_order_by}
@@ -22,7 +22,7 @@ use Rattle.switch_machine.proofs.DialOrder.Over.{over-said}
 use Rattle.switch_machine.proofs.Slots.{slot_at-inside}
 
 -- an order of the history, as it is handed out
-pub step-said : (start : Start) (s : State) (h : List Step) (c : ℕ) (x : DialState) (d : Dial) → Stands start s h →
+pub step-said : (start : SwitchStart) (s : State) (h : List Step) (c : ℕ) (x : DialState) (d : Dial) → Stands start s h →
     d.circ ≡ c → x ≡ state_of (was_handed_out h) d → order_step s (dial_of c x) ≡ dial_step h d
 step-said start s h c x d st here is = rw (is, ← here, over-said start s h d.to st) refl
 
@@ -35,7 +35,7 @@ not-true : (b : Bool) → not b ≡ true → b ≡ false
 not-true true e = absurd cc
 not-true false e = refl
 
-offered : (start : Start) (s : State) (h : List Step) (d : Dial) → Stands start s h → IsIn d (dials_made start.rules h) →
+offered : (start : SwitchStart) (s : State) (h : List Step) (d : Dial) → Stands start s h → IsIn d (dials_made start.rules h) →
     waits start.rules h d ≡ true →
     (dial_in s d.circ ≡ Some (state_of (was_handed_out h) d)) ×
     (offers_of s d.circ ≡ Some (dial_of d.circ (state_of (was_handed_out h) d)))
@@ -50,11 +50,11 @@ inside-circuits slots c None x found has = absurd cc
 inside-circuits slots c (Some y) x found has = slot_at-inside slots c y found
 
 -- an order of the state that waits, by the history
-waits-made : (start : Start) (s : State) (h : List Step) (c : ℕ) (x : DialState) → x.handed_out ≡ false →
+waits-made : (start : SwitchStart) (s : State) (h : List Step) (c : ℕ) (x : DialState) → x.handed_out ≡ false →
     (it : IsOpenOf start.rules h c x) → was_handed_out h it.made.order ≡ false
 waits-made start s h c x never it = subst (λ (y : DialState). y.handed_out ≡ false) it.is never
 
-agree : (start : Start) (s : State) (h : List Step) (o : Option OpenDial) (u : Option Dial) → Stands start s h →
+agree : (start : SwitchStart) (s : State) (h : List Step) (o : Option OpenDial) (u : Option Dial) → Stands start s h →
     OldestIs (offers_of s) (length s.circuits) o → IsFirst (waits start.rules h) (dials_made start.rules h) u →
     option_map (order_step s) o ≡ option_map (dial_step h) u
 agree start s h None None st best first = refl
@@ -91,13 +91,13 @@ only-one rules h c d e here one other =
     let last : last_of (filter (is_from c) (dials_made rules h)) ≡ Some e = subst
     (λ n. last_of (filter (is_from n) (dials_made rules h)) ≡ Some e) here one in cc
 
-pub record IsGivenAgain (start : Start) (s : State) (h : List Step) (c : ℕ) (x : DialState) : Type 0 where
+pub record IsGivenAgain (start : SwitchStart) (s : State) (h : List Step) (c : ℕ) (x : DialState) : Type 0 where
   pub made : Dial
   pub found : find (is_from c) (dials_out start.rules h) ≡ Some made
   pub step_is : order_step s (dial_of c x) ≡ dial_step h made
   pub handed_out : was_handed_out h x.order ≡ true
 
-pub again-given : (start : Start) (s : State) (h : List Step) (c : ℕ) (x : DialState) → Stands start s h →
+pub again-given : (start : SwitchStart) (s : State) (h : List Step) (c : ℕ) (x : DialState) → Stands start s h →
     dial_in s c ≡ Some x → x.handed_out ≡ true → IsGivenAgain start s h c x
 again-given start s h c x st has out =
     let rules = start.rules in
@@ -116,7 +116,7 @@ again-given start s h c x st has out =
       handed_out = subst (λ (y : DialState). was_handed_out h y.order ≡ true) (sym it.is) handed;
     }
 
-again-by : (start : Start) (s : State) (h : List Step) (c : ℕ) (o : Option DialState) → Stands start s h → dial_in s c ≡ o →
+again-by : (start : SwitchStart) (s : State) (h : List Step) (c : ℕ) (o : Option DialState) → Stands start s h → dial_in s c ≡ o →
     is_handed_out o ≡ true →
     option_map (order_step s) (option_map (dial_of c) o) ≡ option_map (dial_step h) (find (is_from c) (dials_out start.rules h))
 again-by start s h c None st has out = absurd cc
@@ -124,7 +124,7 @@ again-by start s h c (Some x) st has out =
     let it = again-given start s h c x st has out in
     rw it.found (ap (λ (t : DialStep). Some t) it.step_is)
 
-said-by : (start : Start) (s : State) (h : List Step) (again : List ℕ) → Stands start s h →
+said-by : (start : SwitchStart) (s : State) (h : List Step) (again : List ℕ) → Stands start s h →
     AllByRecursion (λ c. is_handed_out (dial_in s c) ≡ true) again →
     option_map (order_step s) (next_dial_by s again) ≡ dial_order_by start.rules h again
 said-by start s h [] st out =
@@ -134,6 +134,6 @@ said-by start s h [] st out =
     ∙ sym (first-mapped h (dials start.rules h))
 said-by start s h (c ∷ again) st out = again-by start s h c (dial_in s c) st refl out.0
 
-pub dial_order_said : (start : Start) (s : State) (h : List Step) → Stands start s h →
+pub dial_order_said : (start : SwitchStart) (s : State) (h : List Step) → Stands start s h →
     dial_order_result s ≡ dial_order_by start.rules h s.again
 dial_order_said start s h st = said-by start s h s.again st st.dials.are_out

@@ -12,7 +12,7 @@ use Rattle.tr_io.specs.declared.names.ClaimNote.{ClaimNote}
 pub record Accepts (s : State) (n : ClaimNote) (place : Option ℕ) (answer : CircuitState → BackAnswer) (a : BackAnswer) : Type 0 where
   pub circuit : CircuitState
   pub found : slot_at s.circuits n.circ.0 ≡ Some circuit
-  pub is : is_note n (kept_note (way_of_circuit circuit n.dir).kept) ≡ true
+  pub is : is_note n (kept_note (way_of_circuit circuit n.dir).claim_out) ≡ true
   pub nothing_differs : place ≡ None
   pub says : answer circuit ≡ a
 
@@ -31,7 +31,7 @@ accepts-on : (s : State) (n : ClaimNote) (place : Option ℕ) (x : Option Circui
     return_result_on n place x answer ≡ a → Accepts s n place answer a
 accepts-on s n place None answer a found accepted same = absurd (not-refused BackAnswer.Gone a refl same accepted)
 accepts-on s n place (Some x) answer a found accepted same =
-    let noted = passes (is_note n (kept_note (way_of_circuit x n.dir).kept)) (BackAnswer.Stranger (Difference.Note (kept_note (way_of_circuit x n.dir).kept) n)) (returned n place (answer x)) a refl same accepted in
+    let noted = passes (is_note n (kept_note (way_of_circuit x n.dir).claim_out)) (BackAnswer.Stranger (Difference.Note (kept_note (way_of_circuit x n.dir).claim_out) n)) (returned n place (answer x)) a refl same accepted in
     let here = nowhere n place (answer x) a noted.1 accepted in
     record { circuit = x; found = found; is = noted.0; nothing_differs = here.0; says = here.1 }
 

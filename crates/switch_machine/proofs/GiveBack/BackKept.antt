@@ -35,7 +35,7 @@ use Rattle.switch_model.specs.History.EdgePast.{edge_past}
 use Rattle.switch_model.specs.History.Legs.{at, holds_id}
 use Rattle.switch_model.specs.History.Past.{past}
 use Rattle.switch_model.specs.Names.{Leg}
-use Rattle.switch_model.specs.Start.{Start}
+use Rattle.switch_model.specs.Start.{SwitchStart}
 use Rattle.switch_model.specs.Waiting.Claims.{born_bodies}
 use Rattle.switch_model.specs.Waiting.Counts.{cell_count, tick}
 use Rattle.switch_model.specs.Waiting.Dials.{asked, dials_made}
@@ -100,7 +100,7 @@ used-alike legs more waits chan id None same used = tt
 used-alike legs more waits chan id (Some leg) same (inl has) = inl (same leg has)
 used-alike legs more waits chan id (Some leg) same (inr some) = inr some
 
-pub back-kept : (start : Start) (s : State) (h : List Step) (n : ClaimNote) (x : CircuitState) (k : KeptClaim) → Stands start s h → slot_at s.circuits n.circ.0 ≡ Some x → n.dir ≡ Back → x.back.kept ≡ Some k → k.note ≡ n →
+pub back-kept : (start : SwitchStart) (s : State) (h : List Step) (n : ClaimNote) (x : CircuitState) (k : KeptClaim) → Stands start s h → slot_at s.circuits n.circ.0 ≡ Some x → n.dir ≡ Back → x.back.claim_out ≡ Some k → k.note ≡ n →
     Settled ≡ give_back_answer start h n None →
     Stands start (sealed_state start.rules (events start.rules h n.circ.0) s n.circ.0 x) (settling n ∷ h)
 back-kept start s h n x k st found back out its said =
@@ -110,7 +110,7 @@ back-kept start s h n x k st found back out its said =
     let new = sealed_circuit rules (events rules h c) x in
     let t = sealed_state rules (events rules h c) s c x in
     let key = (born_keys (log rules (events rules h c))).kb in
-    let cells = sealed_cells key (first_kept x.back.kept) (kept_cells x.back.kept) in
+    let cells = sealed_cells key (first_kept x.back.claim_out) (kept_cells x.back.claim_out) in
     let own : CircuitStands rules s.last_closes x c (past rules h c) (λ j. holds_id h c j) (edge_past rules h c) =
     circuit-own rules s.last_closes s.circuits (λ d. past rules h d) (λ d j. holds_id h d j) (λ d. edge_past rules h d) c x found st.circuits in
     let some_legs : 0 < length x.legs = omega (arith, own.hops) in

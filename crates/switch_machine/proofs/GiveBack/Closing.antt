@@ -24,7 +24,7 @@ use Rattle.switch_model.specs.History.EdgePast.{edge_past}
 use Rattle.switch_model.specs.History.Legs.{at, holds_id}
 use Rattle.switch_model.specs.History.Past.{past}
 use Rattle.switch_model.specs.History.Returns.{settled}
-use Rattle.switch_model.specs.Start.{Start}
+use Rattle.switch_model.specs.Start.{SwitchStart}
 use Rattle.switch_model.specs.Waiting.Counts.{cell_count, tick}
 use Rattle.switch_model.specs.Waiting.Dials.{asked, dials_made, numbered, was_handed_out}
 use Rattle.switch_model.specs.Waiting.Lanes.{lane}
@@ -39,7 +39,7 @@ closing n reason = returning n (BackAnswer.Down reason)
 differs : (c d : ℕ) → (c == d) ≡ false → c ≡ d → ⊥
 differs c d other e = let same : (c == d) ≡ true = rw e (self_eq d) in cc
 
-pub closing-kept : (start : Start) (s : State) (h : List Step) (n : ClaimNote) (reason : ℕ) (x : CircuitState) (k : KeptClaim) → Stands start s h → slot_at s.circuits n.circ.0 ≡ Some x → n.dir ≡ Forth → x.forth.kept ≡ Some k → k.note ≡ n →
+pub closing-kept : (start : SwitchStart) (s : State) (h : List Step) (n : ClaimNote) (reason : ℕ) (x : CircuitState) (k : KeptClaim) → Stands start s h → slot_at s.circuits n.circ.0 ≡ Some x → n.dir ≡ Forth → x.forth.claim_out ≡ Some k → k.note ≡ n →
     BackAnswer.Down reason ≡ give_back_answer start h n None →
     Stands start (closed_state start.rules (events start.rules h n.circ.0) s n.circ.0 x k.cells reason) (closing n reason ∷ h)
 closing-kept start s h n reason x k st found forth out its said =

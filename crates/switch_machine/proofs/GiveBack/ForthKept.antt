@@ -24,7 +24,7 @@ use Rattle.switch_model.specs.History.EdgePast.{edge_past}
 use Rattle.switch_model.specs.History.Legs.{at, holds_id}
 use Rattle.switch_model.specs.History.Past.{past}
 use Rattle.switch_model.specs.History.Returns.{settling_reason}
-use Rattle.switch_model.specs.Start.{Start}
+use Rattle.switch_model.specs.Start.{SwitchStart}
 use Rattle.switch_model.specs.Waiting.Counts.{cell_count, tick}
 use Rattle.switch_model.specs.Waiting.Dials.{asked, dials_made, numbered, was_handed_out}
 use Rattle.switch_model.specs.Waiting.Lanes.{lane}
@@ -36,7 +36,7 @@ use Rattle.tr_io.specs.declared.step.Step.{Step}
 abbrev settling : ClaimNote → Step
 settling n = returning n Settled
 
-pub forth-kept : (start : Start) (s : State) (h : List Step) (n : ClaimNote) (x : CircuitState) (k : KeptClaim) → Stands start s h → slot_at s.circuits n.circ.0 ≡ Some x → n.dir ≡ Forth → x.forth.kept ≡ Some k → k.note ≡ n →
+pub forth-kept : (start : SwitchStart) (s : State) (h : List Step) (n : ClaimNote) (x : CircuitState) (k : KeptClaim) → Stands start s h → slot_at s.circuits n.circ.0 ≡ Some x → n.dir ≡ Forth → x.forth.claim_out ≡ Some k → k.note ≡ n →
     settling_reason start.rules x.sent_count (events start.rules h n.circ.0) k.cells ≡ None → Settled ≡ give_back_answer start h n None →
     Stands start (settled_state start.rules (events start.rules h n.circ.0) s n.circ.0 x k.cells) (settling n ∷ h)
 forth-kept start s h n x k st found forth out its none said =

@@ -21,29 +21,29 @@ use Rattle.tr_io.specs.declared.names.Dir.{Dir}
 use Rattle.tr_io.specs.declared.names.Dir.TheVariants.{Back, Forth}
 
 -- the bodies that were claimed are those that the state kept
-pub claimed-same : (c : ℕ) (d : Dir) (way : WayState) (home given : List CircuitCell) (count : ℕ) (known : Option ClaimNote) (all : List ℕ) (k : KeptClaim) → WayStands c d way home given count known all → way.kept ≡ Some k →
+pub claimed-same : (c : ℕ) (d : Dir) (way : WayState) (home given : List CircuitCell) (count : ℕ) (known : Option ClaimNote) (all : List ℕ) (k : KeptClaim) → WayStands c d way home given count known all → way.claim_out ≡ Some k →
     take k.note.count (drop k.note.first given) ≡ k.cells
 claimed-same c d way home given count known all k own out =
     let its : IsNoteOf c d (length home) k = subst (IsNoted c d (length home)) out own.noted in
-    let cells : home ++ k.cells ++ map cell_waiting way.waiting ≡ given = subst (λ o. home ++ kept_cells o ++ map cell_waiting way.waiting ≡ given) out own.cells in
-    rw (its.count, its.first, ← cells, append_assoc home k.cells (map cell_waiting way.waiting), drop-append_seam home (k.cells ++ map cell_waiting way.waiting))
-    (take-append_seam k.cells (map cell_waiting way.waiting))
+    let cells : home ++ k.cells ++ map cell_waiting way.waiting_bodies ≡ given = subst (λ o. home ++ kept_cells o ++ map cell_waiting way.waiting_bodies ≡ given) out own.cells in
+    rw (its.count, its.first, ← cells, append_assoc home k.cells (map cell_waiting way.waiting_bodies), drop-append_seam home (k.cells ++ map cell_waiting way.waiting_bodies))
+    (take-append_seam k.cells (map cell_waiting way.waiting_bodies))
 
 home-length : (xs ys : List CircuitCell) → length xs + length ys ≡ length (xs ++ ys) + 0
 home-length xs ys = omega (arith, length-append xs ys)
 
 -- the direction once they came home
-pub way-home : (c : ℕ) (d : Dir) (way : WayState) (home given : List CircuitCell) (count : ℕ) (known : Option ClaimNote) (all : List ℕ) (k : KeptClaim) → WayStands c d way home given count known all → way.kept ≡ Some k →
+pub way-home : (c : ℕ) (d : Dir) (way : WayState) (home given : List CircuitCell) (count : ℕ) (known : Option ClaimNote) (all : List ℕ) (k : KeptClaim) → WayStands c d way home given count known all → way.claim_out ≡ Some k →
     WayStands c d (home_way way) (home ++ k.cells) given count None all
 way-home c d way home given count known all k own out =
-    let cells : home ++ k.cells ++ map cell_waiting way.waiting ≡ given = subst (λ o. home ++ kept_cells o ++ map cell_waiting way.waiting ≡ given) out own.cells in
-    let long : way.claimed ≡ length home + length k.cells = subst (λ o. way.claimed ≡ length home + length (kept_cells o)) out own.out in
+    let cells : home ++ k.cells ++ map cell_waiting way.waiting_bodies ≡ given = subst (λ o. home ++ kept_cells o ++ map cell_waiting way.waiting_bodies ≡ given) out own.cells in
+    let long : way.claimed_count ≡ length home + length k.cells = subst (λ o. way.claimed_count ≡ length home + length (kept_cells o)) out own.out in
     record {
-      claimed = own.claimed;
+      claimed_count = own.claimed_count;
       out = long ∙ home-length home k.cells;
-      kept = refl;
+      claim_out = refl;
       noted = tt;
-      cells = ap (λ l. l ++ map cell_waiting way.waiting) (append-nil (home ++ k.cells)) ∙ cells;
+      cells = ap (λ l. l ++ map cell_waiting way.waiting_bodies) (append-nil (home ++ k.cells)) ∙ cells;
       claimed_numbers = own.claimed_numbers;
       claimed_all = own.claimed_all;
       numbers = own.numbers;

@@ -7,7 +7,7 @@ use Rattle.switch_machine.specs.Adds.{AddsTo}
 use Rattle.switch_machine.specs.Calls.GiveBack.{done_state, give_back_result, give_back_state, give_back_state_of}
 use Rattle.switch_machine.specs.State.{CircuitState, State, slot_at}
 use Rattle.switch_model.specs.History.Circuit.{events}
-use Rattle.switch_model.specs.Start.{Start}
+use Rattle.switch_model.specs.Start.{SwitchStart}
 use Rattle.tr_io.specs.declared.answers.BackAnswer.{BackAnswer}
 use Rattle.tr_io.specs.declared.names.ClaimNote.{ClaimNote}
 use Rattle.tr_io.specs.declared.names.Dir.{Dir}
@@ -26,7 +26,7 @@ steps-by rules ev s n (Some x) (BackAnswer.Down reason) = refl
 steps-by rules ev s n (Some x) BackAnswer.Gone = refl
 steps-by rules ev s n (Some x) (BackAnswer.Stranger why) = refl
 
-pub give_back_adds : (start : Start) (h : List Step) (old new : State) (n : ClaimNote) (place : Option ℕ) (a : BackAnswer) → new ≡ give_back_state start.name start.rules (events start.rules h) old n place →
+pub give_back_adds : (start : SwitchStart) (h : List Step) (old new : State) (n : ClaimNote) (place : Option ℕ) (a : BackAnswer) → new ≡ give_back_state start.name start.rules (events start.rules h) old n place →
     a ≡ give_back_result start.name start.rules (events start.rules h) old n place → AddsTo start h old new (GiveBack n place a)
 unfolding AddsTo
 give_back_adds start h old new n place a e f = rw (e, f) (record {

@@ -19,8 +19,8 @@ use Rattle.switch_model.specs.History.Circuit.{events, is_accepted_return}
 use Rattle.switch_model.specs.History.EdgePast.{edge_past}
 use Rattle.switch_model.specs.History.Past.{past}
 use Rattle.switch_model.specs.Names.{same_dir, same_way, way_of}
-use Rattle.switch_model.specs.Start.{Start}
-use Rattle.switch_model.specs.Waiting.Claims.{born_bodies, kept}
+use Rattle.switch_model.specs.Start.{SwitchStart}
+use Rattle.switch_model.specs.Waiting.Claims.{born_bodies, claim_out}
 use Rattle.switch_model.specs.Waiting.Dials.{asked, dials_made, was_handed_out}
 use Rattle.tr_io.specs.declared.answers.BackAnswer.{BackAnswer}
 use Rattle.tr_io.specs.declared.answers.Difference.{Difference}
@@ -34,7 +34,7 @@ events-refused : (rules : Rules) (h : List Step) (n : ClaimNote) (place : Option
 events-refused rules h n place a d refused = rw (refused, and-false (same_dir n.dir Forth), and-false (n.circ.0 == d)) refl
 
 kept-refused : (h : List Step) (n : ClaimNote) (place : Option ℕ) (a : BackAnswer) (d : ℕ) → is_accepted_return a ≡ false →
-    ◌≡◌ {A = Dir → Option ClaimNote} (λ dir. kept (GiveBack n place a ∷ h) (record { circ = d; dir = dir })) (λ dir. kept h (record { circ = d; dir = dir }))
+    ◌≡◌ {A = Dir → Option ClaimNote} (λ dir. claim_out (GiveBack n place a ∷ h) (record { circ = d; dir = dir })) (λ dir. claim_out h (record { circ = d; dir = dir }))
 kept-refused h n place a d refused = fun_ext (λ dir. rw (refused, and-false (same_way (way_of n) (record { circ = d; dir = dir }))) refl)
 
 born-refused : (rules : Rules) (h : List Step) (n : ClaimNote) (place : Option ℕ) (a : BackAnswer) → is_accepted_return a ≡ false → born_bodies rules (GiveBack n place a ∷ h) ≡ born_bodies rules h
@@ -45,13 +45,13 @@ dials-refused : (rules : Rules) (h : List Step) (n : ClaimNote) (place : Option 
 dials-refused rules h n place a refused = rw (events-refused rules h n place a n.circ.0 refused, drop-length (asked (log rules (events rules h n.circ.0)))) (append-nil (dials_made rules h))
 
 -- what a refusal leaves of the groups that see more than the step itself
-pub record Refused (start : Start) (s : State) (h : List Step) (step : Step) : Type 0 where
+pub record Refused (start : SwitchStart) (s : State) (h : List Step) (step : Step) : Type 0 where
   pub numbers : NumbersStand (numbers_in s) (numbers_past start.rules (step ∷ h))
   pub past_is : (d : ℕ) → past start.rules (step ∷ h) d ≡ past start.rules h d
   pub edge_is : (d : ℕ) → edge_past start.rules (step ∷ h) d ≡ edge_past start.rules h d
   pub never : (order : ℕ) → length (dials_made start.rules (step ∷ h)) ≤ order → was_handed_out (step ∷ h) order ≡ false
 
-gone-leaves : (start : Start) (s : State) (h : List Step) (n : ClaimNote) (place : Option ℕ) → Stands start s h → Refused start s h (GiveBack n place BackAnswer.Gone)
+gone-leaves : (start : SwitchStart) (s : State) (h : List Step) (n : ClaimNote) (place : Option ℕ) → Stands start s h → Refused start s h (GiveBack n place BackAnswer.Gone)
 gone-leaves start s h n place st =
     let rules = start.rules in
     let a = BackAnswer.Gone in
@@ -59,12 +59,12 @@ gone-leaves start s h n place st =
     let dials_same = dials-refused rules h n place a refl in
     record {
       numbers = record { channels = st.numbers.channels; circuits = st.numbers.circuits; claims = st.numbers.claims; bodies = st.numbers.bodies ∙ ap length (sym born_same); dial_orders = st.numbers.dial_orders ∙ ap length (sym dials_same); tick = st.numbers.tick };
-      past_is = λ d. rw (events-refused rules h n place a d refl) (ap (λ f. record (past rules h d) { kept = f }) (kept-refused h n place a d refl));
+      past_is = λ d. rw (events-refused rules h n place a d refl) (ap (λ f. record (past rules h d) { claim_out = f }) (kept-refused h n place a d refl));
       edge_is = λ d. rw (born_same, dials_same, events-refused rules h n place a d refl) refl;
       never = λ order beyond. st.dials.never order (subst (λ m. length m ≤ order) dials_same beyond);
     }
 
-stranger-leaves : (start : Start) (s : State) (h : List Step) (n : ClaimNote) (place : Option ℕ) (why : Difference) → Stands start s h → Refused start s h (GiveBack n place (BackAnswer.Stranger why))
+stranger-leaves : (start : SwitchStart) (s : State) (h : List Step) (n : ClaimNote) (place : Option ℕ) (why : Difference) → Stands start s h → Refused start s h (GiveBack n place (BackAnswer.Stranger why))
 stranger-leaves start s h n place why st =
     let rules = start.rules in
     let a = BackAnswer.Stranger why in
@@ -72,12 +72,12 @@ stranger-leaves start s h n place why st =
     let dials_same = dials-refused rules h n place a refl in
     record {
       numbers = record { channels = st.numbers.channels; circuits = st.numbers.circuits; claims = st.numbers.claims; bodies = st.numbers.bodies ∙ ap length (sym born_same); dial_orders = st.numbers.dial_orders ∙ ap length (sym dials_same); tick = st.numbers.tick };
-      past_is = λ d. rw (events-refused rules h n place a d refl) (ap (λ f. record (past rules h d) { kept = f }) (kept-refused h n place a d refl));
+      past_is = λ d. rw (events-refused rules h n place a d refl) (ap (λ f. record (past rules h d) { claim_out = f }) (kept-refused h n place a d refl));
       edge_is = λ d. rw (born_same, dials_same, events-refused rules h n place a d refl) refl;
       never = λ order beyond. st.dials.never order (subst (λ m. length m ≤ order) dials_same beyond);
     }
 
-pub gone-kept : (start : Start) (s : State) (h : List Step) (n : ClaimNote) (place : Option ℕ) → Stands start s h → BackAnswer.Gone ≡ give_back_answer start h n place → Stands start (counted s) (GiveBack n place BackAnswer.Gone ∷ h)
+pub gone-kept : (start : SwitchStart) (s : State) (h : List Step) (n : ClaimNote) (place : Option ℕ) → Stands start s h → BackAnswer.Gone ≡ give_back_answer start h n place → Stands start (counted s) (GiveBack n place BackAnswer.Gone ∷ h)
 gone-kept start s h n place st said =
     let leaves = gone-leaves start s h n place st in
     record {
@@ -93,7 +93,7 @@ gone-kept start s h n place st said =
       not_yet = st.not_yet;
     }
 
-pub stranger-kept : (start : Start) (s : State) (h : List Step) (n : ClaimNote) (place : Option ℕ) (why : Difference) → Stands start s h → BackAnswer.Stranger why ≡ give_back_answer start h n place →
+pub stranger-kept : (start : SwitchStart) (s : State) (h : List Step) (n : ClaimNote) (place : Option ℕ) (why : Difference) → Stands start s h → BackAnswer.Stranger why ≡ give_back_answer start h n place →
     Stands start (counted s) (GiveBack n place (BackAnswer.Stranger why) ∷ h)
 stranger-kept start s h n place why st said =
     let leaves = stranger-leaves start s h n place why st in

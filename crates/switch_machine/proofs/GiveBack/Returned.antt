@@ -71,7 +71,7 @@ born-returned rules h n a count more =
     all-new _ _ (born_bodies rules h) (replicate count (back_of n.circ.0)) (new-many (back_of n.circ.0) _ _ count more) (new-none (record { circ = n.circ.0; dir = Forth }) _ _ refl)
 
 pub batch-returned : (rules : Rules) (closes : List Ordered) (h : List Step) (n : ClaimNote) (a : BackAnswer) (y : Settling) (k : KeptClaim) → n.dir ≡ Forth → is_accepted_return a ≡ true →
-    y.circuit.forth.kept ≡ Some k → k.note ≡ n → y.events ≡ events rules h n.circ.0 → y.bodies ≡ length (born_bodies rules h) → y.dials ≡ length (dials_made rules h) →
+    y.circuit.forth.claim_out ≡ Some k → k.note ≡ n → y.events ≡ events rules h n.circ.0 → y.bodies ≡ length (born_bodies rules h) → y.dials ≡ length (dials_made rules h) →
     ((order : ℕ) → length (dials_made rules h) ≤ order → was_handed_out h order ≡ false) → (past rules h n.circ.0).hops ≡ 0 →
     CircuitStands rules closes y.circuit n.circ.0 (past rules h n.circ.0) (λ j. holds_id h n.circ.0 j) (edge_past rules h n.circ.0) →
     Returned rules h n a y (settle_all rules y k.cells)

@@ -128,7 +128,7 @@ pub record SealsBodies (l : Log) (n : ℕ) (k : KeptClaim) : Type 0 where
   pub count : k.note.count ≡ length (map body_of k.cells)
   pub home : take n (relay_cells (behind l)) ++ k.cells ≡ take (n + k.note.count) (relay_cells (behind l))
 
-seals-bodies : (c : ℕ) (way : WayState) (l : Log) (n count : ℕ) (known : Option ClaimNote) (all : List ℕ) (k : KeptClaim) → n ≤ length (behind l) → way.kept ≡ Some k →
+seals-bodies : (c : ℕ) (way : WayState) (l : Log) (n count : ℕ) (known : Option ClaimNote) (all : List ℕ) (k : KeptClaim) → n ≤ length (behind l) → way.claim_out ≡ Some k →
     WayStands c Back way (take n (relay_cells (behind l))) (relay_cells (behind l)) count known all → SealsBodies l n k
 seals-bodies c way l n count known all k few out own =
     let xs = behind l in
@@ -148,11 +148,11 @@ past-sealed : (rules : Rules) (h : List Step) (n : ClaimNote) → n.dir ≡ Back
     past rules (returning n Settled ∷ h) n.circ.0 ≡ record (past rules h n.circ.0) {
       events = events rules (returning n Settled ∷ h) n.circ.0;
       sealed_count = (past rules h n.circ.0).sealed_count + n.count;
-      kept = λ dir. if same_way (way_of n) (record { circ = n.circ.0; dir = dir }) && true then None else (past rules h n.circ.0).kept dir;
+      claim_out = λ dir. if same_way (way_of n) (record { circ = n.circ.0; dir = dir }) && true then None else (past rules h n.circ.0).claim_out dir;
     }
 past-sealed rules h n back = rw (own-way n n.circ.0 Back refl back) refl
 
-pub circuit-sealed : (rules : Rules) (closes : List Ordered) (h : List Step) (n : ClaimNote) (x : CircuitState) (k : KeptClaim) → n.dir ≡ Back → x.back.kept ≡ Some k → k.note ≡ n →
+pub circuit-sealed : (rules : Rules) (closes : List Ordered) (h : List Step) (n : ClaimNote) (x : CircuitState) (k : KeptClaim) → n.dir ≡ Back → x.back.claim_out ≡ Some k → k.note ≡ n →
     CircuitStands rules closes x n.circ.0 (past rules h n.circ.0) (λ j. holds_id h n.circ.0 j) (edge_past rules h n.circ.0) →
     edge_past rules (returning n Settled ∷ h) n.circ.0 ≡ edge_past rules h n.circ.0 → events rules (returning n Settled ∷ h) n.circ.0 ≡ events rules h n.circ.0 →
     CircuitStands rules closes (sealed_circuit rules (events rules h n.circ.0) x) n.circ.0 (past rules (returning n Settled ∷ h) n.circ.0) (λ j. holds_id (returning n Settled ∷ h) n.circ.0 j) (edge_past rules (returning n Settled ∷ h) n.circ.0)
@@ -163,7 +163,7 @@ circuit-sealed rules closes h n x k back out its own edge_same events_same =
     let key = (born_keys l).kb in
     let seals = seals-bodies c x.back l p.sealed_count _ _ _ k own.sealed out own.back in
     let count : k.note.count ≡ n.count = ap (λ (m : ClaimNote). m.count) its in
-    let put : sealed_cells key (first_kept x.back.kept) (kept_cells x.back.kept) ≡ all_sealed key p.sealed_count (map body_of k.cells) =
+    let put : sealed_cells key (first_kept x.back.claim_out) (kept_cells x.back.claim_out) ≡ all_sealed key p.sealed_count (map body_of k.cells) =
     rw out (ap (λ i. all_sealed key i (map body_of k.cells)) seals.first) in
     let inside : 0 < length x.legs = omega (arith, own.hops) in
     let which : map body_of k.cells ≡ take n.count (drop p.sealed_count (behind l)) = seals.bodies ∙ ap (λ m. take m (drop p.sealed_count (behind l))) count in

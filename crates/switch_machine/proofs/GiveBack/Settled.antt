@@ -33,11 +33,11 @@ use Rattle.tr_io.specs.declared.step.Step.{Step}
 past-settled : (rules : Rules) (h : List Step) (n : ClaimNote) → n.dir ≡ Forth →
     past rules (returning n Settled ∷ h) n.circ.0 ≡ record (past rules h n.circ.0) {
       events = events rules (returning n Settled ∷ h) n.circ.0;
-      kept = λ dir. if same_way (way_of n) (record { circ = n.circ.0; dir = dir }) && true then None else (past rules h n.circ.0).kept dir;
+      claim_out = λ dir. if same_way (way_of n) (record { circ = n.circ.0; dir = dir }) && true then None else (past rules h n.circ.0).claim_out dir;
     }
 past-settled rules h n forth = rw (other-way n n.circ.0 Back Forth forth refl) refl
 
-pub circuit-settled : (rules : Rules) (closes : List Ordered) (h : List Step) (n : ClaimNote) (y : Settling) (k : KeptClaim) → n.dir ≡ Forth → y.circuit.forth.kept ≡ Some k → k.note ≡ n →
+pub circuit-settled : (rules : Rules) (closes : List Ordered) (h : List Step) (n : ClaimNote) (y : Settling) (k : KeptClaim) → n.dir ≡ Forth → y.circuit.forth.claim_out ≡ Some k → k.note ≡ n →
     y.events ≡ events rules h n.circ.0 → y.bodies ≡ length (born_bodies rules h) → settling_reason rules y.circuit.sent_count y.events k.cells ≡ None →
     CircuitStands rules closes y.circuit n.circ.0 (past rules h n.circ.0) (λ j. holds_id h n.circ.0 j) (edge_past rules h n.circ.0) → Returned rules h n Settled y (settle_all rules y k.cells) →
     CircuitStands rules closes (record ((settle_all rules y k.cells).circuit) { forth = home_way y.circuit.forth }) n.circ.0

@@ -4,7 +4,7 @@ use Rattle.std.proofs.lemmas.Bool.Decides.{eqb_tells}
 use Rattle.circuit_model.specs.Events.{CircuitCell}
 use Rattle.tr_io.specs.declared.step.Step.{Step}
 use Rattle.tr_io.specs.declared.step.Step.TheVariants.{NextCell}
-use Rattle.switch_model.specs.Start.{Start}
+use Rattle.switch_model.specs.Start.{SwitchStart}
 use Rattle.switch_model.specs.Names.{Leg, is_leg, chan_no}
 use Rattle.switch_model.specs.History.Legs.{at, is_destroy_for, holds_id}
 use Rattle.switch_model.specs.History.Circuit.{is_live_circuit}
@@ -35,7 +35,7 @@ use Rattle.switch_machine.proofs.NextCell.Leg.{leg-named, circuit-sent}
 
 -- the state after the leg's first cell left
 abbrev pub sent_state : State → ℕ → ℕ → ℕ → CircuitState → LegState → List CircuitCell → State
-sent_state s given c k x leg cells = record (ticked s given) { circuits = with_slot s.circuits c (Some (circuit_sent (max s.tick given) k x leg cells)) }
+sent_state s new_tick c k x leg cells = record (ticked s new_tick) { circuits = with_slot s.circuits c (Some (circuit_sent (max s.tick new_tick) k x leg cells)) }
 
 -- its legs
 leg_in-sent : (s : State) (c k n : ℕ) (x : CircuitState) (y : Option LegState) (old : LegState) → slot_at s.circuits c ≡ Some x → slot_at x.legs k ≡ Some old → (leg : Leg) →
@@ -88,30 +88,30 @@ drop-none true waits none = rw (none refl) refl
 drop-none false waits none = refl
 
 -- counts
-count-first : (leg : LegState) (n now before given : ℕ) (cell : CircuitCell) (cells : List CircuitCell) (b : Bool) → before ≡ now → CountStands leg n now →
-    CountAt (if b then None else Some (record leg { queue = cells; count = charged (count_of (max before given) leg); counted_at = max before given })) (charged (halved n (given - now))) (max now given)
-count-first leg n now before given cell cells true same own = tt
-count-first leg n now before given cell cells false same own =
-    let none : max now given - max before given ≡ 0 = omega (arith, same) in
+count-first : (leg : LegState) (n now before new_tick : ℕ) (cell : CircuitCell) (cells : List CircuitCell) (b : Bool) → before ≡ now → CountStands leg n now →
+    CountAt (if b then None else Some (record leg { queue = cells; count = charged (count_of (max before new_tick) leg); counted_at = max before new_tick })) (charged (halved n (new_tick - now))) (max now new_tick)
+count-first leg n now before new_tick cell cells true same own = tt
+count-first leg n now before new_tick cell cells false same own =
+    let none : max now new_tick - max before new_tick ≡ 0 = omega (arith, same) in
     record {
       since = omega (arith, same);
-      count = rw (none, halved-never (charged (count_of (max before given) leg)), same, later-by leg n now given own) refl;
+      count = rw (none, halved-never (charged (count_of (max before new_tick) leg)), same, later-by leg n now new_tick own) refl;
     }
 
 count-by : (b l : Bool) (y z : Option LegState) (n more now : ℕ) → (b ≡ true → l ≡ true) → (b ≡ true → CountAt y more now) → CountAt z n now → CountAt (if b then y else z) (if b && l then more else n) now
 count-by true l y z n more now alive here there = rw (alive refl) (here refl)
 count-by false l y z n more now alive here there = there
 
-pub leg-left : (start : Start) (s : State) (h : List Step) (given c k : ℕ) (x : CircuitState) (leg : LegState) (cell : CircuitCell) (cells : List CircuitCell) → Stands start s h →
+pub leg-left : (start : SwitchStart) (s : State) (h : List Step) (new_tick c k : ℕ) (x : CircuitState) (leg : LegState) (cell : CircuitCell) (cells : List CircuitCell) → Stands start s h →
     slot_at s.circuits c ≡ Some x → slot_at x.legs k ≡ Some leg → leg.queue ≡ cell ∷ cells → lane start.rules h leg.chan ≡ [] →
-    Some (cell_at leg.id cell) ≡ next_cell_answer start.rules h leg.chan given →
-    Stands start (sent_state s given c k x leg (cell ∷ cells)) (NextCell (chan_no leg.chan) given (Some (cell_at leg.id cell)) ∷ h)
-leg-left start s h given c k x leg cell cells st found_circuit found_leg queued no_destroy said =
+    Some (cell_at leg.id cell) ≡ next_cell_answer start.rules h leg.chan new_tick →
+    Stands start (sent_state s new_tick c k x leg (cell ∷ cells)) (NextCell (chan_no leg.chan) new_tick (Some (cell_at leg.id cell)) ∷ h)
+leg-left start s h new_tick c k x leg cell cells st found_circuit found_leg queued no_destroy said =
     let rules = start.rules in
-    let step = NextCell (chan_no leg.chan) given (Some (cell_at leg.id cell)) in
-    let now = max s.tick given in
+    let step = NextCell (chan_no leg.chan) new_tick (Some (cell_at leg.id cell)) in
+    let now = max s.tick new_tick in
     let y = sent_first now leg (cell ∷ cells) in
-    let t = sent_state s given c k x leg (cell ∷ cells) in
+    let t = sent_state s new_tick c k x leg (cell ∷ cells) in
     let inside = slot_at-inside s.circuits c x found_circuit in
     let own = circuit-own rules s.last_closes s.circuits (λ d. past rules h d) (λ d j. holds_id h d j) (λ d. edge_past rules h d) c x found_circuit st.circuits in
     let many : length t.circuits ≡ length s.circuits = length-with s.circuits c (Some (circuit_sent now k x leg (cell ∷ cells))) in
@@ -125,14 +125,14 @@ leg-left start s h given c k x leg cell cells st found_circuit found_leg queued 
     let leg_of : (other : Leg) → leg_in t other ≡ (if is_it other then y else leg_in s other) = leg_in-sent s c k (sent_after k x.sent_count) x y leg found_circuit found_leg in
     record {
       steps = step-added start s.steps h step st.steps (tt, said);
-      numbers = tick-given (record (numbers_in s) { circuits = length t.circuits }) (numbers_past rules h) _ _ (ap (λ n. max n given) st.numbers.tick)
+      numbers = tick-given (record (numbers_in s) { circuits = length t.circuits }) (numbers_past rules h) _ _ (ap (λ n. max n new_tick) st.numbers.tick)
           (circuit-count (numbers_in s) (numbers_past rules h) _ _ (many ∙ st.numbers.circuits) st.numbers);
       channels = record { channel = λ n. rw (same_lane n) (st.channels.channel n); no_channel = st.channels.no_channel };
       circuits = circuit-changed rules s.last_closes s.circuits (λ d. past rules h d) (λ d. past rules (step ∷ h) d) (λ d j. holds_id h d j) (λ d j. holds_id (step ∷ h) d j)
           (λ d. edge_past rules h d) (λ d. edge_past rules (step ∷ h) d) c x (Some (circuit_sent now k x leg (cell ∷ cells))) found_circuit
-          (λ d other. circuit-on rules s.last_closes h leg.chan given (cell_at leg.id cell) d (slot_at s.circuits d) (none d other))
-          (λ d other fresh. rw (past-on rules h leg.chan given (cell_at leg.id cell) d (none d other)) fresh)
-          (circuit-sent rules s.last_closes h given now c k x leg cell cells found_leg queued named own) st.circuits;
+          (λ d other. circuit-on rules s.last_closes h leg.chan new_tick (cell_at leg.id cell) d (slot_at s.circuits d) (none d other))
+          (λ d other fresh. rw (past-on rules h leg.chan new_tick (cell_at leg.id cell) d (none d other)) fresh)
+          (circuit-sent rules s.last_closes h new_tick now c k x leg cell cells found_leg queued named own) st.circuits;
       ids = record {
         used = λ m i. rw (same_lane m) (used-sent s t (lane rules h m) m i (is_destroy_for (chan_no leg.chan) (cell_at leg.id cell) m i) (at h m i)
             (λ other unlike has. rw (leg_of other) (port-by m i (is_it other) y (leg_in s other)
@@ -146,14 +146,14 @@ leg-left start s h given c k x leg cell cells st found_circuit found_leg queued 
       };
       counts = record {
         counts = λ other. rw (leg_of other, others other.circ other.number, turned c other.circ, turned k other.number)
-            (count-by (is_it other) (is_live_circuit rules h other.circ) y (leg_in s other) _ _ (max (tick h) given)
+            (count-by (is_it other) (is_live_circuit rules h other.circ) y (leg_in s other) _ _ (max (tick h) new_tick)
             (λ it. rw (same-number other.circ c (and-first (other.circ == c) _ it)) own.live)
-            (λ it. count-first leg (cell_count rules h other.circ other.number) (tick h) s.tick given cell cells (cell.command == 4) st.numbers.tick
+            (λ it. count-first leg (cell_count rules h other.circ other.number) (tick h) s.tick new_tick cell cells (cell.command == 4) st.numbers.tick
             (subst (λ z. CountAt z (cell_count rules h other.circ other.number) (tick h)) (leg-is s c k leg found other it) (st.counts.counts other)))
-            (count-later (leg_in s other) (cell_count rules h other.circ other.number) (tick h) given (st.counts.counts other)));
+            (count-later (leg_in s other) (cell_count rules h other.circ other.number) (tick h) new_tick (st.counts.counts other)));
         no_count = λ d j beyond.
             let past_end : length s.circuits ≤ d = omega (arith, beyond, many) in
-            rw (none d (beyond_c d past_end) j, st.counts.no_count d j past_end) (halved-none (given - tick h));
+            rw (none d (beyond_c d past_end) j, st.counts.no_count d j past_end) (halved-none (new_tick - tick h));
       };
       slots = st.slots;
       not_yet = st.not_yet;

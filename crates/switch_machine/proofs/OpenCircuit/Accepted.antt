@@ -7,7 +7,7 @@ use Rattle.std.proofs.lemmas.Bool.Decides.{eqb_tells}
 use Rattle.cell_codec.specs.declared.cell.Cell.{Cell}
 use Rattle.kdf_tor.specs.declared.LayerKeys.{LayerKeys}
 use Rattle.tr_io.specs.declared.step.Step.{Step}
-use Rattle.switch_model.specs.Start.{Start}
+use Rattle.switch_model.specs.Start.{SwitchStart}
 use Rattle.switch_model.specs.Names.{Leg}
 use Rattle.switch_model.specs.History.Legs.{at, holds_id}
 use Rattle.switch_model.specs.Waiting.Lanes.{Destroy, lane}
@@ -31,7 +31,7 @@ use Rattle.switch_machine.proofs.Slots.{slot_at-push, slot_at-past}
 use Rattle.switch_machine.proofs.OpenCircuit.Past.{opening, past-other, edge-other, holds-other, circuit-opened}
 
 -- a number that no circuit had leaves no orders
-no-left : (start : Start) (s : State) (h : List Step) → Stands start s h → (n serial : ℕ) → n ≡ length s.circuits → left_at s.last_closes n serial ≡ []
+no-left : (start : SwitchStart) (s : State) (h : List Step) → Stands start s h → (n serial : ℕ) → n ≡ length s.circuits → left_at s.last_closes n serial ≡ []
 no-left start s h st n serial new =
     let none : slot_at s.circuits n ≡ None = slot_at-past s.circuits n (omega arith) in
     let gone = subst (λ x. CircuitAt start.rules s.last_closes x n (past start.rules h n) (λ k. holds_id h n k) (edge_past start.rules h n)) none (st.circuits.circuit n) in
@@ -94,7 +94,7 @@ dial-pushed s x c out = elim (eqb_tells c (length s.circuits)) [
   | inr (is, other) ↦ rw (slot_at-push s.circuits (Some x) c, is) out
 ]
 
-pub opened-kept : (start : Start) (s : State) (h : List Step) (chan id : ℕ) (reply : Cell) (keys : LayerKeys) (pad : Option (List ℕ)) → Stands start s h →
+pub opened-kept : (start : SwitchStart) (s : State) (h : List Step) (chan id : ℕ) (reply : Cell) (keys : LayerKeys) (pad : Option (List ℕ)) → Stands start s h →
     IsRightStep start h (opening chan id reply keys pad (length s.circuits)) → is_some (slot_at s.channels chan) ≡ true → at h chan id ≡ None →
     Stands start (with_circuit s chan id reply (Some keys)) (opening chan id reply keys pad (length s.circuits) ∷ h)
 opened-kept start s h chan id reply keys pad st answered on_live free =

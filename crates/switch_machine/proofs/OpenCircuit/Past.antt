@@ -103,8 +103,8 @@ new-circuit rules closes h chan id reply keys pad n fresh none = record {
   linked = refl;
   hops = refl;
   legs = new-legs rules h chan id reply keys pad n fresh.past;
-  forth = record { claimed = refl; out = refl; kept = refl; noted = tt; cells = refl; claimed_numbers = []; claimed_all = refl; numbers = sym (fresh.numbers Forth) };
-  back = record { claimed = refl; out = refl; kept = refl; noted = tt; cells = refl; claimed_numbers = []; claimed_all = refl; numbers = sym (fresh.numbers Back) };
+  forth = record { claimed_count = refl; out = refl; claim_out = refl; noted = tt; cells = refl; claimed_numbers = []; claimed_all = refl; numbers = sym (fresh.numbers Forth) };
+  back = record { claimed_count = refl; out = refl; claim_out = refl; noted = tt; cells = refl; claimed_numbers = []; claimed_all = refl; numbers = sym (fresh.numbers Back) };
   orders = record { reach_orders = λ serial. refl; carry_orders = λ serial. refl; close_orders = λ serial. refl };
   no_left = none;
   dial = refl;

@@ -8,7 +8,7 @@ use Rattle.tr_io.specs.declared.answers.OpenRefusal.{OpenRefusal}
 use Rattle.tr_io.specs.declared.step.Step.{Step}
 use Rattle.tr_io.specs.declared.step.Step.TheVariants.{OpenCircuit}
 use Rattle.switch_model.specs.Limits.{refusal_limit}
-use Rattle.switch_model.specs.Start.{Start}
+use Rattle.switch_model.specs.Start.{SwitchStart}
 use Rattle.switch_model.specs.Names.{Leg, chan_no}
 use Rattle.switch_model.specs.History.Channels.{is_ours, opened_by_us, channel_at}
 use Rattle.switch_model.specs.History.Legs.{at}
@@ -50,7 +50,7 @@ used-more legs xs ys chan id None more used = tt
 used-more legs xs ys chan id (Some leg) more (inl has) = inl has
 used-more legs xs ys chan id (Some leg) more (inr waits) = inr (more waits)
 
-pub refused-kept : (start : Start) (s : State) (h : List Step) (chan id : ℕ) (reply : Cell) (keys : Option LayerKeys) (pad : Option (List ℕ)) (why : OpenRefusal) (channel : ChannelState) →
+pub refused-kept : (start : SwitchStart) (s : State) (h : List Step) (chan id : ℕ) (reply : Cell) (keys : Option LayerKeys) (pad : Option (List ℕ)) (why : OpenRefusal) (channel : ChannelState) →
     Stands start s h → slot_at s.channels chan ≡ Some channel → IsRightStep start h (OpenCircuit (chan_no chan) id reply keys pad (Refused why)) →
     Stands start (open_state_by s chan id reply keys (Some channel) (Refused why)) (OpenCircuit (chan_no chan) id reply keys pad (Refused why) ∷ h)
 refused-kept start s h chan id reply keys pad why channel st found answered =
@@ -64,7 +64,7 @@ refused-kept start s h chan id reply keys pad why channel st found answered =
       steps = step-added start s.steps h step st.steps answered;
       numbers = channel-count (numbers_in s) (numbers_past rules h) _ _ (length-with s.channels chan _ ∙ st.numbers.channels) st.numbers;
       channels = channel-changed s.channels (λ n. channel_past rules h n) (λ n. channel_past rules (step ∷ h) n) chan channel (refusing id why channel) found (λ n other. rw other refl)
-          (record { channel = own.channel; given = own.given; lane = rw (self_eq chan, ours, own.lane) refl }) st.channels;
+          (record { channel = own.channel; given_count = own.given_count; lane = rw (self_eq chan, ours, own.lane) refl }) st.channels;
       circuits = st.circuits;
       ids = record {
         used = λ n i.

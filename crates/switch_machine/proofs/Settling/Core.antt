@@ -34,7 +34,7 @@ pub record CoreStands (y : Settling) (c : ℕ) (l : Log) (p : Past) (has_id : �
   pub hops : length y.circuit.legs ≡ p.hops + 1
   pub linked : leg_count l ≡ p.hops
   pub legs : (k : ℕ) → LegBy (slot_at y.circuit.legs k) (p.sent k) (sendable l p.sealed_count k) (p.port k) (has_id k)
-  pub back : WayStands c Back y.circuit.back (take p.sealed_count (relay_cells (behind l))) (relay_cells (behind l)) (p.claimed Back) (p.kept Back) all
+  pub back : WayStands c Back y.circuit.back (take p.sealed_count (relay_cells (behind l))) (relay_cells (behind l)) (p.claimed_count Back) (p.claim_out Back) all
 
 abbrev pub numbers_with : List ℕ → ℕ → Option (List ℕ) → List ℕ
 numbers_with all n None = all
@@ -44,16 +44,16 @@ numbers_with all n (Some body) = all ++ n ∷ []
 pub way-queued : (c : ℕ) (d : Dir) (way : WayState) (settled given : List CircuitCell) (count : ℕ) (known : Option ClaimNote) (all : List ℕ) (n : ℕ) (cell : CircuitCell) →
     WayStands c d way settled given count known all → WayStands c d (more_waits n cell way) settled (given ++ cell ∷ []) count known (all ++ n ∷ [])
 way-queued c d way settled given count known all n cell own = record {
-  claimed = own.claimed;
+  claimed_count = own.claimed_count;
   out = own.out;
-  kept = own.kept;
+  claim_out = own.claim_out;
   noted = own.noted;
-  cells = ap (λ l. settled ++ kept_cells way.kept ++ l) (map-append cell_waiting way.waiting (record { number = n; cell = cell } ∷ []))
-      ∙ sym (append_assoc (settled ++ kept_cells way.kept) (map cell_waiting way.waiting) (cell ∷ [])) ∙ ap (λ l. l ++ cell ∷ []) own.cells;
+  cells = ap (λ l. settled ++ kept_cells way.claim_out ++ l) (map-append cell_waiting way.waiting_bodies (record { number = n; cell = cell } ∷ []))
+      ∙ sym (append_assoc (settled ++ kept_cells way.claim_out) (map cell_waiting way.waiting_bodies) (cell ∷ [])) ∙ ap (λ l. l ++ cell ∷ []) own.cells;
   claimed_numbers = own.claimed_numbers;
   claimed_all = own.claimed_all;
-  numbers = ap (λ l. own.claimed_numbers ++ l) (map-append number_waiting way.waiting (record { number = n; cell = cell } ∷ []))
-      ∙ sym (append_assoc own.claimed_numbers (map number_waiting way.waiting) (n ∷ [])) ∙ ap (λ l. l ++ n ∷ []) own.numbers;
+  numbers = ap (λ l. own.claimed_numbers ++ l) (map-append number_waiting way.waiting_bodies (record { number = n; cell = cell } ∷ []))
+      ∙ sym (append_assoc own.claimed_numbers (map number_waiting way.waiting_bodies) (n ∷ [])) ∙ ap (λ l. l ++ n ∷ []) own.numbers;
 }
 
 -- leg 0: nothing more may leave
@@ -139,5 +139,5 @@ core-step y c l p has_id all command body m fx own =
       hops = length-queued y.circuit.legs (leg_count l) (given_forth l entry) ∙ own.hops;
       linked = own.linked;
       legs = legs-more y.circuit.legs l p has_id entry inside refl refl refl own.born own.sealed own.legs;
-      back = back-more c y.bodies y.circuit.back p.sealed_count (behind l) (p.claimed Back) (p.kept Back) all fx.back own.sealed own.back;
+      back = back-more c y.bodies y.circuit.back p.sealed_count (behind l) (p.claimed_count Back) (p.claim_out Back) all fx.back own.sealed own.back;
     }

@@ -17,7 +17,7 @@ use Rattle.switch_model.specs.History.Legs.{at, holds_id, port}
 use Rattle.switch_model.specs.History.Past.{past}
 use Rattle.switch_model.specs.Legal.{IsRightStep}
 use Rattle.switch_model.specs.Names.{Leg, Way, chan_no, circ_no, circuit_cell}
-use Rattle.switch_model.specs.Start.{Start}
+use Rattle.switch_model.specs.Start.{SwitchStart}
 use Rattle.switch_model.specs.Waiting.Counts.{cell_count, tick}
 use Rattle.switch_model.specs.Waiting.Dials.{dials_made, was_handed_out}
 use Rattle.switch_model.specs.Waiting.Lanes.{Destroy, lane}
@@ -81,7 +81,7 @@ leg_in-before s c cell x l found first leg = elim (eqb_tells leg.circ c) [
 ]
 
 -- a CircID that the cell frees is the one of leg 0
-only-first : (start : Start) (s : State) (h : List Step) (chan c : ℕ) (cell : Cell) → Stands start s h → at h chan cell.circ ≡ Some (record { circ = c; number = 0 }) →
+only-first : (start : SwitchStart) (s : State) (h : List Step) (chan c : ℕ) (cell : Cell) → Stands start s h → at h chan cell.circ ≡ Some (record { circ = c; number = 0 }) →
     (leg : Leg) (l : LegState) → leg_in s leg ≡ Some l → frees chan cell l.chan l.id ≡ true → leg ≡ record { circ = c; number = 0 }
 only-first start s h chan c cell st here leg l found is =
     let it = freed-is chan cell l.chan l.id is in
@@ -90,7 +90,7 @@ only-first start s h chan c cell st here leg l found is =
     cc
 
 -- so no leg of another circuit loses its own
-free-others : (start : Start) (s : State) (h : List Step) (chan c : ℕ) (cell : Cell) → Stands start s h → at h chan cell.circ ≡ Some (record { circ = c; number = 0 }) →
+free-others : (start : SwitchStart) (s : State) (h : List Step) (chan c : ℕ) (cell : Cell) → Stands start s h → at h chan cell.circ ≡ Some (record { circ = c; number = 0 }) →
     (d k : ℕ) (l : LegState) (b : Bool) → (c == d) ≡ false → leg_in s (record { circ = d; number = k }) ≡ Some l → frees chan cell l.chan l.id ≡ b → b ≡ false
 free-others start s h chan c cell st here d k l true other found is =
     let same = ap (λ (leg : Leg). leg.circ) (only-first start s h chan c cell st here (record { circ = d; number = k }) l found is) in
@@ -98,7 +98,7 @@ free-others start s h chan c cell st here d k l true other found is =
 free-others start s h chan c cell st here d k l false other found is = refl
 
 -- nor does another leg of the circuit
-free-legs : (start : Start) (s : State) (h : List Step) (chan c : ℕ) (cell : Cell) → Stands start s h → at h chan cell.circ ≡ Some (record { circ = c; number = 0 }) →
+free-legs : (start : SwitchStart) (s : State) (h : List Step) (chan c : ℕ) (cell : Cell) → Stands start s h → at h chan cell.circ ≡ Some (record { circ = c; number = 0 }) →
     (k : ℕ) (l : LegState) (b : Bool) → loses cell k ≡ false → leg_in s (record { circ = c; number = k }) ≡ Some l → frees chan cell l.chan l.id ≡ b → b ≡ false
 free-legs start s h chan c cell st here k l true stays found is =
     let same = ap (λ (leg : Leg). leg.number) (only-first start s h chan c cell st here (record { circ = c; number = k }) l found is) in
@@ -110,7 +110,7 @@ first-lost : (h : List Step) (chan c r : ℕ) (cell : Cell) (l : LegState) → p
 first-lost h chan c r cell l lies on_channel on_id is = rw (lies, on_channel, on_id, is, self_eq chan, self_eq cell.circ) refl
 
 -- the circuit's legs
-leg-down : (start : Start) (s : State) (h : List Step) (chan c r : ℕ) (cell : Cell) (x : CircuitState) (l : LegState) (sent may_leave : List CircuitCell) → Stands start s h → slot_at s.circuits c ≡ Some x →
+leg-down : (start : SwitchStart) (s : State) (h : List Step) (chan c r : ℕ) (cell : Cell) (x : CircuitState) (l : LegState) (sent may_leave : List CircuitCell) → Stands start s h → slot_at s.circuits c ≡ Some x →
     at h chan cell.circ ≡ Some (record { circ = c; number = 0 }) → port h c 0 ≡ Some (record { chan = l.chan; id = l.id }) → l.chan ≡ chan → l.id ≡ cell.circ → (k : ℕ) (b : Bool) → loses cell k ≡ b →
     LegBy (slot_at x.legs k) sent may_leave (port h c k) (holds_id h c k) → LegBy (if b then None else slot_at x.legs k) sent may_leave (port h c k) (holds_id (downing chan cell c r ∷ h) c k)
 leg-down start s h chan c r cell x l sent may_leave st found here lies on_channel on_id k true is own =
@@ -164,7 +164,7 @@ left-none : (b c : Bool) (xs : List Order) → b ≡ false → (if b && c then x
 left-none true c xs none = absurd cc
 left-none false c xs none = refl
 
-pub down-kept : (start : Start) (s : State) (h : List Step) (chan c r : ℕ) (cell : Cell) (x : CircuitState) (l : LegState) → Stands start s h → slot_at s.circuits c ≡ Some x → slot_at x.legs 0 ≡ Some l → l.chan ≡ chan → l.id ≡ cell.circ →
+pub down-kept : (start : SwitchStart) (s : State) (h : List Step) (chan c r : ℕ) (cell : Cell) (x : CircuitState) (l : LegState) → Stands start s h → slot_at s.circuits c ≡ Some x → slot_at x.legs 0 ≡ Some l → l.chan ≡ chan → l.id ≡ cell.circ →
     at h chan cell.circ ≡ Some (record { circ = c; number = 0 }) → IsRightStep start h (downing chan cell c r) →
     Stands start (torn_state start.rules (events start.rules h c) (lost_leg_state s c (before_down cell x)) c r (before_down cell x)) (downing chan cell c r ∷ h)
 down-kept start s h chan c r cell x l st found first on_channel on_id here right =

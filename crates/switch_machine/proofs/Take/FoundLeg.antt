@@ -7,7 +7,7 @@ use Rattle.tr_io.specs.declared.step.Step.{Step}
 use Rattle.switch_model.specs.History.Circuit.{is_live_circuit}
 use Rattle.switch_model.specs.History.Legs.{at}
 use Rattle.switch_model.specs.Names.{Leg, is_leg}
-use Rattle.switch_model.specs.Start.{Start}
+use Rattle.switch_model.specs.Start.{SwitchStart}
 use Rattle.switch_model.specs.Waiting.Lanes.{Destroy, lane}
 use Rattle.switch_machine.specs.Calls.Take.{found_leg, leg_before, leg_below}
 use Rattle.switch_machine.specs.Machine.{has_port, leg_at, leg_in, legs_of}
@@ -89,18 +89,18 @@ pub leg-found : (s : State) (chan id : ℕ) → IsFound s chan id Whole (found_l
 leg-found s chan id = all-found s chan id (found_leg s chan id) (before-found s chan id (length s.circuits))
 
 -- a CircID that no live circuit's leg has
-not-live_by : (start : Start) (h : List Step) (chan id : ℕ) (leg : Leg) (d : Destroy) (b rest : Bool) → (d.id == id) ≡ b → IsApart start.rules h chan d → at h chan id ≡ Some leg → (rest ≡ true → is_live_circuit start.rules h leg.circ ≡ false) → (b || rest) ≡ true → is_live_circuit start.rules h leg.circ ≡ false
+not-live_by : (start : SwitchStart) (h : List Step) (chan id : ℕ) (leg : Leg) (d : Destroy) (b rest : Bool) → (d.id == id) ≡ b → IsApart start.rules h chan d → at h chan id ≡ Some leg → (rest ≡ true → is_live_circuit start.rules h leg.circ ≡ false) → (b || rest) ≡ true → is_live_circuit start.rules h leg.circ ≡ false
 not-live_by start h chan id leg d true rest is apart found later some =
     let here : at h chan d.id ≡ Some leg = subst (λ i. at h chan i ≡ Some leg) (sym (same-number d.id id is)) found in
     let named : is_leg leg.circ leg.number (at h chan d.id) ≡ true = rw (here, self_eq leg.circ, self_eq leg.number) refl in
     apart leg.circ leg.number named
 not-live_by start h chan id leg d false rest is apart found later some = later some
 
-not-live : (start : Start) (h : List Step) (chan id : ℕ) (leg : Leg) (waits : List Destroy) → AllByRecursion (IsApart start.rules h chan) waits → list_any (λ d. d.id == id) waits ≡ true → at h chan id ≡ Some leg → is_live_circuit start.rules h leg.circ ≡ false
+not-live : (start : SwitchStart) (h : List Step) (chan id : ℕ) (leg : Leg) (waits : List Destroy) → AllByRecursion (IsApart start.rules h chan) waits → list_any (λ d. d.id == id) waits ≡ true → at h chan id ≡ Some leg → is_live_circuit start.rules h leg.circ ≡ false
 not-live start h chan id leg [] apart some found = absurd cc
 not-live start h chan id leg (d ∷ waits) apart some found = not-live_by start h chan id leg d (d.id == id) (list_any (λ e. e.id == id) waits) refl apart.0 found (λ later. not-live start h chan id leg waits apart.1 later found) some
 
-pub used-live : (start : Start) (s : State) (h : List Step) → Stands start s h → (chan id : ℕ) (leg : Leg) → at h chan id ≡ Some leg → IsFound s chan id Whole None → is_live_circuit start.rules h leg.circ ≡ false
+pub used-live : (start : SwitchStart) (s : State) (h : List Step) → Stands start s h → (chan id : ℕ) (leg : Leg) → at h chan id ≡ Some leg → IsFound s chan id Whole None → is_live_circuit start.rules h leg.circ ≡ false
 used-live start s h st chan id leg found none = elim (subst (IsUsed (leg_in s) (lane start.rules h chan) chan id) found (st.ids.used chan id)) [
   | inl has ↦ let clash : false ≡ true = sym (none leg refl) ∙ has in absurd cc
   | inr some ↦ not-live start h chan id leg (lane start.rules h chan) (lane-apart start h st.steps.legal chan) some found
@@ -110,7 +110,7 @@ is-some-leg : (c k : ℕ) (x : Option Leg) → is_leg c k x ≡ true → x ≡ S
 is-some-leg c k None is = absurd cc
 is-some-leg c k (Some leg) is = ap Some (same-leg c k leg (same-number leg.circ c (and-first (leg.circ == c) _ is)) (same-number leg.number k (and-second (leg.circ == c) _ is)))
 
-pub at-found : (start : Start) (s : State) (h : List Step) → Stands start s h → (chan id : ℕ) (leg : Leg) (y : Option LegState) → leg_in s leg ≡ y → has_port chan id y ≡ true → at h chan id ≡ Some leg
+pub at-found : (start : SwitchStart) (s : State) (h : List Step) → Stands start s h → (chan id : ℕ) (leg : Leg) (y : Option LegState) → leg_in s leg ≡ y → has_port chan id y ≡ true → at h chan id ≡ Some leg
 at-found start s h st chan id leg None found has = absurd cc
 at-found start s h st chan id leg (Some l) found has =
     let it = is-some-leg leg.circ leg.number (at h l.chan l.id) (leg-has_id start s h st leg.circ leg.number l found) in

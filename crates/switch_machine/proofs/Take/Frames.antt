@@ -52,7 +52,7 @@ born-same rules h chan cell a same_events same_forth = new-at rules h (Take (cha
 
 abbrev edge_past_of : Rules → List Step → ℕ → List Event → List Way → EdgePast
 edge_past_of rules h d ev born = record (edge_past rules h d) {
-  waiting = λ serial. waiting_orders h d serial (log rules ev);
+  waiting_order_lists = λ serial. waiting_orders h d serial (log rules ev);
   left = λ serial. left_orders h d serial (log rules ev);
   numbers = λ dir. numbers_of (record { circ = d; dir = dir }) born;
 }

@@ -13,7 +13,7 @@ use Rattle.switch_model.specs.Answers.Take.{is_destroy, is_for_circuit}
 use Rattle.switch_model.specs.History.Circuit.{events}
 use Rattle.switch_model.specs.History.Taken.{is_hop}
 use Rattle.switch_model.specs.Names.{Leg, circuit_cell}
-use Rattle.switch_model.specs.Start.{Start}
+use Rattle.switch_model.specs.Start.{SwitchStart}
 use Rattle.switch_machine.specs.Adds.{AddsTo}
 use Rattle.switch_machine.specs.Calls.Take.{circuit_state, found_leg, found_state, freed_lane, leg_state, queued_back_state, queued_forth_state, take_result, take_state}
 use Rattle.switch_machine.specs.Machine.{counted}
@@ -51,7 +51,7 @@ take-steps : (rules : Rules) (ev : ℕ → List Event) (s : State) (chan : ℕ) 
 take-steps rules ev s chan cell =
     if-steps (is_some (slot_at s.channels chan) && is_for_circuit cell.command) _ (counted s) (s.steps + 1) (found-steps rules ev s chan cell (found_leg s chan cell.circ) (take_result rules ev s chan cell)) refl
 
-pub take_adds : (start : Start) (h : List Step) (old new : State) (chan : ChanNo) (cell : Cell) (a : TakeAnswer) → IsWellFormed cell → new ≡ take_state start.rules (events start.rules h) old chan.0 cell →
+pub take_adds : (start : SwitchStart) (h : List Step) (old new : State) (chan : ChanNo) (cell : Cell) (a : TakeAnswer) → IsWellFormed cell → new ≡ take_state start.rules (events start.rules h) old chan.0 cell →
     a ≡ take_result start.rules (events start.rules h) old chan.0 cell → AddsTo start h old new (Take chan cell a)
 unfolding AddsTo
 take_adds start h old new chan cell a formed e f = rw (e, f) (record {

@@ -13,7 +13,7 @@ use Rattle.switch_model.specs.History.Legs.{at}
 use Rattle.switch_model.specs.History.Past.{past}
 use Rattle.switch_model.specs.Legal.{IsRightStep}
 use Rattle.switch_model.specs.Names.{Leg, Way, chan_no}
-use Rattle.switch_model.specs.Start.{Start}
+use Rattle.switch_model.specs.Start.{SwitchStart}
 use Rattle.switch_model.specs.Waiting.Claims.{born_bodies}
 use Rattle.switch_model.specs.Waiting.Lanes.{Destroy, lane}
 use Rattle.switch_machine.specs.Calls.Take.{without_destroys}
@@ -57,7 +57,7 @@ unfreed s chan cell leg l found none =
     unfreed-by chan cell l (frees chan cell l.chan l.id) refl (λ is. subst (λ y. has_port chan cell.circ y ≡ false) found (none is leg))
 
 -- with channels that stand for the lanes behind the step
-passed-with : (start : Start) (s : State) (h : List Step) (chan : ℕ) (cell : Cell) (why : Why) (slots : List (Option ChannelState)) → Stands start s h → IsRightStep start h (Take (chan_no chan) cell (PassedOver why)) → FreesNoLeg s chan cell →
+passed-with : (start : SwitchStart) (s : State) (h : List Step) (chan : ℕ) (cell : Cell) (why : Why) (slots : List (Option ChannelState)) → Stands start s h → IsRightStep start h (Take (chan_no chan) cell (PassedOver why)) → FreesNoLeg s chan cell →
     ChannelsStand slots (λ m. channel_past start.rules (Take (chan_no chan) cell (PassedOver why) ∷ h) m) → length slots ≡ length s.channels → ((leg : Leg) → LiesOn s.channels (leg_in s leg) → LiesOn slots (leg_in s leg)) →
     Stands start (record (counted s) { channels = slots }) (Take (chan_no chan) cell (PassedOver why) ∷ h)
 passed-with start s h chan cell why slots st right none stand size lies =
@@ -93,9 +93,9 @@ lane-at : (rules : Rules) (h : List Step) (chan : ℕ) (cell : Cell) (why : Why)
     ChannelAt x (channel_past rules h m) → ChannelAt x (channel_past rules (Take (chan_no chan) cell (PassedOver why) ∷ h) m)
 lane-at rules h chan cell why m None none own = record { channel = own.channel; lane = rw own.lane refl }
 lane-at rules h chan cell why m (Some x) none own =
-    record { channel = own.channel; given = own.given; lane = own.lane ∙ sym (lane-stays (frees chan cell m) (lane rules h m) (λ d. none x refl d.id)) }
+    record { channel = own.channel; given_count = own.given_count; lane = own.lane ∙ sym (lane-stays (frees chan cell m) (lane rules h m) (λ d. none x refl d.id)) }
 
-pub passed-by : (start : Start) (s : State) (h : List Step) (chan : ℕ) (cell : Cell) (why : Why) → Stands start s h → IsRightStep start h (Take (chan_no chan) cell (PassedOver why)) → FreesNoLeg s chan cell →
+pub passed-by : (start : SwitchStart) (s : State) (h : List Step) (chan : ℕ) (cell : Cell) (why : Why) → Stands start s h → IsRightStep start h (Take (chan_no chan) cell (PassedOver why)) → FreesNoLeg s chan cell →
     ((m : ℕ) (x : ChannelState) → slot_at s.channels m ≡ Some x → (i : ℕ) → frees chan cell m i ≡ false) → Stands start (counted s) (Take (chan_no chan) cell (PassedOver why) ∷ h)
 passed-by start s h chan cell why st right none quiet =
     passed-with start s h chan cell why s.channels st right none
@@ -120,7 +120,7 @@ lane-elsewhere : (rules : Rules) (h : List Step) (chan : ℕ) (cell : Cell) (why
 lane-elsewhere rules h chan cell why m other =
     ap (λ l. record (channel_past rules h m) { lane = l }) (lane-stays (frees chan cell m) (lane rules h m) (λ d. rw other refl))
 
-pub freed-kept : (start : Start) (s : State) (h : List Step) (chan : ℕ) (cell : Cell) (why : Why) (x : ChannelState) → Stands start s h → slot_at s.channels chan ≡ Some x → (cell.command == 4) ≡ true →
+pub freed-kept : (start : SwitchStart) (s : State) (h : List Step) (chan : ℕ) (cell : Cell) (why : Why) (x : ChannelState) → Stands start s h → slot_at s.channels chan ≡ Some x → (cell.command == 4) ≡ true →
     IsRightStep start h (Take (chan_no chan) cell (PassedOver why)) → FreesNoLeg s chan cell →
     Stands start (record (counted s) { channels = with_slot s.channels chan (Some (without_destroys cell.circ x)) }) (Take (chan_no chan) cell (PassedOver why) ∷ h)
 freed-kept start s h chan cell why x st found is right none =
@@ -128,5 +128,5 @@ freed-kept start s h chan cell why x st found is right none =
     let own = channel-own s.channels (λ m. channel_past rules h m) chan x found st.channels in
     passed-with start s h chan cell why (with_slot s.channels chan (Some (without_destroys cell.circ x))) st right none
     (channel-changed s.channels (λ m. channel_past rules h m) (λ m. channel_past rules (Take (chan_no chan) cell (PassedOver why) ∷ h) m) chan x (without_destroys cell.circ x) found (λ m other. lane-elsewhere rules h chan cell why m other)
-    (record { channel = own.channel; given = own.given; lane = rw own.lane (filter-same _ _ (lane rules h chan) (λ d. freed-here chan cell d.id is)) }) st.channels)
+    (record { channel = own.channel; given_count = own.given_count; lane = rw own.lane (filter-same _ _ (lane rules h chan) (λ d. freed-here chan cell d.id is)) }) st.channels)
     (length-with s.channels chan _) (λ leg. lies-with s.channels chan (without_destroys cell.circ x) (leg_in s leg) (slot_at-inside s.channels chan x found))

@@ -17,7 +17,7 @@ use Rattle.switch_model.specs.History.Past.{Past, past}
 use Rattle.switch_model.specs.History.Taken.{taken_forth}
 use Rattle.switch_model.specs.Legal.{IsRightStep}
 use Rattle.switch_model.specs.Names.{Way, chan_no, circuit_cell}
-use Rattle.switch_model.specs.Start.{Start}
+use Rattle.switch_model.specs.Start.{SwitchStart}
 use Rattle.switch_model.specs.Waiting.Claims.{born_bodies}
 use Rattle.switch_model.specs.Waiting.Counts.{cell_count, tick}
 use Rattle.switch_model.specs.Waiting.Dials.{dials_made, was_handed_out}
@@ -83,7 +83,7 @@ circuit-queued rules closes h chan c n cell x here other same own =
       dial = own.dial;
     })
 
-pub queued-forth : (start : Start) (s : State) (h : List Step) (chan c : ℕ) (cell : Cell) (x : CircuitState) → Stands start s h → slot_at s.circuits c ≡ Some x → at h chan cell.circ ≡ Some (record { circ = c; number = 0 }) →
+pub queued-forth : (start : SwitchStart) (s : State) (h : List Step) (chan c : ℕ) (cell : Cell) (x : CircuitState) → Stands start s h → slot_at s.circuits c ≡ Some x → at h chan cell.circ ≡ Some (record { circ = c; number = 0 }) →
     (cell.command == 4) ≡ false → IsRightStep start h (queueing chan cell) → Stands start (queued_forth_state s c (circuit_cell cell) x) (queueing chan cell ∷ h)
 queued-forth start s h chan c cell x st found here other right =
     let rules = start.rules in

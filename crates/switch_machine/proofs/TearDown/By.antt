@@ -5,7 +5,7 @@ use Rattle.std.proofs.Math.Path.{fun_ext}
 use Rattle.std.proofs.lemmas.Bool.Decides.{eqb_tells}
 use Rattle.circuit_model.specs.Words.{log}
 use Rattle.tr_io.specs.declared.step.Step.{Step}
-use Rattle.switch_model.specs.Start.{Start}
+use Rattle.switch_model.specs.Start.{SwitchStart}
 use Rattle.switch_model.specs.Names.{Leg}
 use Rattle.switch_model.specs.History.Channels.{channel_at, given_ids}
 use Rattle.switch_model.specs.History.Legs.{port, hops, at, holds_id}
@@ -40,11 +40,11 @@ use Rattle.switch_machine.proofs.TearDown.Torn.{old-leg, gone-leg, gone-dial, po
 
 -- The state s is that of the step but for the teardown of circuit c, whose state there is x. `lanes`
 -- are the lanes before the teardown.
-pub record ToTear (start : Start) (s : State) (h : List Step) (step : Step) (c reason : ℕ) (x : CircuitState) (lanes : ℕ → List Destroy) : Type 0 where
+pub record ToTear (start : SwitchStart) (s : State) (h : List Step) (step : Step) (c reason : ℕ) (x : CircuitState) (lanes : ℕ → List Destroy) : Type 0 where
   pub said : IsRightStep start h step
   pub steps : s.steps ≡ length h + 1
   pub numbers : NumbersStand (numbers_in s) (numbers_past start.rules (step ∷ h))
-  pub channels : ChannelsStand s.channels (λ n. record { channel = channel_at (step ∷ h) n; given = given_ids (step ∷ h) n; lane = lanes n })
+  pub channels : ChannelsStand s.channels (λ n. record { channel = channel_at (step ∷ h) n; given_count = given_ids (step ∷ h) n; lane = lanes n })
   pub others : (d : ℕ) → (c == d) ≡ false → CircuitAt start.rules s.last_closes (slot_at s.circuits d) d (past start.rules (step ∷ h) d) (λ k. holds_id (step ∷ h) d k) (edge_past start.rules (step ∷ h) d)
   pub fresh : (d : ℕ) → length s.circuits ≤ d → IsFresh (past start.rules (step ∷ h) d) (edge_past start.rules (step ∷ h) d)
   pub ids : CircIdsStand (leg_in s) lanes (at (step ∷ h))
@@ -69,7 +69,7 @@ lie-torn slots put false y lies = lies-lanes slots put y lies
 off-channel : (slots : List (Option ChannelState)) (y : LegState) (n : ℕ) → LiesOn slots (Some y) → slot_at slots n ≡ None → (y.chan == n) ≡ false
 off-channel slots y n lies none = not_equal y.chan n (λ same. let no : false ≡ true = rw (← same, none) at lies in absurd cc)
 
-pub torn-by : (start : Start) (old s : State) (h : List Step) (step : Step) (c reason : ℕ) (x : CircuitState) (lanes : ℕ → List Destroy) → Stands start old h → ToTear start s h step c reason x lanes →
+pub torn-by : (start : SwitchStart) (old s : State) (h : List Step) (step : Step) (c reason : ℕ) (x : CircuitState) (lanes : ℕ → List Destroy) → Stands start old h → ToTear start s h step c reason x lanes →
     Stands start (torn_state start.rules (events start.rules (step ∷ h) c) s c reason x) (step ∷ h)
 torn-by start old s h step c reason x lanes st to =
     let rules = start.rules in
@@ -90,7 +90,7 @@ torn-by start old s h step c reason x lanes st to =
         dial_orders = to.numbers.dial_orders;
         tick = to.numbers.tick;
       };
-      channels = channels-torn s.channels (λ n. record { channel = channel_at (step ∷ h) n; given = given_ids (step ∷ h) n; lane = lanes n }) (λ n. channel_past rules (step ∷ h) n) put (λ n. rw (lane_is n) refl)
+      channels = channels-torn s.channels (λ n. record { channel = channel_at (step ∷ h) n; given_count = given_ids (step ∷ h) n; lane = lanes n }) (λ n. channel_past rules (step ∷ h) n) put (λ n. rw (lane_is n) refl)
           (λ n none. none-put x.legs n _ reason (λ k y has. let found_leg : leg_in s (record { circ = c; number = k }) ≡ Some y = rw to.found has in
           off-channel s.channels y n (subst (λ z. LiesOn s.channels z) found_leg (to.legs_stand.lie (record { circ = c; number = k }))) none) (length x.legs)) to.channels;
       circuits = record {

@@ -17,7 +17,7 @@ use Rattle.switch_model.specs.History.EdgePast.{edge_past}
 use Rattle.switch_model.specs.History.Legs.{holds_id}
 use Rattle.switch_model.specs.History.Past.{past}
 use Rattle.switch_model.specs.Names.{circ_no}
-use Rattle.switch_model.specs.Start.{Start}
+use Rattle.switch_model.specs.Start.{SwitchStart}
 use Rattle.switch_model.specs.Waiting.Lanes.{lane}
 use Rattle.tr_io.specs.declared.answers.BackAnswer.{BackAnswer}
 use Rattle.tr_io.specs.declared.step.Step.{Step}
@@ -26,7 +26,7 @@ use Rattle.tr_io.specs.declared.step.Step.TheVariants.{TearDown}
 abbrev tearing : ℕ → ℕ → Step
 tearing c reason = TearDown (circ_no c) reason (BackAnswer.Down reason)
 
-pub torn-kept : (start : Start) (s : State) (h : List Step) (c reason : ℕ) (x : CircuitState) → Stands start s h → slot_at s.circuits c ≡ Some x →
+pub torn-kept : (start : SwitchStart) (s : State) (h : List Step) (c reason : ℕ) (x : CircuitState) → Stands start s h → slot_at s.circuits c ≡ Some x →
     Stands start (torn_state start.rules (events start.rules h c) (counted s) c reason x) (tearing c reason ∷ h)
 torn-kept start s h c reason x st found =
     let rules = start.rules in
@@ -57,16 +57,16 @@ torn-kept start s h c reason x st found =
       dead = rw (self_eq c) refl;
     })
 
-gone-kept : (start : Start) (s : State) (h : List Step) (c reason : ℕ) → Stands start s h → slot_at s.circuits c ≡ None → Stands start (counted s) (TearDown (circ_no c) reason BackAnswer.Gone ∷ h)
+gone-kept : (start : SwitchStart) (s : State) (h : List Step) (c reason : ℕ) → Stands start s h → slot_at s.circuits c ≡ None → Stands start (counted s) (TearDown (circ_no c) reason BackAnswer.Gone ∷ h)
 gone-kept start s h c reason st none =
     let gone = subst (λ x. CircuitAt start.rules s.last_closes x c (past start.rules h c) (λ k. holds_id h c k) (edge_past start.rules h c)) none (st.circuits.circuit c) in
     step-alone start s h (TearDown (circ_no c) reason BackAnswer.Gone) refl (tt, rw gone.live refl) st
 
-by-circuit : (start : Start) (s : State) (h : List Step) (c reason : ℕ) (x : Option CircuitState) → Stands start s h → slot_at s.circuits c ≡ x →
+by-circuit : (start : SwitchStart) (s : State) (h : List Step) (c reason : ℕ) (x : Option CircuitState) → Stands start s h → slot_at s.circuits c ≡ x →
     Stands start (tear_down_state_of start.rules (events start.rules h c) s c reason x) (TearDown (circ_no c) reason (tear_down_result_of x reason) ∷ h)
 by-circuit start s h c reason None st found = gone-kept start s h c reason st found
 by-circuit start s h c reason (Some x) st found = torn-kept start s h c reason x st found
 
-pub tear_down_kept : (start : Start) (s : State) (h : List Step) (c reason : ℕ) → Stands start s h →
+pub tear_down_kept : (start : SwitchStart) (s : State) (h : List Step) (c reason : ℕ) → Stands start s h →
     Stands start (tear_down_state start.rules (events start.rules h) s c reason) (TearDown (circ_no c) reason (tear_down_result s c reason) ∷ h)
 tear_down_kept start s h c reason st = by-circuit start s h c reason (slot_at s.circuits c) st refl

@@ -89,7 +89,7 @@ lies-lanes slots put (Some leg) lies = rw (slot_at-lanes put 0 slots leg.chan) (
 channel-torn : (x : Option ChannelState) (p : ChannelPast) (put : ℕ → List Destroy) (n : ℕ) → (x ≡ None → put n ≡ []) → ChannelAt x p →
     ChannelAt (option_map (with_lane n put) x) (record p { lane = p.lane ++ put n })
 channel-torn None p put n none at = record { channel = at.channel; lane = rw (none refl) (append-nil p.lane ∙ at.lane) }
-channel-torn (Some x) p put n none at = record { channel = at.channel; given = at.given; lane = ap (λ l. l ++ put n) at.lane }
+channel-torn (Some x) p put n none at = record { channel = at.channel; given_count = at.given_count; lane = ap (λ l. l ++ put n) at.lane }
 
 pub channels-torn : (slots : List (Option ChannelState)) (p q : ℕ → ChannelPast) (put : ℕ → List Destroy) → ((n : ℕ) → q n ≡ record (p n) { lane = (p n).lane ++ put n }) → ((n : ℕ) → slot_at slots n ≡ None → put n ≡ []) →
     ChannelsStand slots p → ChannelsStand (with_lanes put 0 slots) q

@@ -14,7 +14,7 @@ channel_up_result s =
 
 -- A channel on which nothing happened yet.
 abbrev pub new_channel : Side → ChannelState
-new_channel side = record { side = side; to = None; given = 0; lane = [] }
+new_channel side = record { side = side; to = None; given_count = 0; lane = [] }
 
 abbrev pub channel_up_state : State → Side → State
 channel_up_state s side =

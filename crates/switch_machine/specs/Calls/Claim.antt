@@ -20,11 +20,11 @@ way_in s way = way_at (slot_at s.circuits way.circ) way.dir
 -- The number of the body that a direction offers: the first that waits, where no claim is out.
 abbrev pub first_number : List WaitingCell → Option ℕ
 first_number [] = None
-first_number (waiting ∷ more) = Some waiting.number
+first_number (body ∷ more) = Some body.number
 
 abbrev pub offered_by : Option WayState → Option ℕ
 offered_by None = None
-offered_by (Some way) = if is_none way.kept then first_number way.waiting else None
+offered_by (Some way) = if is_none way.claim_out then first_number way.waiting_bodies else None
 
 abbrev pub offered : State → Way → Option ℕ
 offered s way = offered_by (way_in s way)
@@ -51,7 +51,7 @@ abbrev pub soonest : State → Option Offer
 soonest s = soonest_below s (length s.circuits)
 
 abbrev pub waiting_cells : List WaitingCell → List CircuitCell
-waiting_cells waiting = map (λ w. w.cell) waiting
+waiting_cells waiting_bodies = map (λ w. w.cell) waiting_bodies
 
 -- The claim of a direction.
 abbrev pub claim_note : ℕ → State → ℕ → Way → WayState → ClaimNote
@@ -61,8 +61,8 @@ claim_note name s worker way w = record {
   worker = worker;
   circ = circ_no way.circ;
   dir = way.dir;
-  first = w.claimed;
-  count = min claim_limit (length w.waiting);
+  first = w.claimed_count;
+  count = min claim_limit (length w.waiting_bodies);
 }
 
 abbrev pub note_at : ℕ → State → ℕ → Way → Option WayState → Option ClaimNote
@@ -80,9 +80,9 @@ claim_result name s worker = claim_result_of name s worker (soonest s)
 -- The direction with its first bodies out.
 abbrev pub claimed_way : ClaimNote → WayState → WayState
 claimed_way note w = record {
-  claimed = w.claimed + note.count;
-  kept = Some (record { note = note; cells = waiting_cells (take note.count w.waiting) });
-  waiting = drop note.count w.waiting;
+  claimed_count = w.claimed_count + note.count;
+  claim_out = Some (record { note = note; cells = waiting_cells (take note.count w.waiting_bodies) });
+  waiting_bodies = drop note.count w.waiting_bodies;
 }
 
 abbrev pub with_way : CircuitState → Dir → WayState → CircuitState

@@ -23,14 +23,14 @@ use Rattle.switch_machine.specs.Calls.TearDown.{torn_state}
 -- Of a job that is what the switch gave out.
 abbrev pub done_result : Rules → List Event → CircuitState → Dir → BackAnswer
 done_result rules ev x Back = BackAnswer.Settled
-done_result rules ev x Forth = done_by (settling_reason rules x.sent_count ev (kept_cells x.forth.kept))
+done_result rules ev x Forth = done_by (settling_reason rules x.sent_count ev (kept_cells x.forth.claim_out))
 
 -- Of a return for a circuit that was opened here; `answer` is given to one that passes.
 abbrev pub return_result_on : ClaimNote → Option ℕ → Option CircuitState → (CircuitState → BackAnswer) → BackAnswer
 return_result_on note place None answer = BackAnswer.Gone
 return_result_on note place (Some x) answer =
-    if not (is_note note (kept_note (way_of_circuit x note.dir).kept))
-    then BackAnswer.Stranger (Difference.Note (kept_note (way_of_circuit x note.dir).kept) note)
+    if not (is_note note (kept_note (way_of_circuit x note.dir).claim_out))
+    then BackAnswer.Stranger (Difference.Note (kept_note (way_of_circuit x note.dir).claim_out) note)
     else returned note place (answer x)
 
 abbrev pub return_result : ℕ → State → ClaimNote → Option ℕ → (CircuitState → BackAnswer) → BackAnswer
@@ -63,7 +63,7 @@ settle_all rules y (cell ∷ cells) =
 
 -- The claim of a direction came home.
 abbrev pub home_way : WayState → WayState
-home_way way = record way { kept = None }
+home_way way = record way { claim_out = None }
 
 -- The circuit once its claimed bodies, these, came home.
 abbrev pub settled_home : Rules → List Event → State → CircuitState → List CircuitCell → Settling
@@ -81,12 +81,12 @@ abbrev pub sealed_cells : List ℕ → ℕ → List CircuitCell → List Circuit
 sealed_cells key n cells = all_sealed key n (map body_of cells)
 
 abbrev pub first_kept : Option KeptClaim → ℕ
-first_kept (Some kept) = kept.note.first
+first_kept (Some claim_out) = claim_out.note.first
 first_kept None = 0
 
 abbrev pub sealed_circuit : Rules → List Event → CircuitState → CircuitState
 sealed_circuit rules ev x = record x {
-  legs = queued_on x.legs 0 (sealed_cells (born_keys (log rules ev)).kb (first_kept x.back.kept) (kept_cells x.back.kept));
+  legs = queued_on x.legs 0 (sealed_cells (born_keys (log rules ev)).kb (first_kept x.back.claim_out) (kept_cells x.back.claim_out));
   back = home_way x.back;
 }
 
@@ -96,7 +96,7 @@ sealed_state rules ev s c x = record (counted s) { circuits = with_slot s.circui
 -- The state, by the answer.
 
 abbrev pub done_state : Rules → List Event → State → ℕ → CircuitState → Dir → State
-done_state rules ev s c x Forth = settled_state rules ev s c x (kept_cells x.forth.kept)
+done_state rules ev s c x Forth = settled_state rules ev s c x (kept_cells x.forth.claim_out)
 done_state rules ev s c x Back = sealed_state rules ev s c x
 
 -- Where a body closes, the circuit is torn down behind it.
@@ -108,7 +108,7 @@ closed_state rules ev s c x cells reason =
 abbrev pub give_back_state_of : Rules → List Event → State → ClaimNote → Option CircuitState → BackAnswer → State
 give_back_state_of rules ev s note (Some x) BackAnswer.Settled = done_state rules ev s note.circ.0 x note.dir
 give_back_state_of rules ev s note (Some x) (BackAnswer.Down reason) =
-    closed_state rules ev s note.circ.0 x (kept_cells x.forth.kept) reason
+    closed_state rules ev s note.circ.0 x (kept_cells x.forth.claim_out) reason
 give_back_state_of rules ev s note circuit answer = counted s
 
 abbrev pub give_back_state : ℕ → Rules → (ℕ → List Event) → State → ClaimNote → Option ℕ → State

@@ -12,7 +12,7 @@ use Rattle.switch_machine.specs.Machine.{counted, leg_at, leg_in, legs_of}
 
 -- A tick that is given is in force from then on, unless a greater one was.
 abbrev pub ticked : State → ℕ → State
-ticked s given = record (counted s) { tick = max s.tick given }
+ticked s new_tick = record (counted s) { tick = max s.tick new_tick }
 
 -- A leg's count where this tick is in force.
 abbrev pub count_of : ℕ → LegState → ℕ
@@ -25,7 +25,7 @@ count_of_found now None = 0
 
 -- The count of a leg of the switch where this tick is given.
 abbrev pub cell_count_in : State → ℕ → Leg → ℕ
-cell_count_in s given leg = count_of_found (max s.tick given) (leg_in s leg)
+cell_count_in s new_tick leg = count_of_found (max s.tick new_tick) (leg_in s leg)
 
 -- The legs of a channel on which cells wait, by circuit number and then by leg number.
 
@@ -54,7 +54,7 @@ waiting_on s chan = waiting_before s chan (length s.circuits)
 
 -- The leg that is served next.
 abbrev pub picked_leg : State → ℕ → ℕ → Option Leg
-picked_leg s chan given = least_of (cell_count_in s given) (waiting_on s chan)
+picked_leg s chan new_tick = least_of (cell_count_in s new_tick) (waiting_on s chan)
 
 -- The first cell that waits on a leg.
 abbrev pub first_cell : Option LegState → Option Cell
@@ -67,13 +67,13 @@ cell_of_leg s (Some leg) = first_cell (leg_in s leg)
 cell_of_leg s None = None
 
 abbrev pub next_result_on : State → ℕ → ℕ → Option ChannelState → Option Cell
-next_result_on s chan given (Some channel) =
-    destroy_or channel.lane (cell_of_leg s (picked_leg s chan given))
-next_result_on s chan given None = None
+next_result_on s chan new_tick (Some channel) =
+    destroy_or channel.lane (cell_of_leg s (picked_leg s chan new_tick))
+next_result_on s chan new_tick None = None
 
 -- The cell that leaves: the oldest DESTROY of the lane, else that of the picked leg.
 abbrev pub next_cell_result : State → ℕ → ℕ → Option Cell
-next_cell_result s chan given = next_result_on s chan given (slot_at s.channels chan)
+next_cell_result s chan new_tick = next_result_on s chan new_tick (slot_at s.channels chan)
 
 -- A leg that sent its first cell: charged at the tick in force, or gone with its DESTROY.
 abbrev pub sent_first : ℕ → LegState → List CircuitCell → Option LegState
@@ -106,11 +106,11 @@ sent_from s now (Some leg) = with_leg s now leg (slot_at s.circuits leg.circ) (l
 sent_from s now None = s
 
 abbrev pub next_state_on : State → ℕ → ℕ → Option ChannelState → List Destroy → State
-next_state_on s chan given (Some channel) (d ∷ lane) =
-    record (ticked s given) { channels = with_slot s.channels chan (Some (record channel { lane = lane })) }
-next_state_on s chan given (Some channel) [] =
-    sent_from (ticked s given) (max s.tick given) (picked_leg s chan given)
-next_state_on s chan given None lane = ticked s given
+next_state_on s chan new_tick (Some channel) (d ∷ lane) =
+    record (ticked s new_tick) { channels = with_slot s.channels chan (Some (record channel { lane = lane })) }
+next_state_on s chan new_tick (Some channel) [] =
+    sent_from (ticked s new_tick) (max s.tick new_tick) (picked_leg s chan new_tick)
+next_state_on s chan new_tick None lane = ticked s new_tick
 
 abbrev pub lane_of : Option ChannelState → List Destroy
 lane_of (Some channel) = channel.lane
@@ -118,5 +118,5 @@ lane_of None = []
 
 -- The state behind it.
 abbrev pub next_cell_state : State → ℕ → ℕ → State
-next_cell_state s chan given =
-    next_state_on s chan given (slot_at s.channels chan) (lane_of (slot_at s.channels chan))
+next_cell_state s chan new_tick =
+    next_state_on s chan new_tick (slot_at s.channels chan) (lane_of (slot_at s.channels chan))

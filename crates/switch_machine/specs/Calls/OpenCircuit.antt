@@ -45,7 +45,7 @@ open_result most s chan id keys = open_result_on most s chan id keys (slot_at s.
 
 -- A direction that was given no bodies.
 abbrev pub no_bodies : WayState
-no_bodies = record { claimed = 0; kept = None; waiting = [] }
+no_bodies = record { claimed_count = 0; claim_out = None; waiting_bodies = [] }
 
 -- Leg 0, on which the answer to the opening waits.
 abbrev pub first_leg : ℕ → ℕ → Cell → LegState

@@ -23,7 +23,7 @@ pub record Settling : Type 0 where
 
 -- One more body waits.
 abbrev pub more_waits : ℕ → CircuitCell → WayState → WayState
-more_waits number cell way = record way { waiting = way.waiting ++ record { number = number; cell = cell } ∷ [] }
+more_waits number cell way = record way { waiting_bodies = way.waiting_bodies ++ record { number = number; cell = cell } ∷ [] }
 
 -- A body that goes back waits to be sealed.
 abbrev pub back_waits : ℕ → Option (List ℕ) → WayState → WayState

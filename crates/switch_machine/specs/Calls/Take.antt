@@ -54,12 +54,12 @@ queued_on_hops x zero = 0
 queued_on_hops x (suc k) = queued_on_hops x k + queue_length (slot_at x.legs (suc k))
 
 abbrev pub kept_length : Option KeptClaim → ℕ
-kept_length (Some kept) = length kept.cells
+kept_length (Some claim_out) = length claim_out.cells
 kept_length None = 0
 
 abbrev pub held_by : Rules → List Event → CircuitState → Dir → ℕ
 held_by rules ev x Back = held_back_after rules ev x.sent_count
-held_by rules ev x Forth = kept_length x.forth.kept + length x.forth.waiting + queued_on_hops x (length x.legs - 1)
+held_by rules ev x Forth = kept_length x.forth.claim_out + length x.forth.waiting_bodies + queued_on_hops x (length x.legs - 1)
 
 -- The answer.
 

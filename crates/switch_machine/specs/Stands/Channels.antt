@@ -8,16 +8,16 @@ use Rattle.switch_machine.specs.State.{ChannelState, slot_at}
 
 pub record ChannelPast : Type 0 where
   pub channel : Option Channel
-  pub given : ℕ
+  pub given_count : ℕ
   pub lane : List Destroy
 
 abbrev pub channel_past : Rules → List Step → ℕ → ChannelPast
-channel_past rules h chan = record { channel = channel_at h chan; given = given_ids h chan; lane = lane rules h chan }
+channel_past rules h chan = record { channel = channel_at h chan; given_count = given_ids h chan; lane = lane rules h chan }
 
 -- A live channel.
 pub record ChannelStands (x : ChannelState) (p : ChannelPast) : Type 0 where
   pub channel : p.channel ≡ Some (record { side = x.side; to = x.to })
-  pub given : x.given ≡ p.given
+  pub given_count : x.given_count ≡ p.given_count
   pub lane : x.lane ≡ p.lane
 
 -- Any other number.
@@ -31,4 +31,4 @@ ChannelAt (Some x) p = ChannelStands x p
 
 pub record ChannelsStand (slots : List (Option ChannelState)) (p : ℕ → ChannelPast) : Type 0 where
   pub channel : (chan : ℕ) → ChannelAt (slot_at slots chan) (p chan)
-  pub no_channel : (chan : ℕ) → length slots ≤ chan → (p chan).given ≡ 0
+  pub no_channel : (chan : ℕ) → length slots ≤ chan → (p chan).given_count ≡ 0

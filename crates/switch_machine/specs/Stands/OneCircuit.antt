@@ -65,10 +65,10 @@ pub record CircuitStands (rules : Rules) (closes : List Ordered) (x : CircuitSta
   pub hops : length x.legs ≡ p.hops + 1
   pub legs : (k : ℕ) → LegAt rules (slot_at x.legs k) k p (has_id k)
   pub forth :
-      WayStands c Forth x.forth (settled_forth (log rules p.events)) p.taken_forth (p.claimed Forth) (p.kept Forth) (e.numbers Forth)
+      WayStands c Forth x.forth (settled_forth (log rules p.events)) p.taken_forth (p.claimed_count Forth) (p.claim_out Forth) (e.numbers Forth)
   pub back :
       WayStands c Back x.back (take p.sealed_count (relay_cells (behind (log rules p.events))))
-      (relay_cells (behind (log rules p.events))) (p.claimed Back) (p.kept Back) (e.numbers Back)
+      (relay_cells (behind (log rules p.events))) (p.claimed_count Back) (p.claim_out Back) (e.numbers Back)
   pub orders : OrdersStand x.reach_orders x.carry_orders x.close_orders (log rules p.events)
   pub no_left : (serial : ℕ) → left_at closes c serial ≡ []
   pub dial : x.dial ≡ open_dial (log rules p.events) e
@@ -93,8 +93,8 @@ no_past = record {
   port = λ k. None;
   hops = 0;
   sealed_count = 0;
-  claimed = λ dir. 0;
-  kept = λ dir. None;
+  claimed_count = λ dir. 0;
+  claim_out = λ dir. None;
 }
 
 pub record IsFresh (p : Past) (e : EdgePast) : Type 0 where

@@ -7,7 +7,7 @@ use Rattle.tr_io.specs.declared.answers.OpenAnswer.{OpenAnswer}
 use Rattle.tr_io.specs.declared.answers.OpenAnswer.TheVariants.{Opened, Refused}
 use Rattle.tr_io.specs.declared.answers.OpenRefusal.{OpenRefusal}
 use Rattle.tr_io.specs.declared.step.Step.{Step}
-use Rattle.switch_model.specs.Start.{Start}
+use Rattle.switch_model.specs.Start.{SwitchStart}
 use Rattle.switch_model.specs.Limits.{given_id_base}
 use Rattle.switch_model.specs.Names.{circ_no}
 use Rattle.switch_model.specs.History.Channels.{Channel, channel_at, is_live_channel, opened_by_us, count_below}
@@ -30,7 +30,7 @@ is_peers_id channel id =
     if opened_by_us channel then not (nat_le given_id_base id) else nat_le given_id_base id
 
 -- An opening at a CircID, with the keys of its handshake where that was good.
-abbrev pub open_answer : Start → List Step → ℕ → ℕ → Option LayerKeys → OpenAnswer
+abbrev pub open_answer : SwitchStart → List Step → ℕ → ℕ → Option LayerKeys → OpenAnswer
 open_answer start h chan id keys =
     if not (is_live_channel h chan) then Refused OpenRefusal.NoChannel
     else if id == 0 then Refused OpenRefusal.BadId

@@ -14,7 +14,7 @@ use Rattle.switch_model.specs.Waiting.Dials.{Dial, dials_made, is_from, was_hand
 pub record EdgePast : Type 0 where
   -- by the serial of a place: the orders that wait while the circuit is live, and those that are left
   -- once it is torn down
-  pub waiting : ℕ → List Order
+  pub waiting_order_lists : ℕ → List Order
   pub left : ℕ → List Order
   -- the dial orders that the circuit made, and which numbers were handed out
   pub dials : List Dial
@@ -31,7 +31,7 @@ numbers_of way (other ∷ older) =
 -- The same of circuit c.
 abbrev pub edge_past : Rules → List Step → ℕ → EdgePast
 edge_past rules h c = record {
-  waiting = λ serial. waiting_orders h c serial (circuit_log rules h c);
+  waiting_order_lists = λ serial. waiting_orders h c serial (circuit_log rules h c);
   left = λ serial. left_orders h c serial (circuit_log rules h c);
   dials = filter (is_from c) (dials_made rules h);
   handed_out = λ order. was_handed_out h order;

@@ -19,14 +19,14 @@ use Rattle.switch_model.specs.History.Relayed.{settled_forth}
 -- Forth: the claim has the next cells that were taken, all of them settle in their order, and where the
 -- circuit closes those behind the body that closes are no events.
 pub record AddsNext (rules : Rules) (h : List Step) (note : ClaimNote) (place : Option ℕ) (answer : BackAnswer) : Type 0 where
-  pub settling : List CircuitCell
-  pub unsettled : List CircuitCell
+  pub settling_cells : List CircuitCell
+  pub unsettled_cells : List CircuitCell
   pub rest : List CircuitCell
-  pub claim : settling ++ unsettled ≡ claimed_cells h note
-  pub all : answer ≡ Settled → unsettled ≡ []
+  pub claim : settling_cells ++ unsettled_cells ≡ claimed_cells h note
+  pub all : answer ≡ Settled → unsettled_cells ≡ []
   pub count : length (claimed_cells h note) ≡ note.count
   pub next : settled_forth (circuit_log rules h note.circ.0) ++ claimed_cells h note ++ rest ≡ taken_forth h note.circ.0
-  pub events : events rules (GiveBack note place answer ∷ h) note.circ.0 ≡ events_behind (events rules h note.circ.0) settling
+  pub events : events rules (GiveBack note place answer ∷ h) note.circ.0 ≡ events_behind (events rules h note.circ.0) settling_cells
 
 -- Back: the claim has the next bodies that went back, and they are sealed now.
 pub record SealsNext (rules : Rules) (h : List Step) (note : ClaimNote) (place : Option ℕ) : Type 0 where

@@ -14,7 +14,7 @@ use Rattle.switch_model.specs.History.Taken.{taken_forth, taken_back}
 use Rattle.switch_model.specs.History.Teardowns.{teardown, reason_of}
 use Rattle.switch_model.specs.History.Circuit.{is_live_circuit, sent, events, lies_on}
 use Rattle.switch_model.specs.Waiting.Queues.{circuit_log, sealed_count}
-use Rattle.switch_model.specs.Waiting.Claims.{claimed, kept}
+use Rattle.switch_model.specs.Waiting.Claims.{claimed_count, claim_out}
 
 pub record Past : Type 0 where
   pub live : Bool
@@ -27,8 +27,8 @@ pub record Past : Type 0 where
   pub hops : ℕ
   pub sealed_count : ℕ
   -- by direction
-  pub claimed : Dir → ℕ
-  pub kept : Dir → Option ClaimNote
+  pub claimed_count : Dir → ℕ
+  pub claim_out : Dir → Option ClaimNote
 
 -- The past of circuit c.
 abbrev pub past : Rules → List Step → ℕ → Past
@@ -41,8 +41,8 @@ past rules h c = record {
   port = λ k. port h c k;
   hops = hops h c;
   sealed_count = sealed_count h c;
-  claimed = λ dir. claimed h (record { circ = c; dir = dir });
-  kept = λ dir. kept h (record { circ = c; dir = dir });
+  claimed_count = λ dir. claimed_count h (record { circ = c; dir = dir });
+  claim_out = λ dir. claim_out h (record { circ = c; dir = dir });
 }
 
 abbrev pub is_of_circuit : ℕ → Option Leg → Bool

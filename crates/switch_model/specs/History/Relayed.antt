@@ -24,9 +24,9 @@ abbrev pub bodies_from_hops : Log → List (List ℕ)
 bodies_from_hops log = collected (λ entry. backward_body entry.event) log
 
 -- The forward cells that came home are the beginning of those taken.
-pub record BeginsTaken (settled taken : List CircuitCell) : Type 0 where
+pub record BeginsTaken (settled_cells taken_cells : List CircuitCell) : Type 0 where
   pub rest : List CircuitCell
-  pub cells : settled ++ rest ≡ taken
+  pub cells : settled_cells ++ rest ≡ taken_cells
 
 -- No more DATA was packaged than was granted, for the circuit and for each of its streams (tor-spec, "Flow
 -- control").

@@ -22,19 +22,19 @@ claims (Claim worker (Some note) ∷ h) = claims h + 1
 claims (s ∷ h) = claims h
 
 -- How many bodies of a direction were claimed.
-abbrev pub claimed : List Step → Way → ℕ
-claimed [] way = 0
-claimed (Claim worker (Some note) ∷ h) way =
-    if same_way (way_of note) way then claimed h way + note.count else claimed h way
-claimed (s ∷ h) way = claimed h way
+abbrev pub claimed_count : List Step → Way → ℕ
+claimed_count [] way = 0
+claimed_count (Claim worker (Some note) ∷ h) way =
+    if same_way (way_of note) way then claimed_count h way + note.count else claimed_count h way
+claimed_count (s ∷ h) way = claimed_count h way
 
 -- The note of the claim that is out: the newest of the direction, until its return is accepted.
-abbrev pub kept : List Step → Way → Option ClaimNote
-kept [] way = None
-kept (Claim worker (Some note) ∷ h) way = if same_way (way_of note) way then Some note else kept h way
-kept (GiveBack note place answer ∷ h) way =
-    if same_way (way_of note) way && is_accepted_return answer then None else kept h way
-kept (s ∷ h) way = kept h way
+abbrev pub claim_out : List Step → Way → Option ClaimNote
+claim_out [] way = None
+claim_out (Claim worker (Some note) ∷ h) way = if same_way (way_of note) way then Some note else claim_out h way
+claim_out (GiveBack note place answer ∷ h) way =
+    if same_way (way_of note) way && is_accepted_return answer then None else claim_out h way
+claim_out (s ∷ h) way = claim_out h way
 
 -- How many bodies a direction was given: forth, the relay cells taken on leg 0; back, the bodies
 -- packaged and those of the next hop.
@@ -47,12 +47,12 @@ abbrev pub given_bodies : Rules → List Step → Way → ℕ
 given_bodies rules h way = bodies rules h way way.dir
 
 -- How many of them wait.
-abbrev pub waiting : Rules → List Step → Way → ℕ
-waiting rules h way = given_bodies rules h way - claimed h way
+abbrev pub waiting_count : Rules → List Step → Way → ℕ
+waiting_count rules h way = given_bodies rules h way - claimed_count h way
 
 -- A direction is ready where its circuit is live, no claim of it is out and a body waits.
 abbrev pub is_ready : Rules → List Step → Way → Bool
-is_ready rules h way = is_live_circuit rules h way.circ && (is_none (kept h way) && nat_lt 0 (waiting rules h way))
+is_ready rules h way = is_live_circuit rules h way.circ && (is_none (claim_out h way) && nat_lt 0 (waiting_count rules h way))
 
 -- The circuit that a step can give bodies.
 abbrev pub circuit_at : Option Leg → Option ℕ
@@ -93,7 +93,7 @@ count_way way (other ∷ older) = if same_way other way then count_way way older
 -- Whether a body of this direction waits in a direction that is ready, with these bodies before it. A
 -- body waits where the bodies claimed of its direction are no more than those of it before the body.
 abbrev pub waits_here : Rules → List Step → Way → List Way → Bool
-waits_here rules h way older = is_ready rules h way && nat_le (claimed h way) (count_way way older)
+waits_here rules h way older = is_ready rules h way && nat_le (claimed_count h way) (count_way way older)
 
 -- The direction of the oldest of some bodies, listed newest first, that waits in a direction that is
 -- ready.
@@ -108,4 +108,4 @@ next_way rules h = first_waiting rules h (born_bodies rules h)
 
 -- How many bodies it gets.
 abbrev pub claim_count : Rules → List Step → Way → ℕ
-claim_count rules h way = min claim_limit (waiting rules h way)
+claim_count rules h way = min claim_limit (waiting_count rules h way)

@@ -57,16 +57,16 @@ contents rules h note = record {
 }
 
 -- Two lists of bodies are the same before number i, and differ there.
-pub record DiffersAt (i : ℕ) (given returned : List (List ℕ)) : Type 0 where
-  pub before : take i returned ≡ take i given
-  pub here : slice_get returned i ≡ slice_get given i → ⊥
+pub record DiffersAt (i : ℕ) (given_bodies returned_bodies : List (List ℕ)) : Type 0 where
+  pub before : take i returned_bodies ≡ take i given_bodies
+  pub here : slice_get returned_bodies i ≡ slice_get given_bodies i → ⊥
 
 -- The first place at which what comes back differs from what was given out: 0 is the start state, 1 the
 -- first body. None where all is the same. The start states are as the switch keeps them.
 abbrev pub IsFirstDifference : {A : Type 0} → A → A → List (List ℕ) → List (List ℕ) → Option ℕ → Type 0
-IsFirstDifference start other given returned None = (other ≡ start) × (returned ≡ given)
-IsFirstDifference start other given returned (Some zero) = other ≡ start → ⊥
-IsFirstDifference start other given returned (Some (suc i)) = (other ≡ start) × DiffersAt i given returned
+IsFirstDifference start other given_bodies returned_bodies None = (other ≡ start) × (returned_bodies ≡ given_bodies)
+IsFirstDifference start other given_bodies returned_bodies (Some zero) = other ≡ start → ⊥
+IsFirstDifference start other given_bodies returned_bodies (Some (suc i)) = (other ≡ start) × DiffersAt i given_bodies returned_bodies
 
 -- How many bodies of a direction have room for all that their return can need: those of the claim that is
 -- out. The room was made at the claim, so the return takes no memory.

@@ -13,7 +13,7 @@ use Rattle.switch_model.specs.Waiting.Queues.{queue}
 -- The tick in force: the greatest that was given so far.
 abbrev pub tick : List Step → ℕ
 tick [] = 0
-tick (NextCell chan given answer ∷ h) = max (tick h) given
+tick (NextCell chan new_tick answer ∷ h) = max (tick h) new_tick
 tick (s ∷ h) = tick h
 
 -- A count after so many ticks: each halves it, rounded down.
@@ -27,16 +27,16 @@ charged count = min (count + cell_charge) count_limit
 -- The decaying count of leg k of circuit c at the tick in force. It starts at 0.
 abbrev pub cell_count : Rules → List Step → ℕ → ℕ → ℕ
 cell_count rules [] c k = 0
-cell_count rules (NextCell chan given None ∷ h) c k = halved (cell_count rules h c k) (given - tick h)
-cell_count rules (NextCell chan given (Some cell) ∷ h) c k =
+cell_count rules (NextCell chan new_tick None ∷ h) c k = halved (cell_count rules h c k) (new_tick - tick h)
+cell_count rules (NextCell chan new_tick (Some cell) ∷ h) c k =
     if is_leg c k (at h chan.0 cell.circ) && is_live_circuit rules h c
-    then charged (halved (cell_count rules h c k) (given - tick h))
-    else halved (cell_count rules h c k) (given - tick h)
+    then charged (halved (cell_count rules h c k) (new_tick - tick h))
+    else halved (cell_count rules h c k) (new_tick - tick h)
 cell_count rules (s ∷ h) c k = cell_count rules h c k
 
 -- The same where this tick is given next.
 abbrev pub count_at : Rules → List Step → ℕ → Leg → ℕ
-count_at rules h given leg = halved (cell_count rules h leg.circ leg.number) (given - tick h)
+count_at rules h new_tick leg = halved (cell_count rules h leg.circ leg.number) (new_tick - tick h)
 
 abbrev pub some_in : {A : Type 0} → List A → Bool
 some_in [] = Bool.false
@@ -76,4 +76,4 @@ least_of count (leg ∷ legs) = Some (lesser count leg (least_of count legs))
 -- The leg of a channel that is served next, where this tick is given: of those on which cells wait
 -- the one with the least count, then the least circuit number, then the least leg number.
 abbrev pub pick : Rules → List Step → ℕ → ℕ → Option Leg
-pick rules h chan given = least_of (count_at rules h given) (waiting_legs rules h chan)
+pick rules h chan new_tick = least_of (count_at rules h new_tick) (waiting_legs rules h chan)

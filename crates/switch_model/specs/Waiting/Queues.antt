@@ -51,11 +51,11 @@ queued_forth rules h c (suc k) = queued_forth rules h c k + length (queue rules 
 -- How many cells a direction holds. Back: the answer to the opening and all bodies that went back,
 -- without those sent. Forth: the cells taken and not settled, and those on the legs towards next
 -- hops, legs that TRUNCATE ended among them.
-abbrev pub held : Rules → List Step → ℕ → Dir → ℕ
-held rules h c Back = held_back_after rules (events rules h c) (length (sent rules h c 0))
-held rules h c Forth =
+abbrev pub held_count : Rules → List Step → ℕ → Dir → ℕ
+held_count rules h c Back = held_back_after rules (events rules h c) (length (sent rules h c 0))
+held_count rules h c Forth =
     length (taken_forth h c) - forward_count (circuit_log rules h c) + queued_forth rules h c (hops h c)
 
 -- Whether a direction takes no more.
 abbrev pub is_full : Rules → List Step → ℕ → Dir → Bool
-is_full rules h c dir = nat_le held_limit (held rules h c dir)
+is_full rules h c dir = nat_le held_limit (held_count rules h c dir)

@@ -29,11 +29,11 @@ pub fn read(fields: &[u8]) -> Front<'_>
 }
 
 /// Appends the answer: the note of the job that the worker was given, if it was given one.
-pub fn write_claim(given: Option<ClaimNote>, out: &mut Vec<u8>) -> Result<(), AllocError>
-    ensures ok { OnOk result (out.new.items ≡ out.old.items ++ claim_bytes given) }
+pub fn write_claim(answer_note: Option<ClaimNote>, out: &mut Vec<u8>) -> Result<(), AllocError>
+    ensures ok { OnOk result (out.new.items ≡ out.old.items ++ claim_bytes answer_note) }
     ensures err { OnErr result (out.new.items ≡ out.old.items) }
 {
-    match given {
+    match answer_note {
         Some(note) => write_note(&note, out),
         None => out.extend_from_slice(&[5, 1]),
     }

@@ -24,7 +24,7 @@ pub fn read(alloc: Global, fields: &[u8]) -> Result<Front<'_>, AllocError>
     }
     let chan = ChanNo(u64::from_be_bytes(field(fields, 0)));
     match first_cell(alloc, &fields[8..])? {
-        Some((cell, behind)) => Ok(Front::Whole(Record::Take(chan, cell), behind)),
+        Some((cell, rest_bytes)) => Ok(Front::Whole(Record::Take(chan, cell), rest_bytes)),
         None => Ok(Front::Cut),
     }
 }

@@ -1,7 +1,7 @@
 //! Tapes on which workers claim jobs, and give them back or up.
 use super::take::put_cell;
 use super::tear_down::{NEXT, one_circuit, put_destroy, tear_down};
-use super::{UP, behind, front, play_tape, put};
+use super::{UP, bytes_after, front, play_tape, put};
 use crate::kinds::claim::write_claim;
 use crate::kinds::returns::write_return;
 use std::alloc::{AllocError, Global};
@@ -47,7 +47,7 @@ fn answers_to(alloc: Global, more: &[u8]) -> Result<Vec<u8>, Fail> {
     let Status::Done = run.status else {
         return Ok(Vec::new(alloc));
     };
-    Ok(behind(run.sink.as_slice(), 20)?.to_vec(alloc)?)
+    Ok(bytes_after(run.sink.as_slice(), 20)?.to_vec(alloc)?)
 }
 
 /// The answers of that tape behind the opening.

@@ -3,7 +3,7 @@
 use super::jobs::{claim, job, returned};
 use super::take::put_cell_of;
 use super::tear_down::{NEXT, one_circuit};
-use super::{answers, behind, play_tape, put};
+use super::{answers, bytes_after, play_tape, put};
 use std::test::Fail;
 use tr_io::status::Status;
 
@@ -96,10 +96,13 @@ fn a_question_is_answered_through_two_jobs(rt: HostRuntime) -> Result<(), Fail> 
     put(&mut expected, &[6, 0])?;
     put(&mut expected, &job(1, 1, 0))?;
     put(&mut expected, &[6, 0])?;
-    put(&mut expected, behind(answers(rt.alloc())?.as_slice(), 20)?)?;
+    put(
+        &mut expected,
+        bytes_after(answers(rt.alloc())?.as_slice(), 20)?,
+    )?;
     put(&mut expected, &[8, 1, 0x80, 0, 0, 1, 3])?;
     put(&mut expected, &REPLY)?;
     assert_eq!(rt; run.status, Status::Done);
-    assert_eq!(rt; behind(run.sink.as_slice(), 20)?, expected.as_slice());
+    assert_eq!(rt; bytes_after(run.sink.as_slice(), 20)?, expected.as_slice());
     Ok(())
 }

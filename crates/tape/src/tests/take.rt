@@ -1,6 +1,6 @@
 //! Tapes on which channels bring cells.
 use super::tear_down::{NEXT, one_circuit, put_destroy, tear_down};
-use super::{OPENED, UP, behind, front, play_tape, put};
+use super::{OPENED, UP, bytes_after, front, play_tape, put};
 use crate::kinds::take::write_take;
 use std::alloc::{AllocError, Global};
 use std::test::Fail;
@@ -38,7 +38,7 @@ fn answer(alloc: Global, id: [u8; 4], command: u8) -> Result<Vec<u8>, Fail> {
     let mut tape = one_circuit(alloc)?;
     put_cell(&mut tape, id, command, 0)?;
     let run = play_tape(alloc, tape.as_slice(), 4096, &[], &[])?;
-    Ok(behind(run.sink.as_slice(), 20)?.to_vec(alloc)?)
+    Ok(bytes_after(run.sink.as_slice(), 20)?.to_vec(alloc)?)
 }
 
 /// RELAY and RELAY_EARLY.
@@ -85,7 +85,7 @@ fn a_destroy_from_the_peer_ends_its_circuit(rt: HostRuntime) -> Result<(), Fail>
     let run = play_tape(rt.alloc(), tape.as_slice(), 4096, &[], &[])?;
     assert_eq!(rt; run.status, Status::Done);
     assert_eq!(rt;
-        behind(run.sink.as_slice(), 20)?,
+        bytes_after(run.sink.as_slice(), 20)?,
         [4, 2, 0, 0, 0, 0, 0, 0, 0, 0, 11, 4, 1, 5, 0x0e, 2, 8, 0].as_slice()
     );
     Ok(())
@@ -104,7 +104,7 @@ fn a_created2_from_the_client_closes_its_circuit(rt: HostRuntime) -> Result<(), 
     put_destroy(&mut expected, 1)?;
     put(&mut expected, &[8, 0])?;
     assert_eq!(rt; run.status, Status::Done);
-    assert_eq!(rt; behind(run.sink.as_slice(), 20)?, expected.as_slice());
+    assert_eq!(rt; bytes_after(run.sink.as_slice(), 20)?, expected.as_slice());
     Ok(())
 }
 
@@ -117,8 +117,8 @@ fn cells_of_variable_length_are_passed_over(rt: HostRuntime) -> Result<(), Fail>
         put(&mut tape, &[4, 0, 0, 0, 0, 0, 0, 0, 0, 0, 0, 0, 0])?;
         put(&mut tape, &[command, 0, 3, 5, 6, 7])?;
         for length in [7, 14, 18, 19, 20, 24] {
-            let cut = front(tape.as_slice(), length)?;
-            let run = play_tape(rt.alloc(), cut, 4096, &[], &[])?;
+            let cut_tape = front(tape.as_slice(), length)?;
+            let run = play_tape(rt.alloc(), cut_tape, 4096, &[], &[])?;
             assert_eq!(rt; run.status, Status::BadTape(6));
             assert_eq!(rt; run.sink.as_slice(), UP.as_slice());
         }
@@ -145,8 +145,8 @@ fn a_cut_cell_is_bad(rt: HostRuntime) -> Result<(), Fail> {
     put(&mut expected, &UP)?;
     put(&mut expected, &OPENED)?;
     for length in [550, 557, 558, 562, 563, 1071] {
-        let cut = front(tape.as_slice(), length)?;
-        let run = play_tape(rt.alloc(), cut, 4096, &[], &[])?;
+        let cut_tape = front(tape.as_slice(), length)?;
+        let run = play_tape(rt.alloc(), cut_tape, 4096, &[], &[])?;
         assert_eq!(rt; run.status, Status::BadTape(549));
         assert_eq!(rt; run.sink.as_slice(), expected.as_slice());
     }

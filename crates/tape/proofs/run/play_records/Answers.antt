@@ -16,14 +16,14 @@ play-requires-clause-start g c = made_so _ _ c.loop-front.invariant.start
 pub loop-front-preserved : goal.loop-front-preserved
 loop-front-preserved g c =
     turn_of _ _ _ _ _ _ _ _ _ _ _ _ _ c.hand_on.ensures.switch c.hand_on.ensures.jobs
-    (next_turn _ _ _ c.loop-front.rest.now c.in-Whole.behind.now _ _ (bare c.in-Whole.record) _ c.play.new.self.answers.items _ _ _ _ _ _ _ c.loop-front.invariant
+    (next_turn _ _ _ c.loop-front.rest.now c.in-Whole.rest_bytes.now _ _ (bare c.in-Whole.record) _ c.play.new.self.answers.items _ _ _ _ _ _ _ c.loop-front.invariant
     (subst (λ f. FrontIs f (front_of c.loop-front.rest.now)) c.in-Whole.is c.in-Ok.ensures.front)
     (subst (λ f. RestIsShorter f (length c.loop-front.rest.now)) c.in-Whole.is c.in-Ok.ensures.shorter) c.in-Ok-play.ensures.ok c.play.ensures.start c.play.ensures.steps c.in_ok-hand_on.ensures.ok c.hand_on.ensures.counted)
 
 pub returns-in_err-hand_on-clause-broken : goal.returns-in_err-hand_on-clause-broken
 returns-in_err-hand_on-clause-broken g c =
     on_err _ c.from_residual.result
-    (turn_breaks _ _ _ c.loop-front.rest.now c.in-Whole.behind.now _ _ (bare c.in-Whole.record) _ c.play.new.self.answers.items _ _ _ _ _ _ c.loop-front.invariant
+    (turn_breaks _ _ _ c.loop-front.rest.now c.in-Whole.rest_bytes.now _ _ (bare c.in-Whole.record) _ c.play.new.self.answers.items _ _ _ _ _ _ c.loop-front.invariant
     (subst (λ f. FrontIs f (front_of c.loop-front.rest.now)) c.in-Whole.is c.in-Ok.ensures.front) c.in-Ok-play.ensures.ok c.play.ensures.start c.in_err-hand_on.ensures.err c.in_err-hand_on.ensures.cause)
 
 pub returns-in-Cut-clause-stopped : goal.returns-in-Cut-clause-stopped

@@ -6,15 +6,15 @@ use Rattle.switch_core.proofs.circuit.Circuit.give_out.Goals as goal
 
 pub give_out_forth-requires : goal.give_out_forth-requires
 give_out_forth-requires c = record {
-  none_out = subst (λ (d : Dir). (way_of_circuit c.args.self.now d).kept ≡ None) c.in-Forth.is c.requires.none_out;
-  enough = subst (λ (d : Dir). c.args.note.count ≤ length (way_of_circuit c.args.self.now d).waiting) c.in-Forth.is c.requires.enough;
+  none_out = subst (λ (d : Dir). (way_of_circuit c.args.self.now d).claim_out ≡ None) c.in-Forth.is c.requires.none_out;
+  enough = subst (λ (d : Dir). c.args.note.count ≤ length (way_of_circuit c.args.self.now d).waiting_bodies) c.in-Forth.is c.requires.enough;
   fits = c.requires.fits;
 }
 
 pub give_out_back-requires : goal.give_out_back-requires
 give_out_back-requires c = record {
-  none_out = subst (λ (d : Dir). (way_of_circuit c.args.self.now d).kept ≡ None) c.in-Back.is c.requires.none_out;
-  enough = subst (λ (d : Dir). c.args.note.count ≤ length (way_of_circuit c.args.self.now d).waiting) c.in-Back.is c.requires.enough;
+  none_out = subst (λ (d : Dir). (way_of_circuit c.args.self.now d).claim_out ≡ None) c.in-Back.is c.requires.none_out;
+  enough = subst (λ (d : Dir). c.args.note.count ≤ length (way_of_circuit c.args.self.now d).waiting_bodies) c.in-Back.is c.requires.enough;
   fits = omega (arith, c.requires.fits);
 }
 

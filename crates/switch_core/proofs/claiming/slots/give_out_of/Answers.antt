@@ -9,5 +9,5 @@ give_out-requires c =
     record {
       none_out = may.none_out;
       enough = may.enough;
-      fits = subst (λ (x : Option CircuitState). IfSome x (λ y. y.forth.claimed + length y.forth.waiting < 2 ^ 64)) c.in-Some.is c.requires.fits;
+      fits = subst (λ (x : Option CircuitState). IfSome x (λ y. y.forth.claimed_count + length y.forth.waiting_bodies < 2 ^ 64)) c.in-Some.is c.requires.fits;
     }

@@ -21,12 +21,12 @@ seal_back_of-requires-clause-live c =
 
 pub seal_back_of-requires-clause-count : goal.seal_back_of-requires-clause-count
 seal_back_of-requires-clause-count c =
-    subst (λ (x : Option CircuitState). IfSome x (λ y. length c.args.sealed.now ≡ kept_length y.back.kept))
+    subst (λ (x : Option CircuitState). IfSome x (λ y. length c.args.sealed.now ≡ kept_length y.back.claim_out))
     (live_slot c.self.inside.counters c.self.inside.channels.items c.self.inside.circuits.items c.args.self.now c.args.circ.0 c.index_mut-slot.result.now c.self.view_is c.requires.live c.index_mut-slot.ensures.value) c.requires.count
 
 pub seal_back_of-requires-clause-out : goal.seal_back_of-requires-clause-out
 seal_back_of-requires-clause-out c =
-    subst (λ (x : Option CircuitState). IfSome x (λ y. kept_length y.back.kept ≤ y.back.claimed))
+    subst (λ (x : Option CircuitState). IfSome x (λ y. kept_length y.back.claim_out ≤ y.back.claimed_count))
     (live_slot c.self.inside.counters c.self.inside.channels.items c.self.inside.circuits.items c.args.self.now c.args.circ.0 c.index_mut-slot.result.now c.self.view_is c.requires.live c.index_mut-slot.ensures.value) c.requires.out
 
 pub invariant_of-self : goal.invariant_of-self

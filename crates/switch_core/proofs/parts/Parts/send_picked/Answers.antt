@@ -11,8 +11,8 @@ returns-clause-state c =
     let old : Option CircuitState = c.index_mut-slot.result.now in
     let live : slot_at c.args.self.now.circuits c.in_ok-picked.picked.number ≡ old =
     circuit_at _ _ _ c.args.self.now c.in_ok-picked.picked.number old c.self.view_is c.in_ok-picked.ensures.waits.inside ∙ sym c.index_mut-slot.ensures.value in
-    let now : c.max-now.result ≡ max c.args.self.now.tick c.args.given = c.max-now.ensures ∙ ap (λ (s : State). max s.tick c.args.given) c.self.view_is in
-    picked_sent c.args.self.now _ (max c.args.self.now.tick c.args.given) c.in_ok-picked.picked.number (picked_leg c.args.self.now c.args.chan.0 c.args.given) old c.send_first_of.new.slot
+    let now : c.max-now.result ≡ max c.args.self.now.tick c.args.new_tick = c.max-now.ensures ∙ ap (λ (s : State). max s.tick c.args.new_tick) c.self.view_is in
+    picked_sent c.args.self.now _ (max c.args.self.now.tick c.args.new_tick) c.in_ok-picked.picked.number (picked_leg c.args.self.now c.args.chan.0 c.args.new_tick) old c.send_first_of.new.slot
     c.in_ok-picked.ensures.same live
     (subst (λ m. SlotSent m old c.send_first_of.new.slot) now c.send_first_of.ensures.state)
     (circuit_put _ _ _ c.args.self.now c.in_ok-picked.picked.number c.send_first_of.new.slot c.self.view_is)
@@ -21,7 +21,7 @@ pub returns-clause-answer : goal.returns-clause-answer
 returns-clause-answer c =
     let old : Option CircuitState = c.index_mut-slot.result.now in
     c.send_first_of.ensures.cell
-    ∙ picked_cell c.args.self.now c.in_ok-picked.picked.number (picked_leg c.args.self.now c.args.chan.0 c.args.given) old c.in_ok-picked.ensures.same
+    ∙ picked_cell c.args.self.now c.in_ok-picked.picked.number (picked_leg c.args.self.now c.args.chan.0 c.args.new_tick) old c.in_ok-picked.ensures.same
     (circuit_at _ _ _ c.args.self.now c.in_ok-picked.picked.number old c.self.view_is c.in_ok-picked.ensures.waits.inside ∙ sym c.index_mut-slot.ensures.value)
 
 pub invariant_of-self : goal.invariant_of-self

@@ -25,7 +25,7 @@ settle_forth_of-reason-requires-clause-live c =
 
 pub settle_forth_of-reason-requires-clause-count : goal.settle_forth_of-reason-requires-clause-count
 settle_forth_of-reason-requires-clause-count c =
-    subst (λ (x : Option CircuitState). IfSome x (λ y. length c.args.opened.now ≡ kept_length y.forth.kept)) (live_slot c.self.inside.counters c.self.inside.channels.items c.self.inside.circuits.items c.args.self.now c.args.circ.0 c.index_mut-slot.result.now c.self.view_is c.requires.live c.index_mut-slot.ensures.value) c.requires.count
+    subst (λ (x : Option CircuitState). IfSome x (λ y. length c.args.opened_bodies.now ≡ kept_length y.forth.claim_out)) (live_slot c.self.inside.counters c.self.inside.channels.items c.self.inside.circuits.items c.args.self.now c.args.circ.0 c.index_mut-slot.result.now c.self.view_is c.requires.live c.index_mut-slot.ensures.value) c.requires.count
 
 pub settle_forth_of-reason-requires-clause-calls : goal.settle_forth_of-reason-requires-clause-calls
 settle_forth_of-reason-requires-clause-calls c =
@@ -64,12 +64,12 @@ returns c = record {
       let same : slots.circuit ≡ x =
       some_is c.index_mut-slot.result.now slots.circuit x slots.live (sym (live_slot k c.self.inside.channels.items c.self.inside.circuits.items c.args.self.now c.args.circ.0 c.index_mut-slot.result.now c.self.view_is c.requires.live c.index_mut-slot.ensures.value) ∙ live) in
       let settles : SettlesForth rules events x slots.behind_it k c.settle_forth_of-reason.new.counters c.settle_forth_of-reason.new.relay c.settle_forth_of-reason.result =
-      subst (λ (y : CircuitState). RelayIs c.args.relay.now rules events y.back → AreOpened c.args.opened.now rules events y → SettlesForth rules events y slots.behind_it k c.settle_forth_of-reason.new.counters c.settle_forth_of-reason.new.relay c.settle_forth_of-reason.result) same
+      subst (λ (y : CircuitState). RelayIs c.args.relay.now rules events y.back → AreOpened c.args.opened_bodies.now rules events y → SettlesForth rules events y slots.behind_it k c.settle_forth_of-reason.new.counters c.settle_forth_of-reason.new.relay c.settle_forth_of-reason.result) same
       (slots.settles events) is outputs in
       let put = circuit_put k c.self.inside.channels.items c.self.inside.circuits.items c.args.self.now c.args.circ.0 c.settle_forth_of-reason.new.slot c.self.view_is
       ∙ ap (λ (y : Option CircuitState). record c.args.self.now { circuits = with_slot c.args.self.now.circuits c.args.circ.0 y }) slots.stays in
       settles_by rules events c.args.self.now _ c.finish-answer.new.self _ c.args.circ.0 x slots.behind_it k c.settle_forth_of-reason.new.counters c.settle_forth_of-reason.new.relay c.settle_forth_of-reason.result c.finish-answer.result live
       (ap (λ (s : State). s.again) (sym c.self.view_is)) (ap (λ s. s.bodies) c.self.view_is) (ap (λ s. s.dial_orders) c.self.view_is) settles put
-      (c.finish-answer.ensures.state rules (λ n. settled rules x.sent_count events (kept_cells x.forth.kept))) c.finish-answer.ensures.answer
+      (c.finish-answer.ensures.state rules (λ n. settled rules x.sent_count events (kept_cells x.forth.claim_out))) c.finish-answer.ensures.answer
       (ap {A = State} (λ s. record s { bodies = c.settle_forth_of-reason.new.counters.bodies; dial_orders = c.settle_forth_of-reason.new.counters.dial_orders }) c.self-2.view_is);
 }

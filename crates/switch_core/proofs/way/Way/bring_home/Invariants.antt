@@ -4,7 +4,7 @@ use Rattle.switch_core.proofs.way.Way.bring_home.Given as goal
 
 abbrev pub invariant-loop : goal.invariant-loop
 invariant-loop l = record {
-  claimed : l.self-inside.claimed ≡ l.initial.self-inside.claimed;
+  claimed_count : l.self-inside.claimed_count ≡ l.initial.self-inside.claimed_count;
   claim : l.self-inside.claim ≡ None;
   bodies : l.self-inside.bodies.items ≡ drop l.counter l.initial.self-inside.bodies.items;
   room : deque_capacity l.initial.self-inside.bodies ≤ deque_capacity l.self-inside.bodies;

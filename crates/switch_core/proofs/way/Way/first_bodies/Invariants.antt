@@ -4,6 +4,6 @@ use Rattle.switch_core.proofs.way.Way.first_bodies.Given as goal
 
 abbrev pub invariant-loop-place : goal.invariant-loop-place
 invariant-loop-place l = record {
-  copied : l.payloads.items ≡ first_bodies l.place l.self.state.waiting;
+  copied : l.payloads.items ≡ first_bodies l.place l.self.state.waiting_bodies;
   room : l.count ≤ l.payloads.spare + l.place;
 }

@@ -7,5 +7,5 @@ pub returns : goal.returns
 returns c =
     c.len.ensures
     ∙ c.self.inside.bodies.ok.0
-    ∙ whole_length c.self.inside.claimed c.self.inside.claim c.self.inside.bodies.items c.self.invariant
-    ∙ ap (λ w. kept_length w.state.kept + length w.state.waiting) c.self.view_is
+    ∙ whole_length c.self.inside.claimed_count c.self.inside.claim c.self.inside.bodies.items c.self.invariant
+    ∙ ap (λ w. kept_length w.state.claim_out + length w.state.waiting_bodies) c.self.view_is

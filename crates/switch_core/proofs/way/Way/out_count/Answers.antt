@@ -7,10 +7,10 @@ use Rattle.switch_core.proofs.way.Way.out_count.Goals as goal
 
 pub returns-in-Some : goal.returns-in-Some
 returns-in-Some c =
-    sym (out_some c.self.inside.claimed c.self.inside.claim c.self.inside.bodies.items c.in-Some.note c.self.invariant c.in-Some.is)
-    ∙ ap (λ (w : WithRoom WayState). kept_length w.state.kept) c.self.view_is
+    sym (out_some c.self.inside.claimed_count c.self.inside.claim c.self.inside.bodies.items c.in-Some.note c.self.invariant c.in-Some.is)
+    ∙ ap (λ (w : WithRoom WayState). kept_length w.state.claim_out) c.self.view_is
 
 pub returns-in-None : goal.returns-in-None
 returns-in-None c =
-    sym (out_none c.self.inside.claimed c.self.inside.claim c.self.inside.bodies.items c.in-None.is)
-    ∙ ap (λ (w : WithRoom WayState). kept_length w.state.kept) c.self.view_is
+    sym (out_none c.self.inside.claimed_count c.self.inside.claim c.self.inside.bodies.items c.in-None.is)
+    ∙ ap (λ (w : WithRoom WayState). kept_length w.state.claim_out) c.self.view_is
