@@ -64,8 +64,8 @@ pub fn read_resolved(payload: &[u8]) -> Option<Option<[u8; 4]>>
     let mut ip = None;
     let mut rest = payload;
     while !rest.is_empty() {
-        let (found, tail) = read_answer(rest)?;
-        ip = ip.or(found);
+        let (next_ip, tail) = read_answer(rest)?;
+        ip = ip.or(next_ip);
         rest = tail;
     }
     Some(ip)

@@ -172,11 +172,11 @@ fn writes_bodies(rt: HostRuntime) -> Result<(), Fail> {
 #[test]
 fn a_length_past_498_has_no_head(rt: HostRuntime) -> Result<(), Fail> {
     let mut long = data_body(7, &[1; 498]);
-    let opened = Opened {
+    let opened_body = Opened {
         body: long,
         recognised: None,
     };
-    assert_eq!(rt; read_head(&opened.body).ok_or("a head")?.length, 498);
+    assert_eq!(rt; read_head(&opened_body.body).ok_or("a head")?.length, 498);
     long[10] = 0xf3;
     assert!(rt; read_head(&long).is_none());
     Ok(())

@@ -18,21 +18,21 @@ returns-then-is_empty c =
 pub loop-rest-init : goal.loop-rest-init
 loop-rest-init c = ip_whole c.args.payload.now (some_left _ _ c.is_empty.ensures c.if-is_empty.false)
 
-pub returns-in_err-found : goal.returns-in_err-found
-returns-in_err-found c =
+pub returns-in_err-next_ip : goal.returns-in_err-next_ip
+returns-in_err-next_ip c =
     let test = c.loop-rest-test.true in
     let some : c.is_empty-in-loop-rest.result ≡ false =
     first_of (search rules, search (rules, not-true), grind (arith, not-true), cc) in
     rw c.from_residual.ensures
     (sym (ip_stop c.loop-rest.ip c.loop-rest.rest.now
     (some_left c.loop-rest.rest.now c.is_empty-in-loop-rest.result c.is_empty-in-loop-rest.ensures some)
-    c.in_err-found.ensures.none)
+    c.in_err-next_ip.ensures.none)
     ∙ c.loop-rest.invariant)
 
 pub loop-rest-preserved : goal.loop-rest-preserved
 loop-rest-preserved c =
-    sym (ip_step c.loop-rest.ip _ c.or-ip.result c.loop-rest.rest.now c.in_ok-found.tail.now
-    c.in_ok-found.ensures.some c.or-ip.ensures)
+    sym (ip_step c.loop-rest.ip _ c.or-ip.result c.loop-rest.rest.now c.in_ok-next_ip.tail.now
+    c.in_ok-next_ip.ensures.some c.or-ip.ensures)
     ∙ c.loop-rest.invariant
 
 pub returns : goal.returns
