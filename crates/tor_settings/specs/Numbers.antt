@@ -64,9 +64,9 @@ unfoldable pub has_numbers_in_range : Members → Bool
 has_numbers_in_range members = settings_are_in_range members && list_all has_port_in_range (lines members)
 
 abbrev pub are_few_slots : Option ℕ → Option ℕ → Bool
-are_few_slots (Some accepting) (Some dialling) = nat_le (accepting + dialling) 64
-are_few_slots (Some accepting) None = true
-are_few_slots None dialling = true
+are_few_slots (Some accept_count) (Some dial_count) = nat_le (accept_count + dial_count) 64
+are_few_slots (Some accept_count) None = true
+are_few_slots None dial_count = true
 
 -- Rule 7: accepting and dialling slots together are at most 64.
 unfoldable pub has_few_slots : Members → Bool

@@ -119,7 +119,7 @@ pub(crate) fn allow_of_lines(
     let mut allow = List::new(alloc);
     for line in lines {
         match allow_of_line(alloc, line)? {
-            Some(allowed) => allow.push(allowed)?,
+            Some(allowed_name) => allow.push(allowed_name)?,
             None => return Ok(None),
         }
     }

@@ -108,10 +108,10 @@ fn settings_of_numbers(
     let Some(listen) = listen_address(table) else {
         return Err(SettingsFault::Rule(11));
     };
-    let Ok(found) = allow_of_lines(alloc, lines) else {
+    let Ok(allow_list) = allow_of_lines(alloc, lines) else {
         return Err(SettingsFault::Memory);
     };
-    match found {
+    match allow_list {
         Some(allow) => Ok(Settings {
             listen,
             accept_slots: numbers.accept_slots,
