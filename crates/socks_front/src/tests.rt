@@ -15,8 +15,8 @@ fn answer_to(alloc: Global, bytes: &[u8]) -> Option<SocksAnswer> {
         }
         last = socks.step(*byte);
     }
-    let ended = matches!(last, SocksAnswer::Want(_) | SocksAnswer::Refused(_));
-    if socks.done() == ended {
+    let is_over = matches!(last, SocksAnswer::Want(_) | SocksAnswer::Refused(_));
+    if socks.done() == is_over {
         Some(last)
     } else {
         None
@@ -57,10 +57,10 @@ fn asks_for(want: &SocksWant, name: &[u8], to: Option<u16>) -> bool {
 
 #[test]
 fn a_greeting_is_answered_and_a_request_is_wanted(rt: HostRuntime) -> Result<(), Fail> {
-    let greeted = answer_to(rt.alloc(), b"\x05\x01\x00").ok_or("an answer")?;
-    assert_eq!(rt; said(greeted), Some([5, 0]));
-    let greeted = answer_to(rt.alloc(), b"\x05\x02\x00\x01").ok_or("an answer")?;
-    assert_eq!(rt; said(greeted), Some([5, 0]));
+    let greeting_answer = answer_to(rt.alloc(), b"\x05\x01\x00").ok_or("an answer")?;
+    assert_eq!(rt; said(greeting_answer), Some([5, 0]));
+    let greeting_answer = answer_to(rt.alloc(), b"\x05\x02\x00\x01").ok_or("an answer")?;
+    assert_eq!(rt; said(greeting_answer), Some([5, 0]));
     let wants: [(&[u8], &[u8], Option<u16>); 5] = [
         (
             b"\x05\x01\x00\x05\x01\x00\x03\x09echo.test\x00\x07",
@@ -144,10 +144,10 @@ fn refusals_come_at_their_byte_and_are_told(rt: HostRuntime) -> Result<(), Fail>
             b"\x05\x01\x00\x01\x00\x00\x00\x00\x00\x00",
         ),
     ];
-    for (bytes, want, told) in refusals {
+    for (bytes, want, refusal_bytes) in refusals {
         let answer = answer_to(rt.alloc(), bytes).ok_or("an answer")?;
         assert_eq!(rt; fault(answer), Some(want));
-        assert_eq!(rt; want.refusal().as_slice(), told);
+        assert_eq!(rt; want.refusal().as_slice(), refusal_bytes);
     }
     Ok(())
 }
