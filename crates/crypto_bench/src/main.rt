@@ -72,7 +72,7 @@ fn advance(stream: &mut Stream, body: &mut [u8; 509], count: u32)
     ensures key { stream.new.key ≡ stream.old.key }
     ensures position { stream.new.position ≡ 509 * count }
 {
-    for _done in 0..count {
+    for _place in 0..count {
         stream.apply(body);
     }
 }
@@ -96,7 +96,7 @@ fn many_eights(alloc: Global, count: u32) -> Result<String, AllocError> {
 fn many_digests(alloc: Global, count: u32) -> Result<String, AllocError> {
     let body = [0; 509];
     let mut running = Running::seeded(&[0; 20]);
-    for _gone_by in 0..count {
+    for _number in 0..count {
         running.absorb(&body);
     }
     hex::encode(alloc, running.digest().as_slice())
@@ -108,7 +108,7 @@ fn open_again(relay: &Opener, bodies: &[[u8; 509]; 2], count: u32) -> [u8; 20]
     requires { relay.now.stream.position ≡ 0 }
 {
     let mut last = [0; 20];
-    for _two_opened in 0..count / 2 {
+    for _pair in 0..count / 2 {
         let mut opener = relay.copy();
         let [mut first, mut second] = *bodies;
         if let Some(_) = opener.take_off(&mut first)
@@ -148,7 +148,7 @@ fn pass_on(relay: &mut Opener, body: &mut [u8; 509], count: u32)
     requires { relay.old.stream.position ≡ 0 }
     ensures { relay.new.stream.position ≡ 509 * count }
 {
-    for _passed in 0..count {
+    for _body_number in 0..count {
         let _ = relay.take_off(body);
     }
 }

@@ -1,5 +1,5 @@
 use Rattle.std.proofs.Common.{◌≡◌, ◌*◌}
 use Rattle.crypto_bench.proofs.pass_on.Given as goal
 
-abbrev pub invariant-loop-passed : goal.invariant-loop-passed
-invariant-loop-passed l = l.relay.stream.position ≡ 509 * l._passed
+abbrev pub invariant-loop-body_number : goal.invariant-loop-body_number
+invariant-loop-body_number l = l.relay.stream.position ≡ 509 * l._body_number
