@@ -48,7 +48,7 @@ fn relay_cells(alloc: Global) -> Result<Vec<u8>, AllocError> {
 fn cells_fed(alloc: Global, bytes: &[u8], request: Request) -> Result<u64, DecodeFault> {
     let mut decoder = Decoder::cells_only(alloc);
     let mut cells = 0u64;
-    for _gone_by in 0..request.count {
+    for _number in 0..request.count {
         for piece in bytes.chunks(request.size) {
             cells = cells.saturating_add(decoder.feed(piece)?.len() as u64);
         }
