@@ -14,4 +14,4 @@ abbrev pub AnswerRule : Type 0
 AnswerRule = ℕ → List ℕ → List ℕ → Option HandshakeAnswer
 
 abbrev pub answer_of : Answered → HandshakeAnswer
-answer_of answered = record { reply = answered.reply.items; keys = answered.keys }
+answer_of answer = record { reply = answer.reply.items; keys = answer.keys }
