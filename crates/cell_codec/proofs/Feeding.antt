@@ -60,9 +60,9 @@ refused_left u s rest piece circ command e r settled =
     let wrong = wrong_start-append (start_bytes circ command) piece (lit≤ tt) ∙ still.1 in
     rw (e, r) (sym (ap (λ l. l.left) (first_reading-wrong (start_bytes circ command ++ piece) _ wrong)))
 
-pub opening_left : (a left : List ℕ) → wrong_start a ≡ None → first_at a ≡ None → left ≡ a
-    → unread_of Opening left ≡ (first_reading a).left
-opening_left a left start none all = rw (first_reading-none a start none, all) refl
+pub opening_left : (a rest : List ℕ) → wrong_start a ≡ None → first_at a ≡ None → rest ≡ a
+    → unread_of Opening rest ≡ (first_reading a).left
+opening_left a rest start none all = rw (first_reading-none a start none, all) refl
 
 pub opening_cells : (a : List ℕ) → wrong_start a ≡ None → first_at a ≡ None → (first_reading a).cells ≡ []
 opening_cells a start none = ap (λ r. r.cells) (first_reading-none a start none)

@@ -9,15 +9,15 @@ use Rattle.cell_codec.specs.declared.decoder.Stage.{Stage}
 use Rattle.cell_codec.specs.declared.decoder.Stage.TheVariants.{Opening, Open, Refused}
 use Rattle.cell_codec.specs.Cells.{wire_cell, IsWellFormed}
 
--- These are the cells of the reading, and these bytes, in which no cell has ended, are left.
-pub record Reads (r : Reading) (cells : List Cell) (left : List ℕ) : Type 0 where
+-- These are the cells of the reading, and the rest are the bytes left, in which no cell has ended.
+pub record ReadsCells (r : Reading) (cells : List Cell) (rest : List ℕ) : Type 0 where
   pub read : map wire_cell cells ≡ r.cells
-  pub tail : r.left ≡ record { opening = false; bytes = left }
-  pub settled : cell_at left ≡ None
+  pub tail : r.left ≡ record { opening = false; bytes = rest }
+  pub settled : cell_at rest ≡ None
   pub well_formed : All IsWellFormed cells
 
 -- How a cell of n bytes, that began in rest and ends in piece, is cut off: its last bytes, and the tail.
-pub record Cut (rest piece last tail : List ℕ) (n : ℕ) : Type 0 where
+pub record IsCutOff (rest piece last tail : List ℕ) (n : ℕ) : Type 0 where
   pub begun : length rest ≤ n
   pub ended : n ≤ length (rest ++ piece)
   pub front : last ≡ take (n - length rest) piece

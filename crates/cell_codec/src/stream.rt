@@ -1,7 +1,7 @@
 ghost use Rattle.std.specs.Prelude.{◌≡◌, ◌++◌, ◌≤◌, [], length, map, IfOk, IfSome, IfNone, OnOk, OnErr, MatchOption, ◌<◌, Some, None, All, true, false, if◌then◌else◌};
 ghost use Rattle.tor_spec.specs.CellReading.{cell_size, cell_of, cell_at, first_at, wrong_start, with_cell, later_reading, first_reading};
 ghost use Rattle.cell_codec.specs.Cells.{wire_cell, IsWellFormed};
-ghost use Rattle.cell_codec.specs.Decoding.{Reads, Cut};
+ghost use Rattle.cell_codec.specs.Decoding.{ReadsCells, IsCutOff};
 
 use crate::cell::Cell;
 use crate::list::List;
@@ -31,15 +31,15 @@ fn read_cells<'a>(
     cells: &mut List<Cell>,
 ) -> Result<&'a [u8], AllocError>
     ensures cells { OnOk result (map wire_cell cells.new.items ≡ map wire_cell cells.old.items ++ (later_reading bytes.now).cells) }
-    ensures left { IfOk result (λ left. (later_reading bytes.now).left.bytes ≡ left.now) }
+    ensures left { IfOk result (λ rest. (later_reading bytes.now).left.bytes ≡ rest.now) }
     ensures well_formed { All IsWellFormed cells.old.items → All IsWellFormed cells.new.items }
 {
-    let mut left = bytes;
-    while let Some((cell, tail)) = split_cell(left) {
+    let mut rest_bytes = bytes;
+    while let Some((cell, tail)) = split_cell(rest_bytes) {
         cells.push(read_cell(alloc, cell)?)?;
-        left = tail;
+        rest_bytes = tail;
     }
-    Ok(left)
+    Ok(rest_bytes)
 }
 
 /// `rest` and then `piece`.
@@ -68,12 +68,12 @@ fn finish_cell(alloc: Global, rest: &[u8], last: &[u8]) -> Result<Cell, AllocErr
 /// This cell and those that end in `tail`, and the bytes behind them all.
 fn read_behind(alloc: Global, first: Cell, tail: &[u8]) -> Result<(List<Cell>, &[u8]), AllocError>
     requires { IsWellFormed first }
-    ensures { IfOk result (λ x. Reads (with_cell (wire_cell first) (later_reading tail.now)) x.0.items x.1.now) }
+    ensures { IfOk result (λ x. ReadsCells (with_cell (wire_cell first) (later_reading tail.now)) x.0.items x.1.now) }
 {
     let mut cells = List::new(alloc);
     cells.push(first)?;
-    let left = read_cells(alloc, tail, &mut cells)?;
-    Ok((cells, left))
+    let rest_bytes = read_cells(alloc, tail, &mut cells)?;
+    Ok((cells, rest_bytes))
 }
 
 /// The last bytes, which stand in `piece`, of a cell of `size` bytes that began in `rest`, and those
@@ -81,7 +81,7 @@ fn read_behind(alloc: Global, first: Cell, tail: &[u8]) -> Result<(List<Cell>, &
 fn cut_off<'a>(rest: &[u8], piece: &'a [u8], size: usize) -> (&'a [u8], &'a [u8])
     requires begun { length rest.now ≤ size }
     requires ended { size ≤ length (rest.now ++ piece.now) }
-    ensures { Cut rest.now piece.now result.0.now result.1.now size }
+    ensures { IsCutOff rest.now piece.now result.0.now result.1.now size }
 {
     piece.split_at(size - rest.len())
 }
@@ -94,7 +94,7 @@ pub fn read_open<'a>(
     piece: &'a [u8],
 ) -> Result<Option<(List<Cell>, &'a [u8])>, AllocError>
     requires { cell_at rest.now ≡ None }
-    ensures { IfOk result (λ found. MatchOption found (cell_at (rest.now ++ piece.now) ≡ None) (λ x. Reads (later_reading (rest.now ++ piece.now)) x.0.items x.1.now)) }
+    ensures { IfOk result (λ found. MatchOption found (cell_at (rest.now ++ piece.now) ≡ None) (λ x. ReadsCells (later_reading (rest.now ++ piece.now)) x.0.items x.1.now)) }
 {
     let Some(size) = size_of_cell(rest, piece) else {
         return Ok(None);
@@ -115,7 +115,7 @@ pub fn read_opening<'a>(
 ) -> Result<Option<(List<Cell>, &'a [u8])>, AllocError>
     requires first { first_at rest.now ≡ None }
     requires start { wrong_start (rest.now ++ piece.now) ≡ None }
-    ensures { IfOk result (λ found. MatchOption found (first_at (rest.now ++ piece.now) ≡ None) (λ x. Reads (first_reading (rest.now ++ piece.now)) x.0.items x.1.now)) }
+    ensures { IfOk result (λ found. MatchOption found (first_at (rest.now ++ piece.now) ≡ None) (λ x. ReadsCells (first_reading (rest.now ++ piece.now)) x.0.items x.1.now)) }
 {
     let Some(size) = size_of_first(rest, piece) else {
         return Ok(None);
@@ -129,27 +129,27 @@ pub fn read_opening<'a>(
     Ok(Some(read_behind(alloc, first, tail)?))
 }
 
-/// Puts `left` in the place of what is kept.
-fn replace(store: &mut Vec<u8>, left: &[u8]) -> Result<(), AllocError>
-    ensures ok { OnOk result (store.new.items ≡ left.now) }
+/// Puts `new_rest` in the place of what is kept.
+fn replace(store: &mut Vec<u8>, new_rest: &[u8]) -> Result<(), AllocError>
+    ensures ok { OnOk result (store.new.items ≡ new_rest.now) }
     ensures err { OnErr result (store.new.items ≡ store.old.items) }
 {
-    if left.len() > store.len() {
-        store.reserve(left.len() - store.len())?;
+    if new_rest.len() > store.len() {
+        store.reserve(new_rest.len() - store.len())?;
     }
     store.clear();
-    store.extend_from_slice(left)
+    store.extend_from_slice(new_rest)
 }
 
 /// Reads a further piece of an open link, of which `rest` is unread.
 pub fn feed_open(alloc: Global, rest: &mut Vec<u8>, piece: &[u8]) -> Result<List<Cell>, AllocError>
     requires { cell_at rest.old.items ≡ None }
-    ensures ok { IfOk result (λ cells. Reads (later_reading (rest.old.items ++ piece.now)) cells.items rest.new.items) }
+    ensures ok { IfOk result (λ cells. ReadsCells (later_reading (rest.old.items ++ piece.now)) cells.items rest.new.items) }
     ensures err { OnErr result (rest.new.items ≡ rest.old.items) }
 {
     match read_open(alloc, rest.as_slice(), piece)? {
-        Some((cells, left)) => {
-            replace(rest, left)?;
+        Some((cells, new_rest)) => {
+            replace(rest, new_rest)?;
             Ok(cells)
         }
         None => {
@@ -167,13 +167,13 @@ pub fn feed_opening(
 ) -> Result<Option<List<Cell>>, AllocError>
     requires first { first_at rest.old.items ≡ None }
     requires start { wrong_start (rest.old.items ++ piece.now) ≡ None }
-    ensures opened { IfOk result (λ found. IfSome found (λ cells. Reads (first_reading (rest.old.items ++ piece.now)) cells.items rest.new.items)) }
+    ensures opened { IfOk result (λ found. IfSome found (λ cells. ReadsCells (first_reading (rest.old.items ++ piece.now)) cells.items rest.new.items)) }
     ensures opening { IfOk result (λ found. IfNone found ((rest.new.items ≡ rest.old.items ++ piece.now) × (first_at rest.new.items ≡ None))) }
     ensures err { OnErr result (rest.new.items ≡ rest.old.items) }
 {
     match read_opening(alloc, rest.as_slice(), piece)? {
-        Some((cells, left)) => {
-            replace(rest, left)?;
+        Some((cells, new_rest)) => {
+            replace(rest, new_rest)?;
             Ok(Some(cells))
         }
         None => {

@@ -97,14 +97,14 @@ fn a_cell_cut_anywhere_is_the_same_cell(rt: HostRuntime) -> Result<(), Fail> {
     };
     write_cell(&relay, &mut bytes)?;
     assert_eq!(rt; bytes.len(), 514);
-    for cut in 1..514 {
-        let (front, back) = bytes.split_at(cut);
+    for cut_place in 1..514 {
+        let (front, back) = bytes.split_at(cut_place);
         let mut decoder = Decoder::cells_only(rt.alloc());
         assert!(rt; decoder.feed(front)?.is_empty());
         assert_eq!(rt; decoder.finish(), Err(DecodeFault::Short));
-        let mut again = Vec::new(rt.alloc());
-        write_cells(decoder.feed(back)?.as_slice(), &mut again)?;
-        assert_eq!(rt; again.as_slice(), bytes.as_slice());
+        let mut written_bytes = Vec::new(rt.alloc());
+        write_cells(decoder.feed(back)?.as_slice(), &mut written_bytes)?;
+        assert_eq!(rt; written_bytes.as_slice(), bytes.as_slice());
         assert_eq!(rt; decoder.finish(), Ok(()));
     }
     Ok(())
@@ -156,7 +156,7 @@ fn a_link_that_begins_with_another_cell_is_refused(rt: HostRuntime) -> Result<()
         for _ in 0..2 {
             match decoder.feed(&start[2..]) {
                 Ok(_) => assert!(rt; false),
-                Err(found) => assert_eq!(rt; found, fault),
+                Err(found_fault) => assert_eq!(rt; found_fault, fault),
             }
         }
         assert_eq!(rt; decoder.finish(), Ok(()));

@@ -20,11 +20,11 @@ pub fn write_cell(cell: &Cell, out: &mut Vec<u8>) -> Result<(), AllocError>
 {
     match &cell.body {
         Body::Fixed(payload) => {
-            let padded = payload.as_slice();
-            out.reserve(CIRC + COMMAND + padded.len())?;
+            let payload_bytes = payload.as_slice();
+            out.reserve(CIRC + COMMAND + payload_bytes.len())?;
             out.extend_from_slice(&cell.circ.to_be_bytes())?;
             out.push_reserved(cell.command);
-            out.extend_from_slice(padded)
+            out.extend_from_slice(payload_bytes)
         }
         Body::Var(payload) => {
             let payload = payload.as_slice();

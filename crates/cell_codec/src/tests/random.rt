@@ -67,19 +67,19 @@ fn echo(
     requires { 0 < most }
 {
     let mut out = Vec::new(alloc);
-    let mut left = bytes;
-    while !left.is_empty() {
+    let mut rest_bytes = bytes;
+    while !rest_bytes.is_empty() {
         let size = (1 + next(seed) % most) as usize;
-        let (piece, more) = left.split_at(size.min(left.len()));
+        let (piece, tail) = rest_bytes.split_at(size.min(rest_bytes.len()));
         write_cells(decoder.feed(piece)?.as_slice(), &mut out)?;
-        left = more;
+        rest_bytes = tail;
     }
     Ok(out)
 }
 
 /// A decoder of a whole link, or of cells alone.
-fn decoder(alloc: Global, starts: bool) -> Decoder {
-    if starts {
+fn decoder(alloc: Global, is_whole_link: bool) -> Decoder {
+    if is_whole_link {
         Decoder::starting(alloc)
     } else {
         Decoder::cells_only(alloc)
@@ -93,29 +93,29 @@ fn random_pieces_give_the_cells_of_one_piece(rt: HostRuntime) -> Result<(), Fail
     let cells = random_cells(rt.alloc(), noise.as_slice(), &mut seed)?;
     let noisy_link = behind_versions(rt.alloc(), noise.as_slice())?;
     let link = behind_versions(rt.alloc(), cells.as_slice())?;
-    for (starts, bytes) in [
+    for (is_whole_link, bytes) in [
         (false, noise.as_slice()),
         (false, cells.as_slice()),
         (true, noisy_link.as_slice()),
         (true, link.as_slice()),
     ] {
-        let mut at_once = decoder(rt.alloc(), starts);
-        let mut whole = Vec::new(rt.alloc());
-        write_cells(at_once.feed(bytes)?.as_slice(), &mut whole)?;
-        assert!(rt; !whole.is_empty());
+        let mut whole_decoder = decoder(rt.alloc(), is_whole_link);
+        let mut whole_output = Vec::new(rt.alloc());
+        write_cells(whole_decoder.feed(bytes)?.as_slice(), &mut whole_output)?;
+        assert!(rt; !whole_output.is_empty());
         for most in [1, 30, 600, 5000] {
-            let mut piecewise = decoder(rt.alloc(), starts);
-            let pieces = echo(rt.alloc(), &mut piecewise, bytes, most, &mut seed)?;
+            let mut piece_decoder = decoder(rt.alloc(), is_whole_link);
+            let piece_output = echo(rt.alloc(), &mut piece_decoder, bytes, most, &mut seed)?;
             assert!(rt;
-                pieces.as_slice() == whole.as_slice(),
+                piece_output.as_slice() == whole_output.as_slice(),
                 "pieces of at most {most} bytes"
             );
-            assert_eq!(rt; piecewise.finish(), at_once.finish());
+            assert_eq!(rt; piece_decoder.finish(), whole_decoder.finish());
         }
     }
     let mut decoder = Decoder::cells_only(rt.alloc());
-    let again = echo(rt.alloc(), &mut decoder, cells.as_slice(), 600, &mut seed)?;
-    assert!(rt; again.as_slice() == cells.as_slice());
+    let cell_output = echo(rt.alloc(), &mut decoder, cells.as_slice(), 600, &mut seed)?;
+    assert!(rt; cell_output.as_slice() == cells.as_slice());
     Ok(())
 }
 
@@ -127,8 +127,8 @@ fn random_bytes_open_no_link(rt: HostRuntime) -> Result<(), Fail> {
     assert!(rt; matches!(fault, Some(DecodeFault::BadFirst { .. })));
     for most in [1, 30, 600, 5000] {
         let mut decoder = Decoder::starting(rt.alloc());
-        let pieces = echo(rt.alloc(), &mut decoder, noise.as_slice(), most, &mut seed);
-        assert_eq!(rt; pieces.err(), fault);
+        let piece_output = echo(rt.alloc(), &mut decoder, noise.as_slice(), most, &mut seed);
+        assert_eq!(rt; piece_output.err(), fault);
         assert_eq!(rt; decoder.feed(noise.as_slice()).err(), fault);
         assert_eq!(rt; decoder.finish(), Ok(()));
     }

@@ -9,7 +9,7 @@ use Rattle.cell_codec.proofs.stream.read_cells.Goals as goal
 
 pub loop-cell-preserved : goal.loop-cell-preserved
 loop-cell-preserved c =
-    let e : cell_at c.loop-cell.left.now ≡ Some (cell_of c.in-Some.cell.now, c.in-Some.tail.now) = c.in-Some.ensures.at in
+    let e : cell_at c.loop-cell.rest_bytes.now ≡ Some (cell_of c.in-Some.cell.now, c.in-Some.tail.now) = c.in-Some.ensures.at in
     let step = later_reading-some _ _ e in
     record {
       cells =
@@ -21,11 +21,11 @@ loop-cell-preserved c =
 
 pub returns-clause-cells : goal.returns-clause-cells
 returns-clause-cells c =
-    let none : cell_at c.loop-cell.left.now ≡ None = c.in_default.ensures.at in
-    let nothing : (later_reading c.loop-cell.left.now).cells ≡ [] = ap (λ r. r.cells) (later_reading-none _ none) in
+    let none : cell_at c.loop-cell.rest_bytes.now ≡ None = c.in_default.ensures.at in
+    let nothing : (later_reading c.loop-cell.rest_bytes.now).cells ≡ [] = ap (λ r. r.cells) (later_reading-none _ none) in
     sym (append-nil _) ∙ ap (λ more. map wire_cell c.loop-cell.cells.items ++ more) (sym nothing) ∙ c.loop-cell.invariant.cells
 
 pub returns-clause-left : goal.returns-clause-left
 returns-clause-left c =
-    let none : cell_at c.loop-cell.left.now ≡ None = c.in_default.ensures.at in
+    let none : cell_at c.loop-cell.rest_bytes.now ≡ None = c.in_default.ensures.at in
     sym (ap (λ u. u.bytes) c.loop-cell.invariant.left) ∙ ap (λ r. r.left.bytes) (later_reading-none _ none)

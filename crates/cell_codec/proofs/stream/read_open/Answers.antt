@@ -1,7 +1,7 @@
 use Rattle.std.proofs.Common.{sym, arith, subst, length-append}
 use Rattle.tor_spec.specs.CellReading.{Reading}
 use Rattle.tor_spec.proofs.CellCuts.{cell_untold, cell_unfinished, size_beyond}
-use Rattle.cell_codec.specs.Decoding.{Reads}
+use Rattle.cell_codec.specs.Decoding.{ReadsCells}
 use Rattle.cell_codec.proofs.Readings.{cut_size, cut_reading}
 use Rattle.cell_codec.proofs.stream.read_open.Goals as goal
 
@@ -23,5 +23,5 @@ finish_cell-requires c =
 
 pub returns : goal.returns
 returns c =
-    subst (λ (r : Reading). Reads r c.in_ok-read_behind.field-0.0.items c.in_ok-read_behind.field-0.1.now)
+    subst (λ (r : Reading). ReadsCells r c.in_ok-read_behind.field-0.0.items c.in_ok-read_behind.field-0.1.now)
     (cut_reading _ _ _ _ _ _ c.cut_off.ensures (sym c.in-Some.ensures) c.in_ok-first.ensures.cell) c.in_ok-read_behind.ensures

@@ -1,7 +1,7 @@
 use Rattle.std.proofs.Common.{sym, ◌∙◌, ap, arith, subst, length-append}
 use Rattle.tor_spec.specs.CellReading.{first_of, Reading}
 use Rattle.tor_spec.proofs.CellCuts.{first_untold, first_unfinished, first_size_beyond}
-use Rattle.cell_codec.specs.Decoding.{Reads}
+use Rattle.cell_codec.specs.Decoding.{ReadsCells}
 use Rattle.cell_codec.proofs.Readings.{first_cut_size, first_cut_reading, cut_start}
 use Rattle.cell_codec.proofs.stream.read_opening.Goals as goal
 
@@ -28,6 +28,6 @@ read_first-requires-clause-start c =
 pub returns : goal.returns
 returns c =
     let bytes = c.as_slice.ensures.value ∙ c.in_ok-bytes.ensures in
-    subst (λ (r : Reading). Reads r c.in_ok-read_behind.field-0.0.items c.in_ok-read_behind.field-0.1.now)
+    subst (λ (r : Reading). ReadsCells r c.in_ok-read_behind.field-0.0.items c.in_ok-read_behind.field-0.1.now)
     (first_cut_reading _ _ _ _ _ _ c.cut_off.ensures (sym c.in-Some.ensures) c.requires.start (c.in_ok-first.ensures.cell ∙ ap first_of bytes))
     c.in_ok-read_behind.ensures

@@ -1,7 +1,7 @@
 use Rattle.std.proofs.Common.{rules, ◌≡◌, ◌++◌, map, None, sym, ap, ◌∙◌, subst}
 use Rattle.tor_spec.specs.CellReading.{with_piece, refusal, wrong_start, first_at, first_reading}
 use Rattle.cell_codec.specs.Cells.{wire_cell}
-use Rattle.cell_codec.specs.Decoding.{Reads, unread_of, IsSettled}
+use Rattle.cell_codec.specs.Decoding.{ReadsCells, unread_of, IsSettled}
 use Rattle.cell_codec.proofs.Feeding.{open_reading, open_accepted, opening_reading, opening_refusal, opening_cells, opening_left, start_kept, start_left, refused_again, refused_left}
 use Rattle.cell_codec.proofs.decoder.Decoder.feed.Goals as goal
 
@@ -42,7 +42,7 @@ returns-in_ok-feed_open-in-Open-clause-unread c = λ _.
 
 pub returns-in-Some-2-clause-cells : goal.returns-in-Some-2-clause-cells
 returns-in-Some-2-clause-cells c =
-    let reads : Reads (first_reading (c.self.inside.rest.items ++ c.args.piece.now)) c.in-Some-2.cells.items c.feed_opening.new.rest.items =
+    let reads : ReadsCells (first_reading (c.self.inside.rest.items ++ c.args.piece.now)) c.in-Some-2.cells.items c.feed_opening.new.rest.items =
     rw c.in-Some-2.is at c.in_ok-cells-in-Opening.ensures.opened in
     reads.read ∙ sym (ap (λ r. r.cells) (opening_reading _ _ _ _ (sym c.self.view_is) c.in-Opening.is))
 
@@ -53,7 +53,7 @@ returns-in-Some-2-clause-accepted c =
 
 pub returns-in-Some-2-clause-unread : goal.returns-in-Some-2-clause-unread
 returns-in-Some-2-clause-unread c = λ _.
-    let reads : Reads (first_reading (c.self.inside.rest.items ++ c.args.piece.now)) c.in-Some-2.cells.items c.feed_opening.new.rest.items =
+    let reads : ReadsCells (first_reading (c.self.inside.rest.items ++ c.args.piece.now)) c.in-Some-2.cells.items c.feed_opening.new.rest.items =
     rw c.in-Some-2.is at c.in_ok-cells-in-Opening.ensures.opened in
     sym reads.tail ∙ sym (ap (λ r. r.left) (opening_reading _ _ _ _ (sym c.self.view_is) c.in-Opening.is))
 
