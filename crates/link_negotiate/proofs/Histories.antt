@@ -5,12 +5,12 @@ use Rattle.tor_spec.specs.CellEncoding.{WireCell}
 use Rattle.cell_codec.specs.declared.LinkFault.{LinkFault}
 use Rattle.link_negotiate.specs.declared.arrival.Arrival.{Arrival}
 use Rattle.link_negotiate.specs.declared.arrival.Arrival.TheVariants.{Netinfo, InBetween, Fault}
-use Rattle.link_negotiate.specs.declared.phase.Phase.{Phase}
-use Rattle.link_negotiate.specs.declared.phase.Phase.TheVariants.{AwaitsVersions, AwaitsNetinfo, Open, Refused}
+use Rattle.link_negotiate.specs.declared.phase.LinkPhase.{LinkPhase}
+use Rattle.link_negotiate.specs.declared.phase.LinkPhase.TheVariants.{AwaitsVersions, AwaitsNetinfo, Open, Refused}
 use Rattle.link_negotiate.specs.Negotiation.{link_version, arrival, Side, step_answer, phase_answer, phase_after_versions, phase_after_arrival, side_after_all}
 use Rattle.link_negotiate.specs.History.{is_last, ends_negotiation, last_cell, answer_behind_last, answer_awaiting_netinfo, answer_behind_versions, answer_by_history}
 
-abbrev side : Bool → Phase → Side
+abbrev side : Bool → LinkPhase → Side
 side opener phase = record { opener = opener; phase = phase }
 
 stays_open : (opener : Bool) (cells : List WireCell) → side_after_all (side opener Open) cells ≡ side opener Open
@@ -23,7 +23,7 @@ stays_refused opener fault [] = refl
 stays_refused opener fault (c ∷ cells) = stays_refused opener fault cells
 
 -- Where a side stands that awaits NETINFO, by the first cell that isn't passed over.
-abbrev phase_by_last : ℕ → Option WireCell → Phase
+abbrev phase_by_last : ℕ → Option WireCell → LinkPhase
 phase_by_last version None = AwaitsNetinfo version
 phase_by_last version (Some end) = phase_after_arrival version (arrival version end)
 

@@ -12,8 +12,8 @@ use Rattle.cell_codec.specs.declared.LinkFault.{LinkFault}
 use Rattle.cell_codec.specs.declared.LinkFault.TheVariants.{OddVersions, NoCommonVersion, Unexpected, BadNetinfo}
 use Rattle.link_negotiate.specs.declared.arrival.Arrival.{Arrival}
 use Rattle.link_negotiate.specs.declared.arrival.Arrival.TheVariants.{Netinfo, InBetween, Fault}
-use Rattle.link_negotiate.specs.declared.phase.Phase.{Phase}
-use Rattle.link_negotiate.specs.declared.phase.Phase.TheVariants.{AwaitsVersions, AwaitsNetinfo, Open, Refused}
+use Rattle.link_negotiate.specs.declared.phase.LinkPhase.{LinkPhase}
+use Rattle.link_negotiate.specs.declared.phase.LinkPhase.TheVariants.{AwaitsVersions, AwaitsNetinfo, Open, Refused}
 
 -- The link protocols that our side speaks.
 abbrev pub our_versions : List ℕ
@@ -55,7 +55,7 @@ arrival version c =
 -- A side of a link: whether it opened the connection, and where the negotiation stands.
 pub record Side : Type 0 where
   pub opener : Bool
-  pub phase : Phase
+  pub phase : LinkPhase
 
 abbrev pub opening_side : Side
 opening_side = record { opener = true; phase = AwaitsVersions }
@@ -85,7 +85,7 @@ arrival_answer true version Netinfo = IsReady version (Some silent_netinfo)
 arrival_answer false version Netinfo = IsReady version None
 
 -- An open link awaits nothing, and a refusal is repeated (rules of this relay).
-abbrev pub phase_answer : Bool → Phase → WireCell → StepAnswer
+abbrev pub phase_answer : Bool → LinkPhase → WireCell → StepAnswer
 phase_answer opener AwaitsVersions c = versions_answer opener (link_version c)
 phase_answer opener (AwaitsNetinfo version) c = arrival_answer opener version (arrival version c)
 phase_answer opener Open c = Refuses (Unexpected c.command)
@@ -94,16 +94,16 @@ phase_answer opener (Refused fault) c = Refuses fault
 abbrev pub step_answer : Side → WireCell → StepAnswer
 step_answer s c = phase_answer s.opener s.phase c
 
-abbrev pub phase_after_versions : Result ℕ LinkFault → Phase
+abbrev pub phase_after_versions : Result ℕ LinkFault → LinkPhase
 phase_after_versions (Err fault) = Refused fault
 phase_after_versions (Ok version) = AwaitsNetinfo version
 
-abbrev pub phase_after_arrival : ℕ → Arrival → Phase
+abbrev pub phase_after_arrival : ℕ → Arrival → LinkPhase
 phase_after_arrival version (Fault fault) = Refused fault
 phase_after_arrival version InBetween = AwaitsNetinfo version
 phase_after_arrival version Netinfo = Open
 
-abbrev pub phase_after : Phase → WireCell → Phase
+abbrev pub phase_after : LinkPhase → WireCell → LinkPhase
 phase_after AwaitsVersions c = phase_after_versions (link_version c)
 phase_after (AwaitsNetinfo version) c = phase_after_arrival version (arrival version c)
 phase_after Open c = Open

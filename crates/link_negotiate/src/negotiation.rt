@@ -4,7 +4,7 @@ ghost use Rattle.cell_codec.specs.Cells.{wire_cell};
 use crate::answer::LinkAnswer;
 use crate::arrival::Arrival;
 use crate::greeting::{greeting, own_netinfo};
-use crate::phase::Phase;
+use crate::phase::LinkPhase;
 use crate::reading::{read_arrival, read_versions};
 use cell_codec::{Cell, LinkFault};
 use std::alloc::Global;
@@ -15,7 +15,7 @@ use std::marker::Model;
 pub struct Negotiation {
     alloc: Global,
     opener: bool,
-    phase: Phase,
+    phase: LinkPhase,
 }
 
 impl Model for Negotiation {
@@ -38,7 +38,7 @@ impl Negotiation {
         Negotiation {
             alloc,
             opener: true,
-            phase: Phase::AwaitsVersions,
+            phase: LinkPhase::AwaitsVersions,
         }
     }
 
@@ -49,7 +49,7 @@ impl Negotiation {
         Negotiation {
             alloc,
             opener: false,
-            phase: Phase::AwaitsVersions,
+            phase: LinkPhase::AwaitsVersions,
         }
     }
 
@@ -65,28 +65,28 @@ impl Negotiation {
         ensures memory { result ≡ Memory → self.new ≡ self.old }
     {
         match self.phase {
-            Phase::AwaitsVersions => match read_versions(cell) {
+            LinkPhase::AwaitsVersions => match read_versions(cell) {
                 Ok(version) => {
                     if self.opener {
-                        self.phase = Phase::AwaitsNetinfo(version);
+                        self.phase = LinkPhase::AwaitsNetinfo(version);
                         return LinkAnswer::PassedOver;
                     }
                     match greeting(self.alloc) {
                         Ok(cells) => {
-                            self.phase = Phase::AwaitsNetinfo(version);
+                            self.phase = LinkPhase::AwaitsNetinfo(version);
                             LinkAnswer::Send(cells)
                         }
                         Err(_) => LinkAnswer::Memory,
                     }
                 }
                 Err(fault) => {
-                    self.phase = Phase::Refused(fault);
+                    self.phase = LinkPhase::Refused(fault);
                     LinkAnswer::Refused(fault)
                 }
             },
-            Phase::AwaitsNetinfo(version) => match read_arrival(cell, version) {
+            LinkPhase::AwaitsNetinfo(version) => match read_arrival(cell, version) {
                 Arrival::Netinfo => {
-                    self.phase = Phase::Open;
+                    self.phase = LinkPhase::Open;
                     let netinfo = if self.opener {
                         Some(own_netinfo())
                     } else {
@@ -96,12 +96,12 @@ impl Negotiation {
                 }
                 Arrival::InBetween => LinkAnswer::PassedOver,
                 Arrival::Fault(fault) => {
-                    self.phase = Phase::Refused(fault);
+                    self.phase = LinkPhase::Refused(fault);
                     LinkAnswer::Refused(fault)
                 }
             },
-            Phase::Open => LinkAnswer::Refused(LinkFault::Unexpected(cell.command)),
-            Phase::Refused(fault) => LinkAnswer::Refused(fault),
+            LinkPhase::Open => LinkAnswer::Refused(LinkFault::Unexpected(cell.command)),
+            LinkPhase::Refused(fault) => LinkAnswer::Refused(fault),
         }
     }
 }

@@ -22,14 +22,14 @@ fn skip_address(bytes: &[u8]) -> Option<&[u8]>
 fn has_addresses(count: u8, bytes: &[u8]) -> bool
     ensures { result ≡ is_some (behind_addresses count bytes.now) }
 {
-    let mut left = bytes;
-    let mut missing = count;
-    while missing > 0 {
-        let Some(tail) = skip_address(left) else {
+    let mut rest_bytes = bytes;
+    let mut addresses_left = count;
+    while addresses_left > 0 {
+        let Some(tail) = skip_address(rest_bytes) else {
             return false;
         };
-        left = tail;
-        missing -= 1;
+        rest_bytes = tail;
+        addresses_left -= 1;
     }
     true
 }

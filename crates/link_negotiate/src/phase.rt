@@ -2,7 +2,7 @@ use cell_codec::LinkFault;
 
 /// Where a negotiation stands.
 #[derive(Clone, Copy)]
-pub enum Phase {
+pub enum LinkPhase {
     /// VERSIONS is awaited.
     AwaitsVersions,
     /// NETINFO is awaited; this version was agreed on.

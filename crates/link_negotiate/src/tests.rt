@@ -33,20 +33,20 @@ fn fault(answer: LinkAnswer) -> Option<LinkFault> {
 fn two_sides_open_a_link(rt: HostRuntime) -> Result<(), Fail> {
     let mut opener = Negotiation::opener(rt.alloc());
     let mut answerer = Negotiation::answerer(rt.alloc());
-    let offered = versions(rt.alloc(), &[0, 3, 0, 4, 0, 5])?;
-    match answerer.step(&offered) {
+    let offer = versions(rt.alloc(), &[0, 3, 0, 4, 0, 5])?;
+    match answerer.step(&offer) {
         LinkAnswer::Send(cells) => {
             assert_eq!(rt; cells.len(), 2);
-            let sent = cells.as_slice();
-            assert_eq!(rt; sent[0].body.payload(), [0, 4, 0, 5].as_slice());
-            let told = sent[1].body.payload();
-            assert_eq!(rt; told.len(), 509);
+            let sent_cells = cells.as_slice();
+            assert_eq!(rt; sent_cells[0].body.payload(), [0, 4, 0, 5].as_slice());
+            let netinfo_payload = sent_cells[1].body.payload();
+            assert_eq!(rt; netinfo_payload.len(), 509);
             assert_eq!(rt;
-                &told[..12],
+                &netinfo_payload[..12],
                 [0, 0, 0, 0, 4, 4, 0, 0, 0, 0, 0, 0].as_slice()
             );
-            assert!(rt; matches!(opener.step(&sent[0]), LinkAnswer::PassedOver));
-            match opener.step(&sent[1]) {
+            assert!(rt; matches!(opener.step(&sent_cells[0]), LinkAnswer::PassedOver));
+            match opener.step(&sent_cells[1]) {
                 LinkAnswer::Ready(5, Some(own)) => {
                     assert!(rt; matches!(answerer.step(&own), LinkAnswer::Ready(5, None)));
                 }
@@ -56,7 +56,7 @@ fn two_sides_open_a_link(rt: HostRuntime) -> Result<(), Fail> {
         _ => assert!(rt; false),
     }
     assert_eq!(rt;
-        fault(opener.step(&offered)),
+        fault(opener.step(&offer)),
         Some(LinkFault::Unexpected(command::VERSIONS))
     );
     Ok(())
@@ -69,43 +69,43 @@ fn a_link_opens_by_its_bytes(rt: HostRuntime) -> Result<(), Fail> {
     bytes.extend_from_slice(b"\0\0\0\0\x08\0\0\0\0\x04\x04")?;
     bytes.extend_from_slice(&[0; 503])?;
     let mut side = Negotiation::answerer(rt.alloc());
-    let mut sent = 0;
+    let mut sent_count = 0;
     let mut version = None;
     for cell in Decoder::starting(rt.alloc())
         .feed(bytes.as_slice())?
         .as_slice()
     {
         match side.step(cell) {
-            LinkAnswer::Send(cells) => sent = cells.len(),
-            LinkAnswer::Ready(agreed, _netinfo) => version = Some(agreed),
+            LinkAnswer::Send(cells) => sent_count = cells.len(),
+            LinkAnswer::Ready(agreed_version, _netinfo) => version = Some(agreed_version),
             _other => assert!(rt; false),
         }
     }
-    assert_eq!(rt; (sent, version), (2, Some(5)));
+    assert_eq!(rt; (sent_count, version), (2, Some(5)));
     Ok(())
 }
 
 #[test]
 fn protocol_4_is_taken_of_a_peer_that_speaks_no_higher_one(rt: HostRuntime) -> Result<(), Fail> {
-    let offered = versions(rt.alloc(), &[0, 4])?;
-    let told = netinfo([4, 4, 0, 0, 0, 0, 0, 0]);
+    let offer = versions(rt.alloc(), &[0, 4])?;
+    let netinfo_cell = netinfo([4, 4, 0, 0, 0, 0, 0, 0]);
 
     let mut answerer = Negotiation::answerer(rt.alloc());
-    match answerer.step(&offered) {
+    match answerer.step(&offer) {
         LinkAnswer::Send(cells) => {
-            let sent = cells.as_slice();
-            assert_eq!(rt; sent.len(), 2);
-            assert_eq!(rt; sent[0].command, command::VERSIONS);
-            assert_eq!(rt; sent[0].body.payload(), [0, 4, 0, 5].as_slice());
-            assert_eq!(rt; sent[1].command, command::NETINFO);
+            let sent_cells = cells.as_slice();
+            assert_eq!(rt; sent_cells.len(), 2);
+            assert_eq!(rt; sent_cells[0].command, command::VERSIONS);
+            assert_eq!(rt; sent_cells[0].body.payload(), [0, 4, 0, 5].as_slice());
+            assert_eq!(rt; sent_cells[1].command, command::NETINFO);
         }
         _ => assert!(rt; false),
     }
-    assert!(rt; matches!(answerer.step(&told), LinkAnswer::Ready(4, None)));
+    assert!(rt; matches!(answerer.step(&netinfo_cell), LinkAnswer::Ready(4, None)));
 
     let mut opener = Negotiation::opener(rt.alloc());
-    assert!(rt; matches!(opener.step(&offered), LinkAnswer::PassedOver));
-    assert!(rt; matches!(opener.step(&told), LinkAnswer::Ready(4, Some(_))));
+    assert!(rt; matches!(opener.step(&offer), LinkAnswer::PassedOver));
+    assert!(rt; matches!(opener.step(&netinfo_cell), LinkAnswer::Ready(4, Some(_))));
     Ok(())
 }
 

@@ -13,11 +13,11 @@ pub const PADDING_NEGOTIATION: u16 = 5;
 pub fn highest_common(payload: &[u8]) -> Option<u16>
     ensures { result ≡ highest_common our_versions (versions_of payload.now) }
 {
-    let [older, newer] = OUR_VERSIONS;
-    if lists(payload, newer) {
-        Some(newer)
-    } else if lists(payload, older) {
-        Some(older)
+    let [lower_version, higher_version] = OUR_VERSIONS;
+    if lists(payload, higher_version) {
+        Some(higher_version)
+    } else if lists(payload, lower_version) {
+        Some(lower_version)
     } else {
         None
     }
@@ -27,12 +27,12 @@ pub fn highest_common(payload: &[u8]) -> Option<u16>
 pub fn lists(payload: &[u8], version: u16) -> bool
     ensures { result ≡ lists_version (versions_of payload.now) version }
 {
-    let mut left = payload;
-    while let [high, low, more @ ..] = left {
+    let mut rest_bytes = payload;
+    while let [high, low, tail @ ..] = rest_bytes {
         if u16::from_be_bytes([*high, *low]) == version {
             return true;
         }
-        left = more;
+        rest_bytes = tail;
     }
     false
 }

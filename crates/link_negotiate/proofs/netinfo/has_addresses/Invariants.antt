@@ -2,8 +2,8 @@ use Rattle.std.proofs.Common.{◌≡◌}
 use Rattle.tor_spec.specs.Netinfo.{behind_addresses}
 use Rattle.link_negotiate.proofs.netinfo.has_addresses.Given as goal
 
-abbrev pub invariant-loop-missing : goal.invariant-loop-missing
-invariant-loop-missing l = behind_addresses l.missing l.left ≡ behind_addresses l.count l.bytes
+abbrev pub invariant-loop-addresses_left : goal.invariant-loop-addresses_left
+invariant-loop-addresses_left l = behind_addresses l.addresses_left l.rest_bytes ≡ behind_addresses l.count l.bytes
 
-abbrev pub decreases-loop-missing : goal.decreases-loop-missing
-decreases-loop-missing l = l.missing
+abbrev pub decreases-loop-addresses_left : goal.decreases-loop-addresses_left
+decreases-loop-addresses_left l = l.addresses_left
