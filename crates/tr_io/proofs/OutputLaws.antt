@@ -7,10 +7,10 @@ use Rattle.tr_io.specs.declared.sink.WriteAnswer.TheVariants.{Took}
 use Rattle.tr_io.specs.Output.{IsWritten, IsPartWritten}
 
 -- What holds at each turn: the first `count` bytes of the piece are written, and the rest are left.
-pub record Writing (before now : Option (List ℕ)) (faults_before faults_now : ℕ) (piece left : List ℕ) : Type 0 where
+pub record Writing (before now : Option (List ℕ)) (faults_before faults_now : ℕ) (piece rest_bytes : List ℕ) : Type 0 where
   pub count : ℕ
   pub within : count ≤ length piece
-  pub rest : left ≡ drop count piece
+  pub rest : rest_bytes ≡ drop count piece
   pub written : IsWritten before (take count piece) now
   pub counted : faults_before ≤ faults_now
 
@@ -24,23 +24,26 @@ starts_empty None = refl
 starts_empty (Some bytes) = ap Some (sym (append-nil bytes))
 
 -- all is written at last
-pub ends : (before now : Option (List ℕ)) (piece left : List ℕ) (count : ℕ) → left ≡ drop count piece → length left ≡ 0
+pub ends : (before now : Option (List ℕ)) (piece rest_bytes : List ℕ) (count : ℕ) → rest_bytes ≡ drop count piece
+    → length rest_bytes ≡ 0
     → IsWritten before (take count piece) now → IsWritten before piece now
-ends before now piece left count rest none written =
+ends before now piece rest_bytes count rest none written =
     let all : take count piece ≡ piece =
-    sym (append-nil (take count piece)) ∙ ap (λ xs. take count piece ++ xs) (sym (nil_from_length left none) ∙ rest)
+    sym (append-nil (take count piece)) ∙ ap (λ xs. take count piece ++ xs) (sym (nil_from_length rest_bytes none) ∙ rest)
     ∙ take-append-drop count piece in
     subst (λ xs. IsWritten before xs now) all written
 
 -- n bytes more were written
-pub write_more : (before now after : Option (List ℕ)) (piece left : List ℕ) (count n : ℕ) → left ≡ drop count piece
-    → IsWritten before (take count piece) now → WritesTo now (Took n) left after → IsWritten before (take (count + n) piece) after
-write_more None now after piece left count n rest written writes = subst (λ o. WritesTo o (Took n) left after) written writes
-write_more (Some bytes) now after piece left count n rest written writes =
-    let at_now : after ≡ Some ((bytes ++ take count piece) ++ take n left) =
-    subst (λ o. WritesTo o (Took n) left after) written writes in
+pub write_more : (before now after : Option (List ℕ)) (piece rest_bytes : List ℕ) (count n : ℕ) → rest_bytes ≡ drop count piece
+    → IsWritten before (take count piece) now → WritesTo now (Took n) rest_bytes after
+    → IsWritten before (take (count + n) piece) after
+write_more None now after piece rest_bytes count n rest written writes =
+    subst (λ o. WritesTo o (Took n) rest_bytes after) written writes
+write_more (Some bytes) now after piece rest_bytes count n rest written writes =
+    let at_now : after ≡ Some ((bytes ++ take count piece) ++ take n rest_bytes) =
+    subst (λ o. WritesTo o (Took n) rest_bytes after) written writes in
     at_now
-    ∙ ap Some (append_assoc bytes (take count piece) (take n left)
+    ∙ ap Some (append_assoc bytes (take count piece) (take n rest_bytes)
     ∙ ap (λ xs. bytes ++ (take count piece ++ take n xs)) rest
     ∙ ap (λ xs. bytes ++ xs) (sym (take-add count n piece)))
 
@@ -48,10 +51,10 @@ pub take_all : (xs : List ℕ) (k : ℕ) → length xs ≡ k → take k xs ≡ x
 take_all xs k is = ap (λ m. take m xs) (sym is) ∙ take-length xs
 
 -- what is left goes on
-pub left_more : (piece left : List ℕ) (count n : ℕ) → left ≡ drop count piece
-    → take (length left - n) (drop n left) ≡ drop (count + n) piece
-left_more piece left count n rest =
-    take_all (drop n left) (length left - n) (length-drop n left)
+pub left_more : (piece rest_bytes : List ℕ) (count n : ℕ) → rest_bytes ≡ drop count piece
+    → take (length rest_bytes - n) (drop n rest_bytes) ≡ drop (count + n) piece
+left_more piece rest_bytes count n rest =
+    take_all (drop n rest_bytes) (length rest_bytes - n) (length-drop n rest_bytes)
     ∙ ap (drop n) rest
     ∙ drop-drop n count piece
 

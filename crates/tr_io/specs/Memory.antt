@@ -9,9 +9,9 @@ use Rattle.tr_io.specs.declared.sink.WriteAnswer.TheVariants as WriteAnswers
 -- The bytes that are left, how many a read gets at most, the numbers of the reads that fail, how many
 -- were made, and how many failed.
 pub record SourceState : Type 0 where
-  pub left : List ℕ
+  pub rest : List ℕ
   pub most : ℕ
-  pub failing : List ℕ
+  pub failing_numbers : List ℕ
   pub calls : ℕ
   pub faults : ℕ
 
@@ -21,13 +21,13 @@ pub record SinkState : Type 0 where
   pub written : List ℕ
   pub flushed_count : ℕ
   pub most : ℕ
-  pub failing : List ℕ
+  pub failing_numbers : List ℕ
   pub calls : ℕ
   pub faults : ℕ
 
 -- Whether the call with this number is listed.
 abbrev pub is_listed : List ℕ → ℕ → Bool
-is_listed failing number = list_any (λ n. n == number) failing
+is_listed failing_numbers number = list_any (λ n. n == number) failing_numbers
 
 -- The number of the next call. It stands still at the end of its type.
 abbrev pub next_call : ℕ → ℕ
@@ -40,7 +40,7 @@ got n = if n == 0 then ReadAnswers.End else ReadAnswers.Got n
 -- To a read into so many bytes: a listed one fails, and any other gets what is left, as much as fits.
 abbrev pub read_answer : SourceState → ℕ → ReadAnswer
 read_answer s room =
-    if is_listed s.failing s.calls then ReadAnswers.Failed else got (min (min (length s.left) room) s.most)
+    if is_listed s.failing_numbers s.calls then ReadAnswers.Failed else got (min (min (length s.rest) room) s.most)
 
 -- A write of no bytes is no call.
 abbrev pub calls_after_write : ℕ → List ℕ → ℕ
@@ -48,4 +48,4 @@ calls_after_write calls [] = calls
 calls_after_write calls (byte ∷ piece) = next_call calls
 
 abbrev pub flush_answer : SinkState → WriteAnswer
-flush_answer s = if is_listed s.failing s.calls then WriteAnswers.Failed else WriteAnswers.Took 0
+flush_answer s = if is_listed s.failing_numbers s.calls then WriteAnswers.Failed else WriteAnswers.Took 0

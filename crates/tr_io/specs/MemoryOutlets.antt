@@ -14,7 +14,7 @@ outlet_sessions destinations = sessions_from 0 destinations
 
 -- All of the input was read.
 abbrev pub is_read : MemoryInput → Bool
-is_read input = length input.bytes.items == input.at
+is_read input = length input.bytes.items == input.read_count
 
 abbrev pub ends_of : Option MemoryInput → Bool
 ends_of None = false

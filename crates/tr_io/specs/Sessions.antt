@@ -66,7 +66,7 @@ Numbers Doors.Failed before after = after ≡ before
 -- The listener has none left, where it tells how many it has.
 abbrev pub HasNone : Option ℕ → Type 0
 HasNone None = ⊤
-HasNone (Some waiting) = waiting ≡ 0
+HasNone (Some sessions_left) = sessions_left ≡ 0
 
 -- A read puts the bytes got behind those read, and ends only where the input is at its end.
 abbrev pub ReadsOn : ReadAnswer → List ℕ → Session → Session → Type 0

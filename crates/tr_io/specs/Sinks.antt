@@ -9,20 +9,20 @@ TookWithin (Took n) piece = (n ≤ length piece) × (0 < length piece → 1 ≤ 
 TookWithin Failed piece = Unit {0}
 
 -- Where the bytes written are told: what was taken stands behind them; a write that failed leaves them.
-abbrev pub Writes : WriteAnswer → List ℕ → List ℕ → Option (List ℕ) → Type 0
-Writes (Took n) piece written after = after ≡ Some (written ++ take n piece)
-Writes Failed piece written after = after ≡ Some written
+abbrev pub WritesNext : WriteAnswer → List ℕ → List ℕ → Option (List ℕ) → Type 0
+WritesNext (Took n) piece bytes after = after ≡ Some (bytes ++ take n piece)
+WritesNext Failed piece bytes after = after ≡ Some bytes
 
 -- The same for a sink that may not tell: then it never tells.
 abbrev pub WritesTo : Option (List ℕ) → WriteAnswer → List ℕ → Option (List ℕ) → Type 0
 WritesTo None answer piece after = after ≡ None
-WritesTo (Some written) answer piece after = Writes answer piece written after
+WritesTo (Some bytes) answer piece after = WritesNext answer piece bytes after
 
 -- Where the bytes flushed are told: those flushed before stay in front.
 abbrev pub KeepsFlushed : Option (List ℕ) → Option (List ℕ) → Type 0
 KeepsFlushed None after = after ≡ None
-KeepsFlushed (Some flushed) None = ⊥
-KeepsFlushed (Some flushed) (Some after) = (more : List ℕ) × (after ≡ flushed ++ more)
+KeepsFlushed (Some bytes) None = ⊥
+KeepsFlushed (Some bytes) (Some after) = (more : List ℕ) × (after ≡ bytes ++ more)
 
 -- A flush that doesn't fail has flushed all that was written.
 abbrev pub FlushesAll : WriteAnswer → Option (List ℕ) → Option (List ℕ) → Type 0

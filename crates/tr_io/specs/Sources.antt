@@ -12,11 +12,11 @@ GotWithin Failed buffer = Unit {0}
 -- Where the bytes left are told: a read that got n bytes put the next n into the buffer; the end
 -- comes where none are left; a read that failed leaves them all.
 abbrev pub ReadsNext : ReadAnswer → List ℕ → List ℕ → Option (List ℕ) → Type 0
-ReadsNext (Got n) buffer left after = (n ≤ length left) × (take n buffer ≡ take n left) × (after ≡ Some (drop n left))
-ReadsNext End buffer left after = (left ≡ []) × (after ≡ Some left)
-ReadsNext Failed buffer left after = after ≡ Some left
+ReadsNext (Got n) buffer rest after = (n ≤ length rest) × (take n buffer ≡ take n rest) × (after ≡ Some (drop n rest))
+ReadsNext End buffer rest after = (rest ≡ []) × (after ≡ Some rest)
+ReadsNext Failed buffer rest after = after ≡ Some rest
 
 -- The same for a source that may not tell: then it never tells.
 abbrev pub ReadsFrom : Option (List ℕ) → ReadAnswer → List ℕ → Option (List ℕ) → Type 0
 ReadsFrom None answer buffer after = after ≡ None
-ReadsFrom (Some left) answer buffer after = ReadsNext answer buffer left after
+ReadsFrom (Some rest) answer buffer after = ReadsNext answer buffer rest after

@@ -15,7 +15,7 @@ use std::marker::Model;
 #[derive(Drop)]
 pub struct MemorySource {
     bytes: Vec<u8>,
-    taken: usize,
+    read_count: usize,
     most: usize,
     calls: FailingCalls,
 }
@@ -26,54 +26,54 @@ impl Model for MemorySource {
 
     ghost Value = { SourceState };
 
-    ghost view = { λ s. record { left = drop s.taken s.bytes.items; most = s.most; failing = s.calls.failing.items; calls = s.calls.next; faults = s.calls.faults } };
+    ghost view = { λ s. record { rest = drop s.read_count s.bytes.items; most = s.most; failing_numbers = s.calls.failing_numbers.items; calls = s.calls.next; faults = s.calls.faults } };
 
-    ghost invariant = { λ s. (s.taken ≤ length s.bytes.items) × (1 ≤ s.most) };
+    ghost invariant = { λ s. (s.read_count ≤ length s.bytes.items) × (1 ≤ s.most) };
 }
 
 impl MemorySource {
     /// A source of these bytes, which gives at most `most` of them a read, and fails at the reads
     /// with the listed numbers, counted from 0.
-    pub fn new(bytes: Vec<u8>, most: usize, failing: Vec<u64>) -> MemorySource
+    pub fn new(bytes: Vec<u8>, most: usize, failing_numbers: Vec<u64>) -> MemorySource
         requires { 1 ≤ most }
-        ensures { result ≡ record { left = bytes.items; most = most; failing = failing.items; calls = 0; faults = 0 } }
+        ensures { result ≡ record { rest = bytes.items; most = most; failing_numbers = failing_numbers.items; calls = 0; faults = 0 } }
     {
         MemorySource {
             bytes,
-            taken: 0,
+            read_count: 0,
             most,
-            calls: FailingCalls::new(failing),
+            calls: FailingCalls::new(failing_numbers),
         }
     }
 }
 
 impl Source for MemorySource {
-    ghost left = { λ s. Some s.left };
+    ghost left = { λ s. Some s.rest };
 
     ghost faults = { λ s. s.faults };
 
     fn read(&mut self, into: &mut [u8]) -> ReadAnswer
         requires { 0 < length into.old }
         ensures within { GotWithin result into.new }
-        ensures bytes { ReadsFrom (Some self.old.left) result into.new (Some self.new.left) }
+        ensures bytes { ReadsFrom (Some self.old.rest) result into.new (Some self.new.rest) }
         ensures counted { self.old.faults ≤ self.new.faults }
         ensures cause { result ≡ ReadAnswer.Failed → Rose self.old.faults self.new.faults }
         ensures steady { result ≢ ReadAnswer.Failed → self.new.faults ≡ self.old.faults }
         ensures answer { result ≡ read_answer self.old (length into.old) }
         ensures calls { self.new.calls ≡ next_call self.old.calls }
-        ensures failing { self.new.failing ≡ self.old.failing }
+        ensures failing { self.new.failing_numbers ≡ self.old.failing_numbers }
         ensures most { self.new.most ≡ self.old.most }
     {
         if self.calls.fails() {
             return ReadAnswer::Failed;
         }
-        let left = &self.bytes[self.taken..];
-        let count = left.len().min(into.len()).min(self.most);
+        let rest_bytes = &self.bytes[self.read_count..];
+        let count = rest_bytes.len().min(into.len()).min(self.most);
         if count == 0 {
             return ReadAnswer::End;
         }
-        into[..count].copy_from_slice(&left[..count]);
-        self.taken += count;
+        into[..count].copy_from_slice(&rest_bytes[..count]);
+        self.read_count += count;
         ReadAnswer::Got(count)
     }
 }
@@ -93,7 +93,7 @@ impl Model for MemorySink {
 
     ghost Value = { SinkState };
 
-    ghost view = { λ s. record { written = s.bytes.items; flushed_count = s.flushed_count; most = s.most; failing = s.calls.failing.items; calls = s.calls.next; faults = s.calls.faults } };
+    ghost view = { λ s. record { written = s.bytes.items; flushed_count = s.flushed_count; most = s.most; failing_numbers = s.calls.failing_numbers.items; calls = s.calls.next; faults = s.calls.faults } };
 
     ghost invariant = { λ s. (s.flushed_count ≤ length s.bytes.items) × (1 ≤ s.most) };
 }
@@ -102,15 +102,15 @@ impl MemorySink {
     /// An empty sink, which takes at most `most` bytes a write, and fails at the calls of `write`
     /// and `flush` with the listed numbers, counted together from 0; a write of no bytes isn't
     /// counted. It fails, too, where memory for the bytes is wanting.
-    pub fn new(alloc: Global, most: usize, failing: Vec<u64>) -> MemorySink
+    pub fn new(alloc: Global, most: usize, failing_numbers: Vec<u64>) -> MemorySink
         requires { 1 ≤ most }
-        ensures { result ≡ record { written = []; flushed_count = 0; most = most; failing = failing.items; calls = 0; faults = 0 } }
+        ensures { result ≡ record { written = []; flushed_count = 0; most = most; failing_numbers = failing_numbers.items; calls = 0; faults = 0 } }
     {
         MemorySink {
             bytes: Vec::new(alloc),
             flushed_count: 0,
             most,
-            calls: FailingCalls::new(failing),
+            calls: FailingCalls::new(failing_numbers),
         }
     }
 
@@ -144,11 +144,11 @@ impl Sink for MemorySink {
         ensures counted { self.old.faults ≤ self.new.faults }
         ensures cause { result ≡ WriteAnswer.Failed → Rose self.old.faults self.new.faults }
         ensures steady { result ≢ WriteAnswer.Failed → self.new.faults ≡ self.old.faults }
-        ensures listed { piece.now ≢ [] → IsTrue (is_listed self.old.failing self.old.calls) → result ≡ WriteAnswer.Failed }
+        ensures listed { piece.now ≢ [] → IsTrue (is_listed self.old.failing_numbers self.old.calls) → result ≡ WriteAnswer.Failed }
         ensures took { result ≢ WriteAnswer.Failed → result ≡ WriteAnswer.Took (min (length piece.now) self.old.most) }
         ensures kept { self.new.flushed_count ≡ self.old.flushed_count }
         ensures calls { self.new.calls ≡ calls_after_write self.old.calls piece.now }
-        ensures failing { self.new.failing ≡ self.old.failing }
+        ensures failing { self.new.failing_numbers ≡ self.old.failing_numbers }
         ensures most { self.new.most ≡ self.old.most }
     {
         if piece.is_empty() {
@@ -176,7 +176,7 @@ impl Sink for MemorySink {
         ensures answer { result ≡ flush_answer self.old }
         ensures written { self.new.written ≡ self.old.written }
         ensures calls { self.new.calls ≡ next_call self.old.calls }
-        ensures failing { self.new.failing ≡ self.old.failing }
+        ensures failing { self.new.failing_numbers ≡ self.old.failing_numbers }
         ensures most { self.new.most ≡ self.old.most }
     {
         if self.calls.fails() {

@@ -5,6 +5,6 @@ ghost use Rattle.std.specs.Prelude.{◌≤◌, length};
 #[derive(Drop)]
 pub struct MemoryInput {
     pub(crate) bytes: Vec<u8>,
-    pub(crate) at: usize,
-    ghost within: { at ≤ length bytes.items },
+    pub(crate) read_count: usize,
+    ghost within: { read_count ≤ length bytes.items },
 }

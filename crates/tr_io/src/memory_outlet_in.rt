@@ -21,10 +21,10 @@ impl MemoryInput {
         ensures none { result ≡ 0 → is_read self.old ≡ true }
         ensures more { result ≢ 0 → is_read self.old ≡ false }
     {
-        let left = &self.bytes[self.at..];
-        let count = left.len().min(into.len()).min(most);
-        into[..count].copy_from_slice(&left[..count]);
-        self.at += count;
+        let rest_bytes = &self.bytes[self.read_count..];
+        let count = rest_bytes.len().min(into.len()).min(most);
+        into[..count].copy_from_slice(&rest_bytes[..count]);
+        self.read_count += count;
         count
     }
 }
@@ -45,7 +45,7 @@ impl MemoryOutletIn {
     /// A half of this slot without sessions. A read gives at most `most` bytes. The reads with the listed
     /// numbers, counted from 0, fail, those in a session that isn't there, and those for which memory is
     /// wanting.
-    pub fn new(alloc: Global, slot: u32, most: usize, failing: Vec<u64>) -> MemoryOutletIn
+    pub fn new(alloc: Global, slot: u32, most: usize, failing_numbers: Vec<u64>) -> MemoryOutletIn
         requires { 1 ≤ most }
         ensures slot { result.slot ≡ slot }
         ensures pieces { result.pieces.items ≡ [] }
@@ -57,13 +57,16 @@ impl MemoryOutletIn {
             most,
             inputs: Vec::new(alloc),
             pieces: Vec::new(alloc),
-            calls: FailingCalls::new(failing),
+            calls: FailingCalls::new(failing_numbers),
         }
     }
 
     /// The peer of the next session sends these bytes. The sessions have the numbers 0, 1, 2 and so on.
     pub fn add(&mut self, bytes: Vec<u8>) -> Result<(), AllocError> {
-        self.inputs.push(MemoryInput { bytes, at: 0 })?;
+        self.inputs.push(MemoryInput {
+            bytes,
+            read_count: 0,
+        })?;
         Ok(())
     }
 }

@@ -34,7 +34,7 @@ impl MemoryOutletOut {
         slot: u32,
         most: usize,
         refuses: Vec<Dest>,
-        failing: Vec<u64>,
+        failing_numbers: Vec<u64>,
     ) -> MemoryOutletOut
         requires { 1 ≤ most }
         ensures slot { result.slot ≡ slot }
@@ -51,7 +51,7 @@ impl MemoryOutletOut {
             pieces: Vec::new(alloc),
             refuses,
             refusals: 0,
-            calls: FailingCalls::new(failing),
+            calls: FailingCalls::new(failing_numbers),
         }
     }
 

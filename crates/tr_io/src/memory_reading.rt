@@ -18,7 +18,7 @@ impl MemorySession {
             number,
             to,
             bytes: script.bytes,
-            at: 0,
+            read_count: 0,
             greeting: script.greeting,
         }
     }
@@ -30,13 +30,13 @@ impl MemorySession {
         ensures session { ReadsOn result into.new (session_of self.old) (session_of self.new) }
         ensures never { result ≢ ReadAnswer.Failed }
     {
-        let left = &self.bytes[self.at..];
-        let count = left.len().min(into.len()).min(most);
+        let rest_bytes = &self.bytes[self.read_count..];
+        let count = rest_bytes.len().min(into.len()).min(most);
         if count == 0 {
             return ReadAnswer::End;
         }
-        into[..count].copy_from_slice(&left[..count]);
-        self.at += count;
+        into[..count].copy_from_slice(&rest_bytes[..count]);
+        self.read_count += count;
         ReadAnswer::Got(count)
     }
 

@@ -30,7 +30,7 @@ pub struct MemorySession {
     pub(crate) number: u64,
     pub(crate) to: Option<Dest>,
     pub(crate) bytes: Vec<u8>,
-    pub(crate) at: usize,
+    pub(crate) read_count: usize,
     pub(crate) greeting: Vec<u8>,
-    ghost within: { at ≤ length bytes.items },
+    ghost within: { read_count ≤ length bytes.items },
 }

@@ -19,9 +19,9 @@ pub struct MemorySlotIn {
     slot: u32,
     next: u64,
     most: usize,
-    coming: Vec<Script>,
-    past: Vec<MemorySession>,
-    present: Option<MemorySession>,
+    scripts: Vec<Script>,
+    past_sessions: Vec<MemorySession>,
+    present_session: Option<MemorySession>,
     calls: FailingCalls,
     refusals: u64,
     ghost some: { 1 ≤ most },
@@ -35,15 +35,15 @@ impl MemorySlotIn {
     pub fn new(
         alloc: Global,
         slot: u32,
-        coming: Vec<Script>,
+        scripts: Vec<Script>,
         most: usize,
-        failing: Vec<u64>,
+        failing_numbers: Vec<u64>,
     ) -> MemorySlotIn
         requires { 1 ≤ most }
         ensures slot { result.slot ≡ slot }
         ensures next { result.next ≡ 0 }
-        ensures sessions { sessions_of result.past.items result.present ≡ no_session }
-        ensures waiting { result.coming.items ≡ coming.items }
+        ensures sessions { sessions_of result.past_sessions.items result.present_session ≡ no_session }
+        ensures waiting { result.scripts.items ≡ scripts.items }
         ensures faults { result.calls.faults ≡ 0 }
         ensures refusals { result.refusals ≡ 0 }
     {
@@ -51,10 +51,10 @@ impl MemorySlotIn {
             slot,
             next: 0,
             most,
-            coming,
-            past: Vec::new(alloc),
-            present: None,
-            calls: FailingCalls::new(failing),
+            scripts,
+            past_sessions: Vec::new(alloc),
+            present_session: None,
+            calls: FailingCalls::new(failing_numbers),
             refusals: 0,
         }
     }
@@ -63,8 +63,8 @@ impl MemorySlotIn {
     fn come(&mut self, to: Option<Dest>) -> DoorAnswer
         ensures slot { self.new.slot ≡ self.old.slot }
         ensures numbers { Numbers result self.old.next self.new.next }
-        ensures sessions { Comes result to (sessions_of self.old.past.items self.old.present) (sessions_of self.new.past.items self.new.present) }
-        ensures none { result ≡ DoorAnswer.NoMore → length self.old.coming.items ≡ 0 }
+        ensures sessions { Comes result to (sessions_of self.old.past_sessions.items self.old.present_session) (sessions_of self.new.past_sessions.items self.new.present_session) }
+        ensures none { result ≡ DoorAnswer.NoMore → length self.old.scripts.items ≡ 0 }
         ensures counted { self.old.calls.faults ≤ self.new.calls.faults }
         ensures cause { result ≡ DoorAnswer.Failed → Rose self.old.calls.faults self.new.calls.faults }
         ensures steady { result ≢ DoorAnswer.Failed → self.new.calls.faults ≡ self.old.calls.faults }
@@ -74,29 +74,29 @@ impl MemorySlotIn {
         if self.calls.fails() {
             return DoorAnswer::Failed;
         }
-        let Some(after) = self.next.checked_add(1) else {
+        let Some(next_number) = self.next.checked_add(1) else {
             self.calls.count_fault();
             return DoorAnswer::Failed;
         };
-        if self.past.reserve(1).is_err() {
+        if self.past_sessions.reserve(1).is_err() {
             self.calls.count_fault();
             return DoorAnswer::Failed;
         }
-        let Some(script) = self.coming.pop() else {
+        let Some(script) = self.scripts.pop() else {
             return DoorAnswer::NoMore;
         };
         let number = self.next;
-        let come = MemorySession::begin(number, to, script);
-        if let Some(done) = self.present.replace(come) {
-            self.past.push_reserved(done);
+        let session = MemorySession::begin(number, to, script);
+        if let Some(past_session) = self.present_session.replace(session) {
+            self.past_sessions.push_reserved(past_session);
         }
-        self.next = after;
+        self.next = next_number;
         DoorAnswer::Came(number)
     }
 
     /// What was said in the present session; nothing where there is none.
     pub fn greeting(&self) -> &[u8] {
-        match &self.present {
+        match &self.present_session {
             Some(session) => session.greeting.as_slice(),
             None => &[],
         }
@@ -108,9 +108,9 @@ impl SlotIn for MemorySlotIn {
 
     ghost next = { λ s. s.next };
 
-    ghost sessions = { λ s. Some (sessions_of s.past.items s.present) };
+    ghost sessions = { λ s. Some (sessions_of s.past_sessions.items s.present_session) };
 
-    ghost waiting = { λ s. Some (length s.coming.items) };
+    ghost sessions_left = { λ s. Some (length s.scripts.items) };
 
     ghost faults = { λ s. s.calls.faults };
 
@@ -133,7 +133,7 @@ impl SlotIn for MemorySlotIn {
         if self.calls.fails() {
             return ReadAnswer::Failed;
         }
-        match &mut self.present {
+        match &mut self.present_session {
             Some(session) => session.read(into, self.most),
             None => {
                 self.calls.count_fault();
@@ -146,7 +146,7 @@ impl SlotIn for MemorySlotIn {
         if self.calls.fails() {
             return WriteAnswer::Failed;
         }
-        let Some(session) = &mut self.present else {
+        let Some(session) = &mut self.present_session else {
             self.calls.count_fault();
             return WriteAnswer::Failed;
         };

@@ -30,7 +30,7 @@ pub struct MemorySlotOut {
 impl MemorySlotOut {
     /// A half of this slot, which takes at most `most` bytes a write. The writes with the listed numbers,
     /// counted from 0, fail, and those for whose bytes memory is wanting.
-    pub fn new(alloc: Global, slot: u32, most: usize, failing: Vec<u64>) -> MemorySlotOut
+    pub fn new(alloc: Global, slot: u32, most: usize, failing_numbers: Vec<u64>) -> MemorySlotOut
         requires { 1 ≤ most }
         ensures slot { result.slot ≡ slot }
         ensures written { result.pieces.items ≡ [] }
@@ -41,7 +41,7 @@ impl MemorySlotOut {
             slot,
             most,
             pieces: Vec::new(alloc),
-            calls: FailingCalls::new(failing),
+            calls: FailingCalls::new(failing_numbers),
         }
     }
 

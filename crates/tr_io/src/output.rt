@@ -17,10 +17,10 @@ pub fn write_all<K: Sink>(piece: &[u8], sink: &mut K) -> Result<(), WriteFault>
     ensures counted { K.faults sink.old ≤ K.faults sink.new }
     ensures cause { OnErr result (Rose (K.faults sink.old) (K.faults sink.new)) }
 {
-    let mut left = piece;
-    while !left.is_empty() {
-        match sink.write(left) {
-            WriteAnswer::Took(count) => left = &left[count..],
+    let mut rest_bytes = piece;
+    while !rest_bytes.is_empty() {
+        match sink.write(rest_bytes) {
+            WriteAnswer::Took(count) => rest_bytes = &rest_bytes[count..],
             WriteAnswer::Failed => return Err(WriteFault),
         }
     }

@@ -25,7 +25,7 @@ pub trait SlotIn {
     ghost sessions: { Self → Option SlotSessions };
 
     /// How many sessions the listener has left, where it tells that.
-    ghost waiting: { Self → Option ℕ };
+    ghost sessions_left: { Self → Option ℕ };
 
     /// How often the half failed. The count rises at failures alone, and stands still at 2^64 - 1.
     ghost faults: { Self → ℕ };
@@ -38,7 +38,7 @@ pub trait SlotIn {
         ensures slot { slot self.new ≡ slot self.old }
         ensures numbers { Numbers result (next self.old) (next self.new) }
         ensures sessions { ComesTo result None (sessions self.old) (sessions self.new) }
-        ensures none { result ≡ DoorAnswer.NoMore → HasNone (waiting self.old) }
+        ensures none { result ≡ DoorAnswer.NoMore → HasNone (sessions_left self.old) }
         ensures counted { faults self.old ≤ faults self.new }
         ensures cause { result ≡ DoorAnswer.Failed → Rose (faults self.old) (faults self.new) }
         ensures steady { result ≢ DoorAnswer.Failed → faults self.new ≡ faults self.old }

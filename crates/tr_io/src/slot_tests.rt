@@ -39,11 +39,11 @@ fn read_outlet<I: OutletIn>(outlet: &mut I, session: u64) -> (ReadAnswer, [u8; 4
 
 #[test]
 fn a_slot_runs_its_scripts_one_after_another(rt: HostRuntime) -> Result<(), Fail> {
-    let mut coming = Vec::new(rt.alloc());
-    coming.push(Script::sends(rt.alloc(), [9].to_vec(rt.alloc())?))?;
-    coming.push(Script::sends(rt.alloc(), [1, 2, 3].to_vec(rt.alloc())?))?;
-    let failing = [0, 4, 6, 9].to_vec(rt.alloc())?;
-    let mut link = MemorySlotIn::new(rt.alloc(), 5, coming, 2, failing);
+    let mut scripts = Vec::new(rt.alloc());
+    scripts.push(Script::sends(rt.alloc(), [9].to_vec(rt.alloc())?))?;
+    scripts.push(Script::sends(rt.alloc(), [1, 2, 3].to_vec(rt.alloc())?))?;
+    let failing_numbers = [0, 4, 6, 9].to_vec(rt.alloc())?;
+    let mut link = MemorySlotIn::new(rt.alloc(), 5, scripts, 2, failing_numbers);
     assert_eq!(rt; link.accept(), DoorAnswer::Failed);
     assert_eq!(rt; read_slot(&mut link), (ReadAnswer::Failed, [0; 4]));
     assert_eq!(rt; link.accept(), DoorAnswer::Came(0));
@@ -87,8 +87,8 @@ fn a_slot_takes_pieces_of_each_session(rt: HostRuntime) -> Result<(), Fail> {
 fn an_outlet_reaches_is_written_and_read(rt: HostRuntime) -> Result<(), Fail> {
     let other = Dest { port: 7, ..HOP };
     let refuses = [other].to_vec(rt.alloc())?;
-    let failing = [1, 4].to_vec(rt.alloc())?;
-    let mut outlet = MemoryOutletOut::new(rt.alloc(), 5, 2, refuses, failing);
+    let failing_numbers = [1, 4].to_vec(rt.alloc())?;
+    let mut outlet = MemoryOutletOut::new(rt.alloc(), 5, 2, refuses, failing_numbers);
     assert_eq!(rt; outlet.reach(HOP), DoorAnswer::Came(0));
     assert_eq!(rt; outlet.reach(HOP), DoorAnswer::Failed);
     assert_eq!(rt; outlet.reach(other), DoorAnswer::Refused);
