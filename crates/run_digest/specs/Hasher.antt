@@ -5,4 +5,4 @@ use Rattle.run_digest.specs.declared.hasher.Hasher.{Hasher}
 
 -- Of the block begun, only the bytes that came.
 abbrev pub value_of : Hasher → HashState
-value_of s = record { hash = s.hash; rest = take (s.total % 64) s.begun; total = s.total }
+value_of s = record { hash = s.hash; rest = take (s.total % 64) s.block_bytes; total = s.total }
