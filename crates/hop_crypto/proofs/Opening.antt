@@ -19,48 +19,48 @@ opener_by_parts o layer key position digest =
     ∙ ap (λ (d : HashState). made layer.key layer.position d) digest
 
 -- What an opener of a layer makes of a body: plain comes out, and the stream is next.
-pub record TookOff (before : OpenerState) (next : StreamPlace) (layer : OpeningLayer) (body plain : List ℕ) : Type 0 where
-  pub stands : before ≡ opener_of layer
-  pub off : plain ≡ zip2 bit_xor body (keystream_part before.stream.key before.stream.position 509)
-  pub key : next.key ≡ before.stream.key
-  pub position : next.position ≡ before.stream.position + 509
+pub record TookOff (opener : OpenerState) (next : StreamPlace) (layer : OpeningLayer) (body plain : List ℕ) : Type 0 where
+  pub stands : opener ≡ opener_of layer
+  pub off : plain ≡ zip2 bit_xor body (keystream_part opener.stream.key opener.stream.position 509)
+  pub key : next.key ≡ opener.stream.key
+  pub position : next.position ≡ opener.stream.position + 509
 
-layer_off : (before : OpenerState) (next : StreamPlace) (layer : OpeningLayer) (body plain : List ℕ)
-    → TookOff before next layer body plain → plain ≡ layered layer.key layer.position body
+layer_off : (opener : OpenerState) (next : StreamPlace) (layer : OpeningLayer) (body plain : List ℕ)
+    → TookOff opener next layer body plain → plain ≡ layered layer.key layer.position body
 unfolding layered
-layer_off before next layer body plain took =
+layer_off opener next layer body plain took =
     took.off ∙ ap (λ (o : OpenerState). zip2 bit_xor body (keystream_part o.stream.key o.stream.position 509)) took.stands
 
-pub opened_recognised : (before : OpenerState) (next : StreamPlace) (layer : OpeningLayer) (body plain : List ℕ)
-    → TookOff before next layer body plain → is_recognised layer.seed layer.absorbed plain ≡ true
+pub opened_recognised : (opener : OpenerState) (next : StreamPlace) (layer : OpeningLayer) (body plain : List ℕ)
+    → TookOff opener next layer body plain → is_recognised layer.seed layer.absorbed plain ≡ true
     → opened layer body ≡ record { body = plain; recognised = Some (running_digest layer.seed (layer.absorbed ++ plain ∷ [])) }
 unfolding opened
-opened_recognised before next layer body plain took recognised =
-    rw (← layer_off before next layer body plain took, recognised) refl
+opened_recognised opener next layer body plain took recognised =
+    rw (← layer_off opener next layer body plain took, recognised) refl
 
-pub opened_other : (before : OpenerState) (next : StreamPlace) (layer : OpeningLayer) (body plain : List ℕ)
-    → TookOff before next layer body plain → is_recognised layer.seed layer.absorbed plain ≡ false
+pub opened_other : (opener : OpenerState) (next : StreamPlace) (layer : OpeningLayer) (body plain : List ℕ)
+    → TookOff opener next layer body plain → is_recognised layer.seed layer.absorbed plain ≡ false
     → opened layer body ≡ record { body = plain; recognised = None }
 unfolding opened
-opened_other before next layer body plain took other = rw (← layer_off before next layer body plain took, other) refl
+opened_other opener next layer body plain took other = rw (← layer_off opener next layer body plain took, other) refl
 
-pub state_recognised : (before : OpenerState) (next : StreamPlace) (digest : HashState) (layer : OpeningLayer) (body plain : List ℕ)
-    → TookOff before next layer body plain → is_recognised layer.seed layer.absorbed plain ≡ true
+pub state_recognised : (opener : OpenerState) (next : StreamPlace) (digest : HashState) (layer : OpeningLayer) (body plain : List ℕ)
+    → TookOff opener next layer body plain → is_recognised layer.seed layer.absorbed plain ≡ true
     → digest ≡ hash_state (digest_message layer.seed (layer.absorbed ++ plain ∷ []))
     → record { stream = next; digest = digest } ≡ opener_of (after_opening layer body)
 unfolding after_opening
-state_recognised before next digest layer body plain took recognised gone_by =
-    rw (← layer_off before next layer body plain took, recognised)
+state_recognised opener next digest layer body plain took recognised gone_by =
+    rw (← layer_off opener next layer body plain took, recognised)
     (opener_by_parts _ (record layer { position = layer.position + 509; absorbed = layer.absorbed ++ plain ∷ [] })
     (took.key ∙ ap (λ (o : OpenerState). o.stream.key) took.stands)
     (took.position ∙ ap (λ (o : OpenerState). o.stream.position + 509) took.stands) gone_by)
 
-pub state_other : (before : OpenerState) (next : StreamPlace) (layer : OpeningLayer) (body plain : List ℕ)
-    → TookOff before next layer body plain → is_recognised layer.seed layer.absorbed plain ≡ false
-    → record { stream = next; digest = before.digest } ≡ opener_of (after_opening layer body)
+pub state_other : (opener : OpenerState) (next : StreamPlace) (layer : OpeningLayer) (body plain : List ℕ)
+    → TookOff opener next layer body plain → is_recognised layer.seed layer.absorbed plain ≡ false
+    → record { stream = next; digest = opener.digest } ≡ opener_of (after_opening layer body)
 unfolding after_opening
-state_other before next layer body plain took other =
-    rw (← layer_off before next layer body plain took, other)
+state_other opener next layer body plain took other =
+    rw (← layer_off opener next layer body plain took, other)
     (opener_by_parts _ (record layer { position = layer.position + 509 })
     (took.key ∙ ap (λ (o : OpenerState). o.stream.key) took.stands)
     (took.position ∙ ap (λ (o : OpenerState). o.stream.position + 509) took.stands)

@@ -10,11 +10,11 @@ use Rattle.hop_crypto.specs.declared.cipher.Cipher.{Cipher}
 use Rattle.hop_crypto.specs.declared.cipher.Cipher.TheVariants.{Forth, Back}
 
 -- One body through an opener.
-pub IsWorked-opened : (before after : OpenerState) (body : List ℕ) (out : Opened)
-    → ((layer : OpeningLayer) → before ≡ opener_of layer → opened layer body ≡ record { body = out.body; recognised = out.recognised })
-    → ((layer : OpeningLayer) → before ≡ opener_of layer → after ≡ opener_of (after_opening layer body))
-    → IsWorked (Forth before) (body ∷ []) (out ∷ []) (Forth after)
-IsWorked-opened before after body out output state = λ layer stands.
+pub IsWorked-opened : (start end : OpenerState) (body : List ℕ) (out : Opened)
+    → ((layer : OpeningLayer) → start ≡ opener_of layer → opened layer body ≡ record { body = out.body; recognised = out.recognised })
+    → ((layer : OpeningLayer) → start ≡ opener_of layer → end ≡ opener_of (after_opening layer body))
+    → IsWorked (Forth start) (body ∷ []) (out ∷ []) (Forth end)
+IsWorked-opened start end body out output state = λ layer stands.
     (ap (λ (b : OpenedBody). opened_from b ∷ []) (sym (output layer stands)), ap Forth (state layer stands))
 
 -- No body.

@@ -98,19 +98,19 @@ impl Opener {
 
 // The running digest behind `plain` and its 20 bytes, where that body is recognised.
 #[tactic(auto, unfolding(crypto_spec::specs::HopLayer::is_recognised))]
-fn recognise(before: &Running, plain: &[u8; 509]) -> Option<(Running, [u8; 20])>
-    ensures digest { IfSome result (λ r. (seed : List ℕ) (bodies : List (List ℕ)) → HasAbsorbed before.now seed bodies → HasAbsorbed r.0 seed (bodies ++ plain.now ∷ [])) }
-    ensures bytes { IfSome result (λ r. (seed : List ℕ) (bodies : List (List ℕ)) → HasAbsorbed before.now seed bodies → r.1 ≡ running_digest seed (bodies ++ plain.now ∷ [])) }
-    ensures some { IfSome result (λ r. (seed : List ℕ) (bodies : List (List ℕ)) → HasAbsorbed before.now seed bodies → is_recognised seed bodies plain.now ≡ true) }
-    ensures none { IfNone result ((seed : List ℕ) (bodies : List (List ℕ)) → HasAbsorbed before.now seed bodies → is_recognised seed bodies plain.now ≡ false) }
+fn recognise(running: &Running, plain: &[u8; 509]) -> Option<(Running, [u8; 20])>
+    ensures digest { IfSome result (λ r. (seed : List ℕ) (bodies : List (List ℕ)) → HasAbsorbed running.now seed bodies → HasAbsorbed r.0 seed (bodies ++ plain.now ∷ [])) }
+    ensures bytes { IfSome result (λ r. (seed : List ℕ) (bodies : List (List ℕ)) → HasAbsorbed running.now seed bodies → r.1 ≡ running_digest seed (bodies ++ plain.now ∷ [])) }
+    ensures some { IfSome result (λ r. (seed : List ℕ) (bodies : List (List ℕ)) → HasAbsorbed running.now seed bodies → is_recognised seed bodies plain.now ≡ true) }
+    ensures none { IfNone result ((seed : List ℕ) (bodies : List (List ℕ)) → HasAbsorbed running.now seed bodies → is_recognised seed bodies plain.now ≡ false) }
 {
     if plain[1..3] != [0, 0] {
         return None;
     }
-    let with_it = before.followed_by(plain);
-    let bytes = with_it.digest();
+    let next_digest = running.followed_by(plain);
+    let bytes = next_digest.digest();
     if plain[5..9] != bytes[..4] {
         return None;
     }
-    Some((with_it, bytes))
+    Some((next_digest, bytes))
 }

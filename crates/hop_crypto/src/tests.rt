@@ -44,7 +44,7 @@ fn job_forth(rt: HostRuntime) -> Result<(), Fail> {
     let first_digest = digest.look_with(&first);
     first[5..9].copy_from_slice(&first_digest[..4]);
     digest.absorb(&first);
-    let for_another_hop = [9; 509];
+    let foreign_body = [9; 509];
     let mut last = [0; 509];
     let last_digest = digest.look_with(&last);
     last[5..9].copy_from_slice(&last_digest[..4]);
@@ -52,7 +52,7 @@ fn job_forth(rt: HostRuntime) -> Result<(), Fail> {
     let mut stream = Stream::of(&KEYS.kf);
     let mut bodies = List::new(rt.alloc());
     bodies.push(sealed(&mut stream, first))?;
-    bodies.push(sealed(&mut stream, for_another_hop))?;
+    bodies.push(sealed(&mut stream, foreign_body))?;
     bodies.push(sealed(&mut stream, last))?;
     let opener = Cipher::Forth(Opener::of(&KEYS));
     let job = Job::of(rt.alloc(), NOTE, opener.copy(), bodies);
@@ -66,7 +66,7 @@ fn job_forth(rt: HostRuntime) -> Result<(), Fail> {
             recognised: Some(first_digest),
         },
         Opened {
-            body: for_another_hop,
+            body: foreign_body,
             recognised: None,
         },
         Opened {
