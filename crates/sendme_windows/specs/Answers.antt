@@ -8,14 +8,14 @@ use Rattle.sendme_windows.specs.declared.proof_answer.ProofAnswer.TheVariants.{G
 -- A SENDME of a right form against the proof that is owed, if one is: one without a proof is as good as
 -- one with the right proof.
 abbrev pub judged : Option (List ℕ) → Option (List ℕ) → ProofAnswer
-judged None given = NoneOwed
-judged (Some expected) None = Good
-judged (Some expected) (Some given) = if bytes_eq given expected then Good else Wrong expected given
+judged None proof = NoneOwed
+judged (Some owed_proof) None = Good
+judged (Some owed_proof) (Some proof) = if bytes_eq proof owed_proof then Good else Wrong owed_proof proof
 
 -- What is read of a payload that needs a proof.
 abbrev pub judged_if_read : Option (List ℕ) → Option (List ℕ) → ProofAnswer
-judged_if_read expected None = BadForm
-judged_if_read expected (Some given) = judged expected (Some given)
+judged_if_read owed_proof None = BadForm
+judged_if_read owed_proof (Some proof) = judged owed_proof (Some proof)
 
 -- Where this is the least version that is accepted: the form is looked at first, then whether a proof is
 -- owed, then the proof.

@@ -10,9 +10,9 @@ state_of w = record {
   start = w.start;
   least = w.least;
   calls = w.calls;
-  packed = w.packed;
-  good = w.good;
-  accepted = w.accepted;
+  packed = w.packed_count;
+  good = w.good_count;
+  accepted = w.accepted_count;
   owed_proofs = take w.owed_count w.owed_proofs;
 }
 
@@ -22,8 +22,8 @@ pub record InStep (w : Inside) : Type 0 where
   pub least_start : least_start ≤ w.start
   pub most_start : w.start ≤ circuit_start
   pub version : w.least ≤ 1
-  pub waiting : w.owed_count + w.good ≡ w.packed / circuit_step
-  pub granted : w.packed ≤ granted_after w.start w.good
-  pub packed : w.packed ≤ w.calls
-  pub accepted : w.accepted ≤ w.calls
+  pub waiting : w.owed_count + w.good_count ≡ w.packed_count / circuit_step
+  pub granted : w.packed_count ≤ granted_after w.start w.good_count
+  pub packed : w.packed_count ≤ w.calls
+  pub accepted : w.accepted_count ≤ w.calls
   pub calls : w.calls ≤ 2 ^ 63

@@ -38,9 +38,9 @@ pub struct Windows {
     start: u32,
     least: u8,
     calls: u64,
-    packed: u64,
-    good: u64,
-    accepted: u64,
+    packed_count: u64,
+    good_count: u64,
+    accepted_count: u64,
     owed_proofs: [[u8; 20]; MOST_OWED],
     owed_count: usize,
 }
@@ -74,9 +74,9 @@ impl Windows {
             start,
             least,
             calls: 0,
-            packed: 0,
-            good: 0,
-            accepted: 0,
+            packed_count: 0,
+            good_count: 0,
+            accepted_count: 0,
             owed_proofs: [[0; 20]; MOST_OWED],
             owed_count: 0,
         }
@@ -87,7 +87,7 @@ impl Windows {
     pub fn may_pack(&self) -> bool
         ensures { IsTrue result ↔ HasRoom self.now }
     {
-        self.packed < u64::from(self.start) + STEP * self.good
+        self.packed_count < u64::from(self.start) + STEP * self.good_count
     }
 
     /// Counts a DATA cell that is packaged; `digest` is the running digest after it.
@@ -99,8 +99,8 @@ impl Windows {
         ensures calls { self.new.calls ≡ self.old.calls + 1 }
     {
         self.calls += 1;
-        self.packed += 1;
-        if self.packed % STEP == 0 {
+        self.packed_count += 1;
+        if self.packed_count % STEP == 0 {
             self.owed_proofs[self.owed_count] = *digest;
             self.owed_count += 1;
         }
@@ -121,14 +121,14 @@ impl Windows {
             return self.judge(None);
         }
         match read_proof(payload) {
-            Some(given) => self.judge(Some(given)),
+            Some(proof) => self.judge(Some(proof)),
             None => ProofAnswer::BadForm,
         }
     }
 
     /// Judges a SENDME by its proof, or one that needs none.
-    fn judge(&mut self, given: Option<[u8; 20]>) -> ProofAnswer
-        ensures answer { (w : CircuitWindow) → HasCountsOf self.old w → result ≡ judged (next_owed w) given }
+    fn judge(&mut self, proof: Option<[u8; 20]>) -> ProofAnswer
+        ensures answer { (w : CircuitWindow) → HasCountsOf self.old w → result ≡ judged (next_owed w) proof }
         ensures stands { (w : CircuitWindow) → HasCountsOf self.old w → HasCountsOf self.new (window_after result w) }
         ensures limits { KeepsLimits self.old self.new }
         ensures calls { self.new.calls ≡ self.old.calls }
@@ -136,15 +136,18 @@ impl Windows {
         if self.owed_count == 0 {
             return ProofAnswer::NoneOwed;
         }
-        let expected = self.owed_proofs[0];
-        if let Some(given) = given {
-            if given != expected {
-                return ProofAnswer::Wrong { expected, given };
+        let owed_proof = self.owed_proofs[0];
+        if let Some(proof) = proof {
+            if proof != owed_proof {
+                return ProofAnswer::Wrong {
+                    expected: owed_proof,
+                    given: proof,
+                };
             }
         }
         self.owed_proofs.rotate_left(1);
         self.owed_count -= 1;
-        self.good += 1;
+        self.good_count += 1;
         ProofAnswer::Good
     }
 
@@ -158,14 +161,14 @@ impl Windows {
         ensures calls { self.new.calls ≡ self.old.calls + 1 }
     {
         self.calls += 1;
-        self.accepted += 1;
-        self.accepted % STEP == 0
+        self.accepted_count += 1;
+        self.accepted_count % STEP == 0
     }
 
     /// How many DATA cells were packaged.
     pub fn count(&self) -> u64
         ensures { result ≡ self.now.packed }
     {
-        self.packed
+        self.packed_count
     }
 }
