@@ -20,14 +20,14 @@ pub taken_within : (s : PlacesState) (place : ℕ) (h : Held) → held_at s plac
 taken_within s place h is = within_by s place h is (ltb place (length s.streams)) refl
 
 -- the place that was changed holds what was put there
-pub held_there : (s : PlacesState) (place : ℕ) (h : Held) (holds : Option Held) → held_at s place ≡ Some h
-    → held_at (with_held s place holds) place ≡ holds
-held_there s place h holds is = get_or-set_same s.streams place holds None (taken_within s place h is)
+pub held_there : (s : PlacesState) (place : ℕ) (h : Held) (content : Option Held) → held_at s place ≡ Some h
+    → held_at (with_held s place content) place ≡ content
+held_there s place h content is = get_or-set_same s.streams place content None (taken_within s place h is)
 
 -- every other place holds what it held
-pub held_elsewhere : (s : PlacesState) (place other : ℕ) (holds : Option Held) → other ≢ place
-    → held_at (with_held s place holds) other ≡ held_at s other
-held_elsewhere s place other holds apart = get_or-set_other s.streams place other holds None apart
+pub held_elsewhere : (s : PlacesState) (place other : ℕ) (content : Option Held) → other ≢ place
+    → held_at (with_held s place content) other ≡ held_at s other
+held_elsewhere s place other content apart = get_or-set_other s.streams place other content None apart
 
 -- a stream stays live where a call leaves its phase
 pub stays_live : (s t : PlacesState) (place : ℕ) (f : Held → Held) → ((h : Held) → (f h).phase ≡ h.phase)

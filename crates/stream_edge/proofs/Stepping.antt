@@ -23,31 +23,31 @@ counted_more h calls is = record {
 }
 
 -- What the places hold behind a change of one of them is counted, where what is put there is.
-counted_put : (s : PlacesState) (place : ℕ) (holds : Option Held) → place < length s.streams
-    → ((h : Held) → holds ≡ Some h → IsCounted h (s.calls + 1))
+counted_put : (s : PlacesState) (place : ℕ) (content : Option Held) → place < length s.streams
+    → ((h : Held) → content ≡ Some h → IsCounted h (s.calls + 1))
     → ((k : ℕ) (h : Held) → held_at s k ≡ Some h → IsCounted h s.calls)
-    → (k : ℕ) (h : Held) → get_or (set s.streams place holds) k None ≡ Some h → IsCounted h (s.calls + 1)
-counted_put s place holds within put rest k h is = elim (cases_eq k place) [
+    → (k : ℕ) (h : Held) → get_or (set s.streams place content) k None ≡ Some h → IsCounted h (s.calls + 1)
+counted_put s place content within put rest k h is = elim (cases_eq k place) [
   | inl same ↦
-      let there : get_or (set s.streams place holds) k None ≡ holds =
-      ap (λ i. get_or (set s.streams place holds) i None) same ∙ get_or-set_same s.streams place holds None within in
+      let there : get_or (set s.streams place content) k None ≡ content =
+      ap (λ i. get_or (set s.streams place content) i None) same ∙ get_or-set_same s.streams place content None within in
       put h (sym there ∙ is)
-  | inr apart ↦ counted_more h s.calls (rest k h (sym (get_or-set_other s.streams place k holds None apart) ∙ is))
+  | inr apart ↦ counted_more h s.calls (rest k h (sym (get_or-set_other s.streams place k content None apart) ∙ is))
 ]
 
 -- A call that changes one place.
-pub IsInStep-put : (s : PlacesState) (place : ℕ) (holds : Option Held) → IsInStep s → s.calls < 2 ^ 63 → place < 32
-    → ((h : Held) → holds ≡ Some h → IsCounted h (s.calls + 1))
-    → ((id : ℕ) → IsTrue (is_live_as id holds) → IsTrue (is_live_as id (held_at s place)))
-    → IsInStep (with_held s place holds)
-IsInStep-put s place holds is fewer within put lives =
+pub IsInStep-put : (s : PlacesState) (place : ℕ) (content : Option Held) → IsInStep s → s.calls < 2 ^ 63 → place < 32
+    → ((h : Held) → content ≡ Some h → IsCounted h (s.calls + 1))
+    → ((id : ℕ) → IsTrue (is_live_as id content) → IsTrue (is_live_as id (held_at s place)))
+    → IsInStep (with_held s place content)
+IsInStep-put s place content is fewer within put lives =
     let there : place < length s.streams = omega (arith, is.places) in
     record {
-      places = length-set s.streams place holds ∙ is.places;
+      places = length-set s.streams place content ∙ is.places;
       next_serial = omega (arith, is.next_serial);
       calls = omega arith;
-      live_once = LivesOnce-set s.streams place holds is.live_once there lives;
-      counted = counted_put s place holds there put is.counted;
+      live_once = LivesOnce-set s.streams place content is.live_once there lives;
+      counted = counted_put s place content there put is.counted;
     }
 
 -- A call that changes none.
@@ -77,13 +77,13 @@ pub IsInStep-begun : (s : PlacesState) (place id : ℕ) → IsInStep s → s.cal
     → IsInStep (record (with_held s place (Some (begun id s.next_serial))) { next_serial = s.next_serial + 1 })
 IsInStep-begun s place id is fewer within new =
     let there : place < length s.streams = omega (arith, is.places) in
-    let holds : Option Held = Some (begun id s.next_serial) in
+    let content : Option Held = Some (begun id s.next_serial) in
     record {
-      places = length-set s.streams place holds ∙ is.places;
+      places = length-set s.streams place content ∙ is.places;
       next_serial = omega (arith, is.next_serial);
       calls = omega arith;
       live_once = LivesOnce-begun s.streams place id s.next_serial is.live_once there new;
-      counted = counted_put s place holds there
+      counted = counted_put s place content there
           (λ h same. subst (λ g. IsCounted g (s.calls + 1)) (same_Some (begun id s.next_serial) h same) (fresh_counted id s.next_serial s.calls is.next_serial))
           is.counted;
     }

@@ -27,7 +27,7 @@ IsEnding s place = (h : Held) × (held_at s place ≡ Some h) × (h.phase ≡ En
 
 -- One call more, after which the place holds this.
 abbrev pub with_held : PlacesState → ℕ → Option Held → PlacesState
-with_held s place holds = record s { streams = set s.streams place holds; calls = s.calls + 1 }
+with_held s place content = record s { streams = set s.streams place content; calls = s.calls + 1 }
 
 -- No count of a stream passes its grant, its window never opens past its start, what was drained was
 -- accepted before, and no count passes the calls.

@@ -53,9 +53,15 @@ impl Places {
     {
         let stream = self.stream_at(place);
         if stream.drained < stream.accepted {
-            let drained = stream.drained + 1;
-            self.put(place, Some(Held { drained, ..stream }));
-            Some(drained % STEP == 0)
+            let count = stream.drained + 1;
+            self.put(
+                place,
+                Some(Held {
+                    drained: count,
+                    ..stream
+                }),
+            );
+            Some(count % STEP == 0)
         } else {
             self.put(place, Some(stream));
             None

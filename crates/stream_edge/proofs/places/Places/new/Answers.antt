@@ -10,9 +10,9 @@ all_free zero place = refl
 all_free (suc n) zero = refl
 all_free (suc n) (suc place) = all_free n place
 
-none_live : (id : ℕ) (held : Option Held) → held ≡ None → IsTrue (is_live_as id held) → ⊥
-none_live id held free live =
-    let off : is_live_as id held ≡ false = ap (is_live_as id) free in
+none_live : (id : ℕ) (stream : Option Held) → stream ≡ None → IsTrue (is_live_as id stream) → ⊥
+none_live id stream free live =
+    let off : is_live_as id stream ≡ false = ap (is_live_as id) free in
     cc
 
 pub invariant_of-result : goal.invariant_of-result
