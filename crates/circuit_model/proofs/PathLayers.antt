@@ -40,13 +40,13 @@ layered-twice key i body long = zip2-twice body (keystream_part key i 509) (long
 length-layered_for : (hops : List PathHop) (body : List ℕ) → length body ≡ 509 → length (layered_for hops body) ≡ 509
 length-layered_for [] body long = long
 length-layered_for (hop ∷ hops) body long =
-    length-layered hop.keys.kf (509 * hop.sent) (layered_for hops body) (length-layered_for hops body long)
+    length-layered hop.keys.kf (509 * hop.sent_count) (layered_for hops body) (length-layered_for hops body long)
 
 pub a_hop_takes_its_layer_off : (log : Log) (hop : PathHop) (hops : List PathHop) (body : List ℕ) → length body ≡ 509 →
-    (born_keys log).kf ≡ hop.keys.kf → forward_count log ≡ hop.sent →
+    (born_keys log).kf ≡ hop.keys.kf → forward_count log ≡ hop.sent_count →
     plain_body log (layered_for (hop ∷ hops) body) ≡ layered_for hops body
 a_hop_takes_its_layer_off log hop hops body long key count =
-    rw (key, count) (layered-twice hop.keys.kf (509 * hop.sent) (layered_for hops body) (length-layered_for hops body long))
+    rw (key, count) (layered-twice hop.keys.kf (509 * hop.sent_count) (layered_for hops body) (length-layered_for hops body long))
 
 -- The Digest of what the client means for a hop.
 
@@ -110,7 +110,7 @@ meant-here seed before command stream payload =
     (ap (take 4) (digest-same seed before (with_digest body first) body (zeroed-digest command stream payload first four)))
 
 pub meant_is_recognised : (log : Log) (hop : PathHop) (command stream : ℕ) (payload : List ℕ) →
-    (born_keys log).df ≡ hop.keys.df → recognised_bodies log ≡ hop.meant →
+    (born_keys log).df ≡ hop.keys.df → recognised_bodies log ≡ hop.meant_bodies →
     recognises log (digested_for hop (relay_body command stream payload)) ≡ true
 meant_is_recognised log hop command stream payload key seen =
-    rw (key, seen) (meant-here hop.keys.df hop.meant command stream payload)
+    rw (key, seen) (meant-here hop.keys.df hop.meant_bodies command stream payload)

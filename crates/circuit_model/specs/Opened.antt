@@ -51,13 +51,13 @@ plain_body log body = layered (born_keys log).kf (509 * forward_count log) body
 
 -- The recognised bodies with one more plain body, if it is recognised behind them.
 abbrev pub with_recognised : List ℕ → List (List ℕ) → List ℕ → List (List ℕ)
-with_recognised seed before plain =
-    if is_recognised seed before plain then before ++ plain ∷ [] else before
+with_recognised seed bodies plain =
+    if is_recognised seed bodies plain then bodies ++ plain ∷ [] else bodies
 
 -- The recognised bodies with one more forward body, if the event is one.
 abbrev pub recognised_with : Log → List (List ℕ) → Event → List (List ℕ)
-recognised_with log before (Forward command body) = with_recognised (born_keys log).df before (plain_body log body)
-recognised_with log before event = before
+recognised_with log bodies (Forward command body) = with_recognised (born_keys log).df bodies (plain_body log body)
+recognised_with log bodies event = bodies
 
 -- The plain bodies that were recognised, oldest first. Others leave the running digest as it was.
 abbrev pub recognised_bodies : Log → List (List ℕ)

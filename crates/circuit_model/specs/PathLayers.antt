@@ -10,25 +10,25 @@ use Rattle.kdf_tor.specs.declared.LayerKeys.{LayerKeys}
 pub record PathHop : Type 0 where
   pub keys : LayerKeys
   -- how many bodies the client sent through this hop's layer, and how many came back through it
-  pub sent : ℕ
-  pub came : ℕ
+  pub sent_count : ℕ
+  pub came_count : ℕ
   -- the bodies that the client meant for this hop, and those that it recognised as this hop's, oldest
   -- first, without layers
-  pub meant : List (List ℕ)
-  pub recognised : List (List ℕ)
+  pub meant_bodies : List (List ℕ)
+  pub hop_bodies : List (List ℕ)
 
 -- ---- away from the client
 
 -- A body for this hop with its Digest: the first four bytes of the running digest of all bodies that were
 -- meant for the hop, with this one.
 abbrev pub digested_for : PathHop → List ℕ → List ℕ
-digested_for hop body = with_digest body (take 4 (running_digest hop.keys.df (hop.meant ++ body ∷ [])))
+digested_for hop body = with_digest body (take 4 (running_digest hop.keys.df (hop.meant_bodies ++ body ∷ [])))
 
 -- A body with the layers of these hops put on, the first hop's outermost: body number n that is sent
 -- through a hop, from 0, uses the 509 bytes of its keystream from number 509 n on.
 abbrev pub layered_for : List PathHop → List ℕ → List ℕ
 layered_for [] body = body
-layered_for (hop ∷ hops) body = layered hop.keys.kf (509 * hop.sent) (layered_for hops body)
+layered_for (hop ∷ hops) body = layered hop.keys.kf (509 * hop.sent_count) (layered_for hops body)
 
 -- What the client sends of a body for its last hop, behind these others.
 abbrev pub sealed_for : List PathHop → PathHop → List ℕ → List ℕ
@@ -37,17 +37,17 @@ sealed_for others last body = layered_for (others ++ last ∷ []) (digested_for 
 -- The hops behind it.
 abbrev pub passed : List PathHop → List PathHop
 passed [] = []
-passed (hop ∷ hops) = record hop { sent = hop.sent + 1 } ∷ passed hops
+passed (hop ∷ hops) = record hop { sent_count = hop.sent_count + 1 } ∷ passed hops
 
 abbrev pub after_sending : List PathHop → PathHop → List ℕ → List PathHop
 after_sending others last body =
-    passed others ++ record last { sent = last.sent + 1; meant = last.meant ++ digested_for last body ∷ [] } ∷ []
+    passed others ++ record last { sent_count = last.sent_count + 1; meant_bodies = last.meant_bodies ++ digested_for last body ∷ [] } ∷ []
 
 -- ---- towards the client
 
 -- A body with this hop's layer taken off: body number n that comes back through the hop, from 0.
 abbrev pub peeled : PathHop → List ℕ → List ℕ
-peeled hop body = layered hop.keys.kb (509 * hop.came) body
+peeled hop body = layered hop.keys.kb (509 * hop.came_count) body
 
 -- The hop that sealed a body, by its number on the path, and that body without layers.
 pub record FromHop : Type 0 where
@@ -59,7 +59,7 @@ pub record FromHop : Type 0 where
 abbrev pub recognised_from : ℕ → List PathHop → List ℕ → Option FromHop
 recognised_from i [] body = None
 recognised_from i (hop ∷ hops) body =
-    if is_recognised hop.keys.db hop.recognised (peeled hop body)
+    if is_recognised hop.keys.db hop.hop_bodies (peeled hop body)
     then Some (record { hop = i; body = peeled hop body })
     else recognised_from (i + 1) hops (peeled hop body)
 
@@ -71,6 +71,6 @@ recognised_as hops body = recognised_from 1 hops body
 abbrev pub after_coming : List PathHop → List ℕ → List PathHop
 after_coming [] body = []
 after_coming (hop ∷ hops) body =
-    if is_recognised hop.keys.db hop.recognised (peeled hop body)
-    then record hop { came = hop.came + 1; recognised = hop.recognised ++ peeled hop body ∷ [] } ∷ hops
-    else record hop { came = hop.came + 1 } ∷ after_coming hops (peeled hop body)
+    if is_recognised hop.keys.db hop.hop_bodies (peeled hop body)
+    then record hop { came_count = hop.came_count + 1; hop_bodies = hop.hop_bodies ++ peeled hop body ∷ [] } ∷ hops
+    else record hop { came_count = hop.came_count + 1 } ∷ after_coming hops (peeled hop body)

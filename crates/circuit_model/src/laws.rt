@@ -172,7 +172,7 @@ pub fn allowed_name_in_any_case_reaches()
 #[tactic(auto, using(crate::proofs::PathLayers::a_hop_takes_its_layer_off))]
 pub fn each_hop_takes_its_layer_off()
     ensures { (log : Log) (hop : PathHop) (hops : List PathHop) (body : List ℕ) →
-        length body ≡ 509 → (born_keys log).kf ≡ hop.keys.kf → forward_count log ≡ hop.sent →
+        length body ≡ 509 → (born_keys log).kf ≡ hop.keys.kf → forward_count log ≡ hop.sent_count →
         plain_body log (layered_for (hop ∷ hops) body) ≡ layered_for hops body }
 {}
 
@@ -180,7 +180,7 @@ pub fn each_hop_takes_its_layer_off()
 #[tactic(auto, using(crate::proofs::PathLayers::meant_is_recognised))]
 pub fn a_hop_recognises_what_is_meant_for_it()
     ensures { (log : Log) (hop : PathHop) (command stream : ℕ) (payload : List ℕ) →
-        (born_keys log).df ≡ hop.keys.df → recognised_bodies log ≡ hop.meant →
+        (born_keys log).df ≡ hop.keys.df → recognised_bodies log ≡ hop.meant_bodies →
         IsTrue (recognises log (digested_for hop (relay_body command stream payload))) }
 {}
 

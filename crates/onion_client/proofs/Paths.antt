@@ -21,7 +21,7 @@ use Rattle.onion_client.specs.Making.{cell_for}
 use Rattle.onion_client.specs.Taking.{taking_on, closing}
 use Rattle.onion_client.specs.Words.{outcome, path, answer}
 
-closed_outcome : (p : PathState) (call : Call) → p.closed ≡ true → outcome p call ≡ record { answer = Gone; after = p }
+closed_outcome : (p : PathState) (call : Call) → p.is_closed ≡ true → outcome p call ≡ record { answer = Gone; state = p }
 closed_outcome p (Take cell) shut = rw shut refl
 closed_outcome p (Extend to x) shut = rw shut refl
 closed_outcome p (Begin stream host port) shut = rw shut refl
@@ -29,11 +29,11 @@ closed_outcome p (Send stream bytes) shut = rw shut refl
 closed_outcome p (Finish stream reason) shut = rw shut refl
 closed_outcome p (Drained stream) shut = rw shut refl
 
-pub closed_answers_gone : (start : Start) (h : List Call) (call : Call) → (path start h).closed ≡ true → answer start h call ≡ Gone
+pub closed_answers_gone : (start : Start) (h : List Call) (call : Call) → (path start h).is_closed ≡ true → answer start h call ≡ Gone
 closed_answers_gone start h call shut = ap (λ (o : Outcome). o.answer) (closed_outcome (path start h) call shut)
 
-pub closed_stays : (start : Start) (h : List Call) (call : Call) → (path start h).closed ≡ true → path start (call ∷ h) ≡ path start h
-closed_stays start h call shut = ap (λ (o : Outcome). o.after) (closed_outcome (path start h) call shut)
+pub closed_stays : (start : Start) (h : List Call) (call : Call) → (path start h).is_closed ≡ true → path start (call ∷ h) ≡ path start h
+closed_stays start h call shut = ap (λ (o : Outcome). o.state) (closed_outcome (path start h) call shut)
 
 same_number : (n : ℕ) → (n == n) ≡ true
 same_number n = eq-eqb n n refl
@@ -43,7 +43,7 @@ first_cell start command payload = outcome (started start) (Take (cell_with star
 
 first_outcome : (start : Start) (payload : List ℕ) → bytes_eq (take 20 (drop 20 payload)) (kdf_tor start.x (take 20 payload)).kh ≡ true →
     first_cell start created_fast_command payload
-    ≡ record { answer = Hop 1; after = record (started start) { hops = fresh_hop (layer_keys_of (kdf_tor start.x (take 20 payload))) ∷ []; awaited = None } }
+    ≡ record { answer = Hop 1; state = record (started start) { hops = fresh_hop (layer_keys_of (kdf_tor start.x (take 20 payload))) ∷ []; awaited_x = None } }
 unfolding first_cell taking_on
 first_outcome start payload same = rw (same_number start.circuit, same) refl
 
@@ -72,23 +72,23 @@ unfolding first_cell
 relay_before_hop start body = ap (λ (o : Outcome). o.answer) (early_outcome start body)
 
 stream_outcome : (p : PathState) (id : ℕ) (bytes : List ℕ) (stream : Held) →
-    p.closed ≡ false → stream_of id p.streams ≡ Some stream → may_package stream ≡ false →
-    outcome p (Send id bytes) ≡ record { answer = Shut Stream stream.packed; after = p }
+    p.is_closed ≡ false → stream_of id p.streams ≡ Some stream → may_package stream ≡ false →
+    outcome p (Send id bytes) ≡ record { answer = Shut Stream stream.packed; state = p }
 stream_outcome p id bytes stream unclosed live full = rw (unclosed, live, full) refl
 
 circuit_outcome : (p : PathState) (id : ℕ) (bytes : List ℕ) (stream : Held) →
-    p.closed ≡ false → stream_of id p.streams ≡ Some stream → may_package stream ≡ true → circuit_may_package circuit_start p.window ≡ false →
-    outcome p (Send id bytes) ≡ record { answer = Shut Circuit (length p.window.packaged); after = p }
+    p.is_closed ≡ false → stream_of id p.streams ≡ Some stream → may_package stream ≡ true → circuit_may_package circuit_start p.window ≡ false →
+    outcome p (Send id bytes) ≡ record { answer = Shut Circuit (length p.window.packaged); state = p }
 circuit_outcome p id bytes stream unclosed live may full = rw (unclosed, live, may, full) refl
 
 pub stream_shut : (start : Start) (h : List Call) (id : ℕ) (bytes : List ℕ) (stream : Held) →
-    (path start h).closed ≡ false → stream_of id (path start h).streams ≡ Some stream → may_package stream ≡ false →
+    (path start h).is_closed ≡ false → stream_of id (path start h).streams ≡ Some stream → may_package stream ≡ false →
     answer start h (Send id bytes) ≡ Shut Stream stream.packed
 stream_shut start h id bytes stream unclosed live full =
     ap (λ (o : Outcome). o.answer) (stream_outcome (path start h) id bytes stream unclosed live full)
 
 pub circuit_shut : (start : Start) (h : List Call) (id : ℕ) (bytes : List ℕ) (stream : Held) →
-    (path start h).closed ≡ false → stream_of id (path start h).streams ≡ Some stream → may_package stream ≡ true →
+    (path start h).is_closed ≡ false → stream_of id (path start h).streams ≡ Some stream → may_package stream ≡ true →
     circuit_may_package circuit_start (path start h).window ≡ false →
     answer start h (Send id bytes) ≡ Shut Circuit (length (path start h).window.packaged)
 circuit_shut start h id bytes stream unclosed live may full =

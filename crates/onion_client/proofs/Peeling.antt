@@ -13,17 +13,17 @@ use Rattle.onion_client.specs.Taking.{digest_from}
 use Rattle.onion_client.proofs.Places.{HopAt, hop_of_path_at, drop-set, drop-one, set-gone, get-gone, last-at}
 
 -- The layers of the hops before number i are off the body, and none of them recognised it.
-pub record IsOff (path : List PathHop) (after : List Hop) (first body : List ℕ) (i : ℕ) : Type 0 where
+pub record IsOff (path : List PathHop) (hops : List Hop) (first body : List ℕ) (i : ℕ) : Type 0 where
   pub gone : List PathHop
   pub count : length gone ≡ i
-  pub moved : after ≡ map hop_of (gone ++ drop i path)
+  pub moved : hops ≡ map hop_of (gone ++ drop i path)
   pub coming : after_coming path first ≡ gone ++ after_coming (drop i path) body
   pub from : recognised_from 1 path first ≡ recognised_from (i + 1) (drop i path) body
 
-pub record AreOff (before after : List Hop) (first body : List ℕ) (i : ℕ) : Type 0 where
-  pub long : length after ≡ length before
-  pub rest : drop i after ≡ drop i before
-  pub path : (path : List PathHop) → before ≡ map hop_of path → IsOff path after first body i
+pub record AreOff (start hops : List Hop) (first body : List ℕ) (i : ℕ) : Type 0 where
+  pub long : length hops ≡ length start
+  pub rest : drop i hops ≡ drop i start
+  pub path : (path : List PathHop) → start ≡ map hop_of path → IsOff path hops first body i
 
 -- ---- one layer
 
@@ -48,54 +48,54 @@ body_is : (p : PathHop) (body next : List ℕ) (result : Option (List ℕ)) → 
 unfolding opened
 body_is p body next result told = ap (λ (o : OpenedBody). o.body) told
 
-other_is : (p : PathHop) (body next : List ℕ) → opened (back_layer p) body ≡ record { body = next; recognised = None } → is_recognised p.keys.db p.recognised (peeled p body) ≡ false
+other_is : (p : PathHop) (body next : List ℕ) → opened (back_layer p) body ≡ record { body = next; recognised = None } → is_recognised p.keys.db p.hop_bodies (peeled p body) ≡ false
 unfolding opened
-other_is p body next told = not_some (is_recognised p.keys.db p.recognised (peeled p body)) (running_digest p.keys.db (p.recognised ++ peeled p body ∷ [])) (ap (λ (o : OpenedBody). o.recognised) told)
+other_is p body next told = not_some (is_recognised p.keys.db p.hop_bodies (peeled p body)) (running_digest p.keys.db (p.hop_bodies ++ peeled p body ∷ [])) (ap (λ (o : OpenedBody). o.recognised) told)
 
-this_is : (p : PathHop) (body next digest : List ℕ) → opened (back_layer p) body ≡ record { body = next; recognised = Some digest } → is_recognised p.keys.db p.recognised (peeled p body) ≡ true
+this_is : (p : PathHop) (body next digest : List ℕ) → opened (back_layer p) body ≡ record { body = next; recognised = Some digest } → is_recognised p.keys.db p.hop_bodies (peeled p body) ≡ true
 unfolding opened
-this_is p body next digest told = is_some (is_recognised p.keys.db p.recognised (peeled p body)) (running_digest p.keys.db (p.recognised ++ peeled p body ∷ [])) digest (ap (λ (o : OpenedBody). o.recognised) told)
+this_is p body next digest told = is_some (is_recognised p.keys.db p.hop_bodies (peeled p body)) (running_digest p.keys.db (p.hop_bodies ++ peeled p body ∷ [])) digest (ap (λ (o : OpenedBody). o.recognised) told)
 
-digest_is : (p : PathHop) (body next digest : List ℕ) → opened (back_layer p) body ≡ record { body = next; recognised = Some digest } → running_digest p.keys.db (p.recognised ++ peeled p body ∷ []) ≡ digest
+digest_is : (p : PathHop) (body next digest : List ℕ) → opened (back_layer p) body ≡ record { body = next; recognised = Some digest } → running_digest p.keys.db (p.hop_bodies ++ peeled p body ∷ []) ≡ digest
 unfolding opened
-digest_is p body next digest told = some_is (is_recognised p.keys.db p.recognised (peeled p body)) (running_digest p.keys.db (p.recognised ++ peeled p body ∷ [])) digest (ap (λ (o : OpenedBody). o.recognised) told)
+digest_is p body next digest told = some_is (is_recognised p.keys.db p.hop_bodies (peeled p body)) (running_digest p.keys.db (p.hop_bodies ++ peeled p body ∷ [])) digest (ap (λ (o : OpenedBody). o.recognised) told)
 
 -- The hop behind a body.
 
 abbrev came : PathHop → PathHop
-came p = record p { came = p.came + 1 }
+came p = record p { came_count = p.came_count + 1 }
 
 abbrev came_for : PathHop → List ℕ → PathHop
-came_for p plain = record p { came = p.came + 1; recognised = p.recognised ++ plain ∷ [] }
+came_for p plain = record p { came_count = p.came_count + 1; hop_bodies = p.hop_bodies ++ plain ∷ [] }
 
-behind_other : (p : PathHop) (body : List ℕ) → is_recognised p.keys.db p.recognised (peeled p body) ≡ false → opener_of (after_opening (back_layer p) body) ≡ peeling_of (came p)
+behind_other : (p : PathHop) (body : List ℕ) → is_recognised p.keys.db p.hop_bodies (peeled p body) ≡ false → opener_of (after_opening (back_layer p) body) ≡ peeling_of (came p)
 unfolding after_opening
 behind_other p body other =
-    let on : 509 * p.came + 509 ≡ 509 * (p.came + 1) = omega arith in
-    let at : ℕ → Bool → OpenerState = λ n b. opener_of (record (back_layer p) { position = n; absorbed = if b then p.recognised ++ peeled p body ∷ [] else p.recognised }) in
-    ap (λ (n : ℕ). at n (is_recognised p.keys.db p.recognised (peeled p body))) on ∙ ap (λ (b : Bool). at (509 * (p.came + 1)) b) other
+    let on : 509 * p.came_count + 509 ≡ 509 * (p.came_count + 1) = omega arith in
+    let at : ℕ → Bool → OpenerState = λ n b. opener_of (record (back_layer p) { position = n; absorbed = if b then p.hop_bodies ++ peeled p body ∷ [] else p.hop_bodies }) in
+    ap (λ (n : ℕ). at n (is_recognised p.keys.db p.hop_bodies (peeled p body))) on ∙ ap (λ (b : Bool). at (509 * (p.came_count + 1)) b) other
 
-behind_this : (p : PathHop) (body : List ℕ) → is_recognised p.keys.db p.recognised (peeled p body) ≡ true → opener_of (after_opening (back_layer p) body) ≡ peeling_of (came_for p (peeled p body))
+behind_this : (p : PathHop) (body : List ℕ) → is_recognised p.keys.db p.hop_bodies (peeled p body) ≡ true → opener_of (after_opening (back_layer p) body) ≡ peeling_of (came_for p (peeled p body))
 unfolding after_opening
 behind_this p body this =
-    let on : 509 * p.came + 509 ≡ 509 * (p.came + 1) = omega arith in
-    let at : ℕ → Bool → OpenerState = λ n b. opener_of (record (back_layer p) { position = n; absorbed = if b then p.recognised ++ peeled p body ∷ [] else p.recognised }) in
-    ap (λ (n : ℕ). at n (is_recognised p.keys.db p.recognised (peeled p body))) on ∙ ap (λ (b : Bool). at (509 * (p.came + 1)) b) this
+    let on : 509 * p.came_count + 509 ≡ 509 * (p.came_count + 1) = omega arith in
+    let at : ℕ → Bool → OpenerState = λ n b. opener_of (record (back_layer p) { position = n; absorbed = if b then p.hop_bodies ++ peeled p body ∷ [] else p.hop_bodies }) in
+    ap (λ (n : ℕ). at n (is_recognised p.keys.db p.hop_bodies (peeled p body))) on ∙ ap (λ (b : Bool). at (509 * (p.came_count + 1)) b) this
 
-coming_other : (p : PathHop) (rest : List PathHop) (body next : List ℕ) → is_recognised p.keys.db p.recognised (peeled p body) ≡ false → peeled p body ≡ next → after_coming (p ∷ rest) body ≡ came p ∷ after_coming rest next
+coming_other : (p : PathHop) (rest : List PathHop) (body next : List ℕ) → is_recognised p.keys.db p.hop_bodies (peeled p body) ≡ false → peeled p body ≡ next → after_coming (p ∷ rest) body ≡ came p ∷ after_coming rest next
 coming_other p rest body next other off =
     ap (λ (b : Bool). if b then came_for p (peeled p body) ∷ rest else came p ∷ after_coming rest (peeled p body)) other
     ∙ ap (λ (x : List ℕ). came p ∷ after_coming rest x) off
 
-coming_this : (p : PathHop) (rest : List PathHop) (body : List ℕ) → is_recognised p.keys.db p.recognised (peeled p body) ≡ true → after_coming (p ∷ rest) body ≡ came_for p (peeled p body) ∷ rest
+coming_this : (p : PathHop) (rest : List PathHop) (body : List ℕ) → is_recognised p.keys.db p.hop_bodies (peeled p body) ≡ true → after_coming (p ∷ rest) body ≡ came_for p (peeled p body) ∷ rest
 coming_this p rest body this = ap (λ (b : Bool). if b then came_for p (peeled p body) ∷ rest else came p ∷ after_coming rest (peeled p body)) this
 
-from_other : (n : ℕ) (p : PathHop) (rest : List PathHop) (body next : List ℕ) → is_recognised p.keys.db p.recognised (peeled p body) ≡ false → peeled p body ≡ next → recognised_from n (p ∷ rest) body ≡ recognised_from (n + 1) rest next
+from_other : (n : ℕ) (p : PathHop) (rest : List PathHop) (body next : List ℕ) → is_recognised p.keys.db p.hop_bodies (peeled p body) ≡ false → peeled p body ≡ next → recognised_from n (p ∷ rest) body ≡ recognised_from (n + 1) rest next
 from_other n p rest body next other off =
     ap (λ (b : Bool). if b then Some (record { hop = n; body = peeled p body }) else recognised_from (n + 1) rest (peeled p body)) other
     ∙ ap (λ (x : List ℕ). recognised_from (n + 1) rest x) off
 
-from_this : (n : ℕ) (p : PathHop) (rest : List PathHop) (body next : List ℕ) → is_recognised p.keys.db p.recognised (peeled p body) ≡ true → peeled p body ≡ next → recognised_from n (p ∷ rest) body ≡ Some (record { hop = n; body = next })
+from_this : (n : ℕ) (p : PathHop) (rest : List PathHop) (body next : List ℕ) → is_recognised p.keys.db p.hop_bodies (peeled p body) ≡ true → peeled p body ≡ next → recognised_from n (p ∷ rest) body ≡ Some (record { hop = n; body = next })
 from_this n p rest body next this off =
     let made : List ℕ → FromHop = λ x. record { hop = n; body = x } in
     ap (λ (b : Bool). if b then Some (made (peeled p body)) else recognised_from (n + 1) rest (peeled p body)) this
@@ -134,7 +134,7 @@ module _ (path : List PathHop) (hops : List Hop) (first body next : List ℕ) (i
   other_off : Took (get_or hops i d).back back body next None → IsOff path (with_back hops i d back) first next (suc i)
   other_off took =
       let told = took.told (back_layer at.hop) layer_here in
-      let other : is_recognised at.hop.keys.db at.hop.recognised (peeled at.hop body) ≡ false = other_is at.hop body next told in
+      let other : is_recognised at.hop.keys.db at.hop.hop_bodies (peeled at.hop body) ≡ false = other_is at.hop body next told in
       let plain : peeled at.hop body ≡ next = body_is at.hop body next None told in
       let q : PathHop = came at.hop in
       let back-is : back ≡ peeling_of q = took.state (back_layer at.hop) layer_here ∙ behind_other at.hop body other in
@@ -168,23 +168,23 @@ module _ (path : List PathHop) (hops : List Hop) (first body next : List ℕ) (i
   pub found_state : (digest : List ℕ) → Took (get_or hops i d).back back body next (Some digest) → with_back hops i d back ≡ map hop_of (after_coming path first)
   found_state digest took =
       let told = took.told (back_layer at.hop) layer_here in
-      let this : is_recognised at.hop.keys.db at.hop.recognised (peeled at.hop body) ≡ true = this_is at.hop body next digest told in
+      let this : is_recognised at.hop.keys.db at.hop.hop_bodies (peeled at.hop body) ≡ true = this_is at.hop body next digest told in
       changed (came_for at.hop (peeled at.hop body)) refl (took.state (back_layer at.hop) layer_here ∙ behind_this at.hop body this)
       ∙ ap (λ (ps : List PathHop). map hop_of (off.gone ++ ps)) (sym (coming_this at.hop at.rest body this))
       ∙ ap (λ (ps : List PathHop). map hop_of (off.gone ++ after_coming ps body)) (sym at.here)
       ∙ ap (λ (ps : List PathHop). map hop_of ps) (sym off.coming)
 
-  hop_digest : (digest : List ℕ) → Took (get_or hops i d).back back body next (Some digest) → digest ≡ running_digest at.hop.keys.db (at.hop.recognised ++ next ∷ [])
+  hop_digest : (digest : List ℕ) → Took (get_or hops i d).back back body next (Some digest) → digest ≡ running_digest at.hop.keys.db (at.hop.hop_bodies ++ next ∷ [])
   hop_digest digest took =
       let told = took.told (back_layer at.hop) layer_here in
-      sym (digest_is at.hop body next digest told) ∙ ap (λ (x : List ℕ). running_digest at.hop.keys.db (at.hop.recognised ++ x ∷ [])) (body_is at.hop body next (Some digest) told)
+      sym (digest_is at.hop body next digest told) ∙ ap (λ (x : List ℕ). running_digest at.hop.keys.db (at.hop.hop_bodies ++ x ∷ [])) (body_is at.hop body next (Some digest) told)
 
 last_digest : (path : List PathHop) (i : ℕ) (at : HopAt path i) (next digest : List ℕ) → i + 1 ≡ length path →
-    digest ≡ running_digest at.hop.keys.db (at.hop.recognised ++ next ∷ []) → digest ≡ digest_from path next
+    digest ≡ running_digest at.hop.keys.db (at.hop.hop_bodies ++ next ∷ []) → digest ≡ digest_from path next
 last_digest [] i at next digest last is = absurd (omega arith)
 last_digest (q ∷ path) i at next digest last is =
     let same : last_of q path ≡ at.hop = last-at q path i at.hop at.rest at.here (omega arith) in
-    is ∙ ap (λ (p : PathHop). running_digest p.keys.db (p.recognised ++ next ∷ [])) (sym same)
+    is ∙ ap (λ (p : PathHop). running_digest p.keys.db (p.hop_bodies ++ next ∷ [])) (sym same)
 
 pub found_digest : (path : List PathHop) (hops : List Hop) (first body next : List ℕ) (i : ℕ) (d : Hop) (back : OpenerState) (digest : List ℕ) →
     IsOff path hops first body i → HopAt path i → Took (get_or hops i d).back back body next (Some digest) → i + 1 ≡ length path → digest ≡ digest_from path next
@@ -192,14 +192,14 @@ found_digest path hops first body next i d back digest off at took last =
     last_digest path i at next digest last (hop_digest path hops first body next i d back off at digest took)
 
 -- No hop up to this one recognised it.
-pub more_off : (before hops : List Hop) (first body next : List ℕ) (i : ℕ) (d : Hop) (back : OpenerState) →
-    AreOff before hops first body i → i < length before → Took (get_or hops i d).back back body next None →
-    AreOff before (with_back hops i d back) first next (suc i)
-more_off before hops first body next i d back off within took =
+pub more_off : (start hops : List Hop) (first body next : List ℕ) (i : ℕ) (d : Hop) (back : OpenerState) →
+    AreOff start hops first body i → i < length start → Took (get_or hops i d).back back body next None →
+    AreOff start (with_back hops i d back) first next (suc i)
+more_off start hops first body next i d back off within took =
     record {
       long = length-set hops i (record { forth = (get_or hops i d).forth; back = back }) ∙ off.long;
       rest = drop-set hops i (record { forth = (get_or hops i d).forth; back = back })
-          ∙ drop-one hops i ∙ ap (λ (hs : List Hop). drop 1 hs) off.rest ∙ sym (drop-one before i);
+          ∙ drop-one hops i ∙ ap (λ (hs : List Hop). drop 1 hs) off.rest ∙ sym (drop-one start i);
       path = λ path stands.
-          other_off path hops first body next i d back (off.path path stands) (hop_of_path_at path before i stands within) took;
+          other_off path hops first body next i d back (off.path path stands) (hop_of_path_at path start i stands within) took;
     }

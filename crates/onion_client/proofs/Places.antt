@@ -16,11 +16,11 @@ at-drop (hop ∷ hops) (suc i) d = at-drop hops i d
 same-at : (hops others : List Hop) (i : ℕ) (d : Hop) → drop i hops ≡ drop i others → get_or hops i d ≡ get_or others i d
 same-at hops others i d same = sym (at-drop hops i d) ∙ ap (λ (hs : List Hop). get_or hs 0 d) same ∙ at-drop others i d
 
-pub keystream_at : (before hops : List Hop) (i : ℕ) (d : Hop) → All HasKeystream before → drop i hops ≡ drop i before → i < length before →
+pub keystream_at : (start hops : List Hop) (i : ℕ) (d : Hop) → All HasKeystream start → drop i hops ≡ drop i start → i < length start →
     (get_or hops i d).back.stream.position < 2 ^ 100
-keystream_at before hops i d room same within =
-    let there : HasKeystream (get_or before i d) = room i d within in
-    subst (λ (h : Hop). h.back.stream.position < 2 ^ 100) (sym (same-at hops before i d same)) there.back
+keystream_at start hops i d room same within =
+    let there : HasKeystream (get_or start i d) = room i d within in
+    subst (λ (h : Hop). h.back.stream.position < 2 ^ 100) (sym (same-at hops start i d same)) there.back
 
 pub drop-set : (hops : List Hop) (i : ℕ) (y : Hop) → drop (suc i) (set hops i y) ≡ drop (suc i) hops
 drop-set [] zero y = refl
@@ -58,8 +58,8 @@ hop_at (p ∷ path) (suc i) within =
     let more : HopAt path i = hop_at path i (omega arith) in
     record { hop = more.hop; rest = more.rest; here = more.here; behind = more.behind }
 
-pub hop_of_path_at : (path : List PathHop) (before : List Hop) (i : ℕ) → before ≡ map hop_of path → i < length before → HopAt path i
-hop_of_path_at path before i stands within =
+pub hop_of_path_at : (path : List PathHop) (start : List Hop) (i : ℕ) → start ≡ map hop_of path → i < length start → HopAt path i
+hop_of_path_at path start i stands within =
     hop_at path i (omega (arith, ap (λ (hs : List Hop). length hs) stands, length-of_path path))
 
 pub last-at : (q : PathHop) (path : List PathHop) (i : ℕ) (p : PathHop) (rest : List PathHop) → drop i (q ∷ path) ≡ p ∷ rest → i ≡ length path → last_of q path ≡ p

@@ -18,7 +18,7 @@ use Rattle.std.specs.Prelude.{Bool, true, false}
 
 -- Only the answer.
 abbrev pub only : PathState → Answer → Outcome
-only p answer = record { answer = answer; after = p }
+only p answer = record { answer = answer; state = p }
 
 -- One more hop, by the handshake of CREATE_FAST. EXTEND2 goes in RELAY_EARLY.
 abbrev pub extend_body : Address → List ℕ → List ℕ
@@ -26,10 +26,10 @@ extend_body to x = relay_body extend2_command 0 (extend_payload to fast_type x)
 
 abbrev pub extending : PathState → Address → List ℕ → Outcome
 extending p to x =
-    if p.closed then only p Gone
+    if p.is_closed then only p Gone
     else record {
       answer = Sends (cell_for p relay_early_command (extend_body to x));
-      after = record (after_making p (extend_body to x)) { awaited = Some x };
+      state = record (after_making p (extend_body to x)) { awaited_x = Some x };
     }
 
 -- A stream. A client names it by its StreamID alone, so that its serial is 0.
@@ -38,7 +38,7 @@ begin_body stream host port = relay_body begin_command stream (begin_payload hos
 
 abbrev pub beginning : PathState → ℕ → List ℕ → ℕ → Outcome
 beginning p stream host port =
-    if p.closed then only p Gone
+    if p.is_closed then only p Gone
     else sending (record p { streams = p.streams ++ begun stream 0 ∷ [] }) (begin_body stream host port)
 
 -- Bytes of a stream, where its window and the circuit's allow one more DATA.
@@ -59,7 +59,7 @@ sending_on p bytes (Some stream) =
     else sending (after_data p stream bytes) (data_body stream.stream bytes))
 
 abbrev pub sending_bytes : PathState → ℕ → List ℕ → Outcome
-sending_bytes p stream bytes = if p.closed then only p Gone else sending_on p bytes (stream_of stream p.streams)
+sending_bytes p stream bytes = if p.is_closed then only p Gone else sending_on p bytes (stream_of stream p.streams)
 
 -- The client ends a stream.
 abbrev pub end_body : ℕ → ℕ → List ℕ
@@ -71,7 +71,7 @@ finishing_on p reason (Some stream) =
     sending (record p { streams = without stream.stream p.streams }) (end_body stream.stream reason)
 
 abbrev pub finishing : PathState → ℕ → ℕ → Outcome
-finishing p stream reason = if p.closed then only p Gone else finishing_on p reason (stream_of stream p.streams)
+finishing p stream reason = if p.is_closed then only p Gone else finishing_on p reason (stream_of stream p.streams)
 
 -- One more DATA of a stream was read by whom it is for: each 50th is acknowledged, by an empty payload.
 -- Where none is unread nothing changes.
@@ -91,4 +91,4 @@ draining_on p None = only p Gone
 draining_on p (Some stream) = draining_due p stream (sendme_due stream)
 
 abbrev pub draining : PathState → ℕ → Outcome
-draining p stream = if p.closed then only p Gone else draining_on p (stream_of stream p.streams)
+draining p stream = if p.is_closed then only p Gone else draining_on p (stream_of stream p.streams)

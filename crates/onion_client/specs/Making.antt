@@ -31,7 +31,7 @@ sent_on (hop ∷ hops) body = after_sending (before_last hop hops) (last_of hop 
 
 -- The 20 bytes of the running digest of all that the client meant for a hop, with this body.
 abbrev pub digest_for : PathHop → List ℕ → List ℕ
-digest_for hop body = running_digest hop.keys.df (hop.meant ++ digested_for hop body ∷ [])
+digest_for hop body = running_digest hop.keys.df (hop.meant_bodies ++ digested_for hop body ∷ [])
 
 abbrev pub digest_on : List PathHop → List ℕ → List ℕ
 digest_on [] body = []
@@ -40,14 +40,14 @@ digest_on (hop ∷ hops) body = digest_for (last_of hop hops) body
 -- The next body with its padding: by the key it is the keystream from number 509 m on for the body with
 -- number m among all that the path made (own rule).
 abbrev pub padded : PathState → List ℕ → List ℕ
-padded p body = padded_by p.pad p.made body
+padded p body = padded_by p.pad p.made_count body
 
 -- The cell of this command that carries the next body.
 abbrev pub cell_for : PathState → ℕ → List ℕ → Cell
 cell_for p command body = cell_with p.circuit command (sealed_on p.hops (padded p body))
 
 abbrev pub after_making : PathState → List ℕ → PathState
-after_making p body = record p { made = p.made + 1; hops = sent_on p.hops (padded p body) }
+after_making p body = record p { made_count = p.made_count + 1; hops = sent_on p.hops (padded p body) }
 
 -- The running digest after it, by which a circuit's SENDME will acknowledge it (proposal 289).
 abbrev pub digest_of_next : PathState → List ℕ → List ℕ
@@ -55,4 +55,4 @@ digest_of_next p body = digest_on p.hops (padded p body)
 
 -- The next body goes in a RELAY cell.
 abbrev pub sending : PathState → List ℕ → Outcome
-sending p body = record { answer = Sends (cell_for p relay_command body); after = after_making p body }
+sending p body = record { answer = Sends (cell_for p relay_command body); state = after_making p body }

@@ -11,14 +11,14 @@ pub record PathState : Type 0 where
   -- the hops, the first hop first, with all bodies that went each way
   pub hops : List PathHop
   -- the X of the handshake whose answer is awaited
-  pub awaited : Option (List ℕ)
+  pub awaited_x : Option (List ℕ)
   -- how many relay bodies the client made, for whichever hop
-  pub made : ℕ
+  pub made_count : ℕ
   -- the windows between the client and the last hop
   pub window : CircuitWindow
   -- the live streams: those that were begun and have neither ended nor been finished
   pub streams : List Held
-  pub closed : Bool
+  pub is_closed : Bool
 
 -- At first the answer to CREATE_FAST is awaited.
 abbrev pub started : Start → PathState
@@ -26,17 +26,17 @@ started start = record {
   circuit = start.circuit;
   pad = start.pad;
   hops = [];
-  awaited = Some start.x;
-  made = 0;
+  awaited_x = Some start.x;
+  made_count = 0;
   window = fresh_window;
   streams = [];
-  closed = false;
+  is_closed = false;
 }
 
 -- What a call comes to.
 pub record Outcome : Type 0 where
   pub answer : Answer
-  pub after : PathState
+  pub state : PathState
 
 -- ---- streams
 
@@ -49,9 +49,9 @@ stream_of id streams = find (has_id id) streams
 
 -- It has become this one.
 abbrev pub with_stream : ℕ → Held → List Held → List Held
-with_stream id becomes [] = []
-with_stream id becomes (stream ∷ streams) =
-    if has_id id stream then becomes ∷ streams else stream ∷ with_stream id becomes streams
+with_stream id successor [] = []
+with_stream id successor (stream ∷ streams) =
+    if has_id id stream then successor ∷ streams else stream ∷ with_stream id successor streams
 
 -- It is no longer live.
 abbrev pub without : ℕ → List Held → List Held

@@ -31,19 +31,19 @@ use Rattle.onion_client.specs.Making.{last_of, cell_for, after_making}
 use Rattle.onion_client.specs.Asked.{only}
 
 abbrev pub closing : PathState → CloseCause → Outcome
-closing p cause = record { answer = Closed cause; after = record p { closed = true } }
+closing p cause = record { answer = Closed cause; state = record p { is_closed = true } }
 
 -- ---- a hop answers
 
 -- Y and KH of the answer to the client's X: the hop is there where KH is that of the keys that both derive.
 abbrev pub joining : PathState → List ℕ → KeyMaterial → Outcome
-joining p given k =
-    if bytes_eq given k.kh
+joining p kh k =
+    if bytes_eq kh k.kh
     then record {
       answer = Hop (length p.hops + 1);
-      after = record p { hops = p.hops ++ fresh_hop (layer_keys_of k) ∷ []; awaited = None };
+      state = record p { hops = p.hops ++ fresh_hop (layer_keys_of k) ∷ []; awaited_x = None };
     }
-    else closing p (BadKeys k.kh given)
+    else closing p (BadKeys k.kh kh)
 
 abbrev pub answered : PathState → List ℕ → List ℕ → Outcome
 answered p x reply = joining p (take 20 (drop 20 reply)) (kdf_tor x (take 20 reply))
@@ -51,7 +51,7 @@ answered p x reply = joining p (take 20 (drop 20 reply)) (kdf_tor x (take 20 rep
 -- CREATED_FAST is awaited until there is a hop.
 abbrev pub created : PathState → List ℕ → List PathHop → Option (List ℕ) → Outcome
 created p payload [] (Some x) = answered p x payload
-created p payload hops awaited = only p PassedOver
+created p payload hops awaited_x = only p PassedOver
 
 -- EXTENDED2 of the last hop has HDATA of 40 bytes, as CREATED_FAST has.
 abbrev pub extended_by : PathState → List ℕ → Option (List ℕ) → Outcome
@@ -70,8 +70,8 @@ carrying p stream bytes digest =
     let q = record p { window = circuit_after_accepting p.window } in
     let reply = relay_body sendme_command 0 (sendme_payload digest) in
     if is_sendme_due q.window.accepted
-    then record { answer = Carried stream bytes (Some (cell_for q relay_command reply)); after = after_making q reply }
-    else record { answer = Carried stream bytes None; after = q }
+    then record { answer = Carried stream bytes (Some (cell_for q relay_command reply)); state = after_making q reply }
+    else record { answer = Carried stream bytes None; state = q }
 
 -- DATA on no live stream is carried with no bytes.
 abbrev pub data_on : PathState → ℕ → List ℕ → List ℕ → Option Held → Outcome
@@ -88,7 +88,7 @@ connecting p stream payload =
     if is_some (connected_address payload)
     then record {
       answer = Connected stream.stream;
-      after = record p { streams = with_stream stream.stream (record stream { phase = Joined }) p.streams };
+      state = record p { streams = with_stream stream.stream (record stream { phase = Joined }) p.streams };
     }
     else closing p BadForm
 
@@ -105,21 +105,21 @@ abbrev pub ended_on : PathState → List ℕ → Option Held → Outcome
 ended_on p payload None = only p PassedOver
 ended_on p payload (Some stream) = record {
   answer = Ended stream.stream (end_reason payload);
-  after = record p { streams = without stream.stream p.streams };
+  state = record p { streams = without stream.stream p.streams };
 }
 
 -- ---- SENDME
 
 -- That of the circuit proves what it acknowledges; version 0 is not accepted.
 abbrev pub proved : PathState → ProofAnswer → Outcome
-proved p Good = record { answer = Credit; after = record p { window = window_after Good p.window } }
+proved p Good = record { answer = Credit; state = record p { window = window_after Good p.window } }
 proved p answer = closing p (Proof answer)
 
 abbrev pub credit_on : PathState → Option Held → Outcome
 credit_on p None = only p PassedOver
 credit_on p (Some stream) =
     if may_credit stream
-    then record { answer = Credit; after = record p { streams = with_stream stream.stream (after_credit stream) p.streams } }
+    then record { answer = Credit; state = record p { streams = with_stream stream.stream (after_credit stream) p.streams } }
     else closing p (Overrun stream.stream)
 
 abbrev pub sendme : PathState → ℕ → List ℕ → Outcome
@@ -138,29 +138,29 @@ message_of_last p body digest =
     else (if command == connected_command then connected_on p payload (stream_of id p.streams)
     else (if command == end_command then ended_on p payload (stream_of id p.streams)
     else (if command == sendme_command then sendme p id payload
-    else (if command == extended2_command then extended p payload p.awaited
+    else (if command == extended2_command then extended p payload p.awaited_x
     else only p PassedOver))))
 
 -- The 20 bytes of the running digest of all that the client recognised as the last hop's, with this body.
 abbrev pub digest_from : List PathHop → List ℕ → List ℕ
 digest_from [] body = []
 digest_from (hop ∷ hops) body =
-    let last = last_of hop hops in running_digest last.keys.db (last.recognised ++ body ∷ [])
+    let last = last_of hop hops in running_digest last.keys.db (last.hop_bodies ++ body ∷ [])
 
--- A body that was recognised, of any hop; `before` are the hops before it came.
+-- A body that was recognised, of any hop; `hops` are the hops before it came.
 unfoldable pub message_from : List PathHop → PathState → FromHop → Outcome
-message_from before p from =
+message_from hops p from =
     if not (fits_length from.body) then closing p BadForm
     else (if (relay_head from.body).command == truncated_command then only p (Truncated (truncated_reason (payload_of from.body)))
-    else (if not (from.hop == length before) then only p PassedOver
-    else message_of_last p from.body (digest_from before from.body)))
+    else (if not (from.hop == length hops) then only p PassedOver
+    else message_of_last p from.body (digest_from hops from.body)))
 
-abbrev pub came : List PathHop → PathState → Option FromHop → Outcome
-came before p None = closing p Unrecognised
-came before p (Some from) = message_from before p from
+abbrev pub origin_outcome : List PathHop → PathState → Option FromHop → Outcome
+origin_outcome hops p None = closing p Unrecognised
+origin_outcome hops p (Some from) = message_from hops p from
 
 abbrev pub relayed : PathState → List ℕ → Outcome
-relayed p body = came p.hops (record p { hops = after_coming p.hops body }) (recognised_as p.hops body)
+relayed p body = origin_outcome p.hops (record p { hops = after_coming p.hops body }) (recognised_as p.hops body)
 
 -- ---- any cell
 
@@ -168,7 +168,7 @@ relayed p body = came p.hops (record p { hops = after_coming p.hops body }) (rec
 unfoldable pub taking_on : PathState → ℕ → List ℕ → Outcome
 taking_on p command payload =
     if command == destroy_command then closing p (Destroyed (slice_index payload 0))
-    else (if command == created_fast_command then created p payload p.hops p.awaited
+    else (if command == created_fast_command then created p payload p.hops p.awaited_x
     else (if command == relay_command then relayed p payload
     else only p PassedOver))
 
@@ -178,6 +178,6 @@ taking_fixed p command (Var payload) = only p PassedOver
 
 abbrev pub taking : PathState → Cell → Outcome
 taking p cell =
-    if p.closed then only p Gone
+    if p.is_closed then only p Gone
     else (if cell.circ == p.circuit then taking_fixed p cell.command cell.body
     else only p PassedOver)

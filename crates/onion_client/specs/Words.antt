@@ -19,7 +19,7 @@ outcome p (Drained stream) = draining p stream
 
 abbrev pub path : Start → List Call → PathState
 path start [] = started start
-path start (call ∷ history) = (outcome (path start history) call).after
+path start (call ∷ history) = (outcome (path start history) call).state
 
 abbrev pub answer : Start → List Call → Call → Answer
 answer start history call = (outcome (path start history) call).answer

@@ -22,9 +22,9 @@ ghost use Rattle.onion_client.specs.Words.{path, answer};
 #[tactic(auto, using(crate::proofs::Paths::closed_answers_gone, crate::proofs::Paths::closed_stays))]
 pub fn a_closed_path_is_gone()
     ensures answer { (start : Start) (h : List Call) (call : Call) →
-        (path start h).closed ≡ true → answer start h call ≡ Gone }
+        (path start h).is_closed ≡ true → answer start h call ≡ Gone }
     ensures path { (start : Start) (h : List Call) (call : Call) →
-        (path start h).closed ≡ true → path start (call ∷ h) ≡ path start h }
+        (path start h).is_closed ≡ true → path start (call ∷ h) ≡ path start h }
 {}
 
 /// The CREATED_FAST that is awaited makes the first hop where its KH is that of the keys that X and its Y
@@ -51,10 +51,10 @@ pub fn a_relay_cell_before_the_first_hop_closes()
 #[tactic(auto, using(crate::proofs::Paths::stream_shut, crate::proofs::Paths::circuit_shut))]
 pub fn no_data_passes_a_window()
     ensures stream { (start : Start) (h : List Call) (id : ℕ) (bytes : List ℕ) (stream : Held) →
-        (path start h).closed ≡ false → stream_of id (path start h).streams ≡ Some stream → may_package stream ≡ false →
+        (path start h).is_closed ≡ false → stream_of id (path start h).streams ≡ Some stream → may_package stream ≡ false →
         answer start h (Send id bytes) ≡ Shut Stream stream.packed }
     ensures circuit { (start : Start) (h : List Call) (id : ℕ) (bytes : List ℕ) (stream : Held) →
-        (path start h).closed ≡ false → stream_of id (path start h).streams ≡ Some stream → may_package stream ≡ true →
+        (path start h).is_closed ≡ false → stream_of id (path start h).streams ≡ Some stream → may_package stream ≡ true →
         circuit_may_package circuit_start (path start h).window ≡ false →
         answer start h (Send id bytes) ≡ Shut Circuit (length (path start h).window.packaged) }
 {}

@@ -39,10 +39,10 @@ fn a_body_goes_to_the_last_hop(rt: HostRuntime) -> Result<(), Fail> {
     let digest = layers.seal(&mut body);
     assert!(rt; Opener::of(&keys(1)).take_off(&mut body).is_none());
     assert!(rt; Opener::of(&keys(2)).take_off(&mut body).is_none());
-    let seen = Opener::of(&keys(3))
+    let seen_digest = Opener::of(&keys(3))
         .take_off(&mut body)
         .ok_or("unrecognised")?;
-    assert_eq!(rt; seen, digest);
+    assert_eq!(rt; seen_digest, digest);
     assert!(rt; read_head(&body).is_some());
     assert!(rt; body[11..].starts_with(b"to the last hop"));
     Ok(())
@@ -58,9 +58,9 @@ fn a_body_comes_from_the_hop_that_sealed_it(rt: HostRuntime) -> Result<(), Fail>
     Sealer::of(&keys(2)).put_on(&mut body);
     Sealer::of(&keys(1)).put_on(&mut body);
     let mut layers = three_hops(rt.alloc())?;
-    let (place, seen) = layers.take_off(&mut body).ok_or("unrecognised")?;
+    let (place, seen_digest) = layers.take_off(&mut body).ok_or("unrecognised")?;
     assert_eq!(rt; place, 1);
-    assert_eq!(rt; seen, digest);
+    assert_eq!(rt; seen_digest, digest);
     assert!(rt; body[11..].starts_with(b"from the second hop"));
     let mut stranger = [9; 509];
     let mut fresh = three_hops(rt.alloc())?;
