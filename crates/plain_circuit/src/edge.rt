@@ -59,10 +59,10 @@ pub fn ended_effects(
     let Some(place) = place else {
         return Ok(Effects::none());
     };
-    let ended = ending(alloc, log, place.key.stream, reason)?;
+    let end_effects = ending(alloc, log, place.key.stream, reason)?;
     Ok(Effects {
         edge: Some(Order::Close(place.key, reason)),
-        ..ended
+        ..end_effects
     })
 }
 

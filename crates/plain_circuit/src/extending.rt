@@ -57,10 +57,10 @@ pub fn extend_effects(log: &[Entry<'_>], message: &Message) -> Effects
 pub fn truncate_effects(alloc: Global, log: &[Entry<'_>]) -> Result<Effects, AllocError>
     ensures { IfOk result (λ effects. effects ≡ truncate_effects (log_of log.now)) }
 {
-    let answered = packaging(alloc, log, &truncated_body(destroy_reason::REQUESTED))?;
+    let answer = packaging(alloc, log, &truncated_body(destroy_reason::REQUESTED))?;
     Ok(Effects {
         cut: !is_absent(log),
-        ..answered
+        ..answer
     })
 }
 
@@ -101,13 +101,13 @@ fn create2(request: &Extend2<'_>) -> CircuitCell
 pub fn linked_effects(log: &[Entry<'_>]) -> Effects
     ensures { result ≡ linked_effects (log_of log.now) }
 {
-    let mut asked = None;
+    let mut last_request = None;
     for entry in log {
         if let Some(request) = accepted_request(entry) {
-            asked = Some(request);
+            last_request = Some(request);
         }
     }
-    match asked {
+    match last_request {
         Some(request) => Effects {
             forth: Some(create2(&request)),
             ..Effects::none()

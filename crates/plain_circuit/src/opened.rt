@@ -44,8 +44,8 @@ pub fn born_keys(log: &[Entry<'_>]) -> LayerKeys
 {
     let mut keys = no_keys();
     for entry in log {
-        if let Some(given) = keys_in(entry.event) {
-            keys = given;
+        if let Some(new_keys) = keys_in(entry.event) {
+            keys = new_keys;
         }
     }
     keys
@@ -66,8 +66,8 @@ pub fn born_pad(log: &[Entry<'_>]) -> Option<[u8; 16]>
 {
     let mut pad = None;
     for entry in log {
-        if let Some(given) = pad_in(entry.event) {
-            pad = Some(given);
+        if let Some(new_pad) = pad_in(entry.event) {
+            pad = Some(new_pad);
         }
     }
     pad
@@ -98,9 +98,9 @@ fn keystream_behind(key: &[u8; 16], n: usize) -> Stream
     ensures position { result.position ≡ 509 * n }
 {
     let mut stream = Stream::of(key);
-    let mut passed = [0; 509];
-    for before in 0..n {
-        stream.apply(&mut passed);
+    let mut scratch = [0; 509];
+    for number in 0..n {
+        stream.apply(&mut scratch);
     }
     stream
 }
@@ -110,9 +110,9 @@ fn keystream_behind(key: &[u8; 16], n: usize) -> Stream
 pub fn layered(key: &[u8; 16], n: usize, body: &[u8; 509]) -> [u8; 509]
     ensures { result ≡ layered key.now (509 * n) body.now }
 {
-    let mut layered = *body;
-    keystream_behind(key, n).apply(&mut layered);
-    layered
+    let mut layered_body = *body;
+    keystream_behind(key, n).apply(&mut layered_body);
+    layered_body
 }
 
 /// The 509 bytes of a key's keystream for body number `n`.
@@ -161,12 +161,12 @@ pub fn is_recognised_by(plain: &[u8; 509], digest: &[u8; 20]) -> bool
 pub fn digest_with(
     alloc: Global,
     seed: &[u8; 20],
-    before: &[[u8; 509]],
+    earlier_bodies: &[[u8; 509]],
     plain: &[u8; 509],
 ) -> Result<[u8; 20], AllocError>
-    ensures { IfOk result (λ digest. digest ≡ running_digest seed.now (before.now ++ plain.now ∷ [])) }
+    ensures { IfOk result (λ digest. digest ≡ running_digest seed.now (earlier_bodies.now ++ plain.now ∷ [])) }
 {
-    let mut bodies = Vec::from_slice(alloc, before)?;
+    let mut bodies = Vec::from_slice(alloc, earlier_bodies)?;
     bodies.push(*plain)?;
     Ok(digest_of(seed, &bodies))
 }
@@ -180,14 +180,14 @@ struct Reader {
 
 impl Reader {
     /// Behind `count` forward bodies, these of them recognised.
-    fn of(keys: &LayerKeys, count: usize, recognised: &[[u8; 509]]) -> Reader
+    fn of(keys: &LayerKeys, count: usize, bodies: &[[u8; 509]]) -> Reader
         ensures key { result.stream.key ≡ keys.now.kf }
         ensures position { result.stream.position ≡ 509 * count }
-        ensures digest { HasAbsorbed result.running keys.now.df recognised.now }
+        ensures digest { HasAbsorbed result.running keys.now.df bodies.now }
     {
         Reader {
             stream: keystream_behind(&keys.kf, count),
-            running: running_of(&keys.df, recognised),
+            running: running_of(&keys.df, bodies),
         }
     }
 
@@ -195,8 +195,8 @@ impl Reader {
     #[tactic(auto, unfolding(crypto_spec::specs::HopLayer::layered, crypto_spec::specs::HopLayer::is_recognised))]
     fn open(&mut self, body: &[u8; 509]) -> Option<[u8; 509]>
         requires { self.old.stream.position < 2 ^ 100 }
-        ensures more { (seed : List ℕ) (before : List (List ℕ)) → HasAbsorbed self.old.running seed before → pushed before result ≡ with_recognised seed before (layered self.old.stream.key self.old.stream.position body.now) }
-        ensures digest { (seed : List ℕ) (before : List (List ℕ)) → HasAbsorbed self.old.running seed before → HasAbsorbed self.new.running seed (pushed before result) }
+        ensures more { (seed : List ℕ) (bodies : List (List ℕ)) → HasAbsorbed self.old.running seed bodies → pushed bodies result ≡ with_recognised seed bodies (layered self.old.stream.key self.old.stream.position body.now) }
+        ensures digest { (seed : List ℕ) (bodies : List (List ℕ)) → HasAbsorbed self.old.running seed bodies → HasAbsorbed self.new.running seed (pushed bodies result) }
         ensures key { self.new.stream.key ≡ self.old.stream.key }
         ensures position { self.new.stream.position ≡ self.old.stream.position + 509 }
     {
@@ -211,21 +211,16 @@ impl Reader {
     }
 
     /// The plain body that an event behind a log adds to the recognised ones.
-    fn read(
-        &mut self,
-        log: &[Entry<'_>],
-        recognised: &[[u8; 509]],
-        event: &Event,
-    ) -> Option<[u8; 509]>
+    fn read(&mut self, log: &[Entry<'_>], bodies: &[[u8; 509]], event: &Event) -> Option<[u8; 509]>
         requires short { length log.now < 2 ^ 64 }
         requires reader { IsReader self.old.stream self.old.running (log_of log.now) }
-        requires recognised { recognised.now ≡ recognised_bodies (log_of log.now) }
-        ensures more { pushed recognised.now result ≡ recognised_with (log_of log.now) recognised.now event.now }
+        requires recognised { bodies.now ≡ recognised_bodies (log_of log.now) }
+        ensures more { pushed bodies.now result ≡ recognised_with (log_of log.now) bodies.now event.now }
         ensures next { (entry : ModelEntry) → entry.event ≡ event.now → IsReader self.new.stream self.new.running (entry ∷ log_of log.now) }
     {
         match event {
             Event::Born(_, keys, _) => {
-                *self = Reader::of(keys, forward_count(log), recognised);
+                *self = Reader::of(keys, forward_count(log), bodies);
                 None
             }
             Event::Forward(_, body) => self.open(body),

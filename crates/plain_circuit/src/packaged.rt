@@ -44,9 +44,9 @@ fn digested(alloc: Global, log: &[Entry<'_>], body: &[u8; 509]) -> Result<[u8; 5
     let mut bodies = own(alloc, log)?;
     bodies.push(*body)?;
     let [a, b, c, d, ..] = digest_of(&born_keys(log).db, &bodies);
-    let mut digested = *body;
-    put_digest(&mut digested, [a, b, c, d]);
-    Ok(digested)
+    let mut digested_body = *body;
+    put_digest(&mut digested_body, [a, b, c, d]);
+    Ok(digested_body)
 }
 
 /// Body number `n` with its padding: by a key its keystream, else zero.
@@ -54,17 +54,17 @@ fn padded_by(pad: &Option<[u8; 16]>, n: usize, body: &[u8; 509]) -> [u8; 509]
     requires { IsTrue (fits_length body.now) }
     ensures { result ≡ padded_by pad.now n body.now }
 {
-    let mut padded = *body;
+    let mut padded_body = *body;
     if let Some(key) = pad {
-        put_padding(&mut padded, &keystream_for(key, n));
+        put_padding(&mut padded_body, &keystream_for(key, n));
     }
-    padded
+    padded_body
 }
 
 /// The next body that this relay packages, with its padding and its Digest.
 fn finished(alloc: Global, log: &[Entry<'_>], body: &[u8; 509]) -> Result<[u8; 509], AllocError>
     requires { IsTrue (fits_length body.now) }
-    ensures { IfOk result (λ sent. sent ≡ finished (log_of log.now) body.now) }
+    ensures { IfOk result (λ finished_body. finished_body ≡ finished (log_of log.now) body.now) }
 {
     let number = own(alloc, log)?.len();
     digested(alloc, log, &padded_by(&born_pad(log), number, body))

@@ -29,37 +29,37 @@ fn closes_place(serial: usize, order: &Option<Order>) -> bool
 fn is_connected(log: &[Entry<'_>], serial: usize) -> bool
     ensures { result ≡ is_connected (log_of log.now) serial }
 {
-    let mut connected = false;
+    let mut has_report = false;
     for entry in log {
         if connects(serial, entry.event) {
-            connected = true;
+            has_report = true;
         }
     }
-    connected
+    has_report
 }
 
 fn is_ended(log: &[Entry<'_>], serial: usize) -> bool
     ensures { result ≡ is_ended (log_of log.now) serial }
 {
-    let mut ended = false;
+    let mut has_close = false;
     for entry in log {
         if closes_place(serial, &entry.effects.edge) {
-            ended = true;
+            has_close = true;
         }
     }
-    ended
+    has_close
 }
 
 fn is_freed(log: &[Entry<'_>], serial: usize) -> bool
     ensures { result ≡ is_freed (log_of log.now) serial }
 {
-    let mut freed = false;
+    let mut has_freed = false;
     for entry in log {
         if frees(serial, entry.event) {
-            freed = true;
+            has_freed = true;
         }
     }
-    freed
+    has_freed
 }
 
 /// The phase of a place that was made.
@@ -160,7 +160,7 @@ fn taken_among(log: &[Entry<'_>], places: &[Place]) -> usize
 /// How many places are taken.
 #[tactic(auto, unfolding(circuit_model::specs::Places::taken_places))]
 pub fn taken_places(alloc: Global, log: &[Entry<'_>]) -> Result<usize, AllocError>
-    ensures { IfOk result (λ taken. taken ≡ taken_places (log_of log.now)) }
+    ensures { IfOk result (λ count. count ≡ taken_places (log_of log.now)) }
 {
     let places = places(alloc, log)?;
     Ok(taken_among(log, &places))

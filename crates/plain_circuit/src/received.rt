@@ -42,13 +42,13 @@ pub fn early_count(log: &[Entry<'_>]) -> usize
 pub fn is_closed(log: &[Entry<'_>]) -> bool
     ensures { result ≡ is_closed (log_of log.now) }
 {
-    let mut closed = false;
+    let mut has_close = false;
     for entry in log {
         if entry.effects.close.is_some() {
-            closed = true;
+            has_close = true;
         }
     }
-    closed
+    has_close
 }
 
 /// The message in a recognised body with this running digest.
@@ -92,8 +92,8 @@ pub fn read_cell(
     if command == command::RELAY_EARLY && early_count(log) >= MOST_EARLY {
         return Ok(Received::TooManyEarly);
     }
-    let before = recognised_bodies(alloc, log)?;
-    let digest = digest_with(alloc, &born_keys(log).df, &before, &plain)?;
+    let earlier_bodies = recognised_bodies(alloc, log)?;
+    let digest = digest_with(alloc, &born_keys(log).df, &earlier_bodies, &plain)?;
     if !is_recognised_by(&plain, &digest) {
         return Ok(Received::Unrecognised(plain));
     }

@@ -182,7 +182,7 @@ pub fn effects(
     history: &[Event],
     event: &Event,
 ) -> Result<Effects, AllocError>
-    ensures { IfOk result (λ given. given ≡ effects (rules_of rules.now) (in_order history.now) event.now) }
+    ensures { IfOk result (λ answer. answer ≡ effects (rules_of rules.now) (in_order history.now) event.now) }
 {
     let log = log_of(alloc, rules, history)?;
     let entry = entry_after(alloc, rules, &log, event)?;

@@ -43,11 +43,11 @@ fn digest_up_to(alloc: Global, log: &[Entry<'_>], n: u128) -> Result<[u8; 20], A
 }
 
 /// Whether a payload carries this proof.
-fn proves(expected: &[u8; 20], payload: &[u8]) -> bool
-    ensures { result ≡ proves expected.now (sendme_proof payload.now) }
+fn proves(owed_proof: &[u8; 20], payload: &[u8]) -> bool
+    ensures { result ≡ proves owed_proof.now (sendme_proof payload.now) }
 {
     match read_proof(payload) {
-        Some(proof) => proof == *expected,
+        Some(proof) => proof == *owed_proof,
         None => false,
     }
 }
@@ -64,9 +64,9 @@ pub fn is_right_sendme(
     ensures { IfOk result (λ right. right ≡ is_right_sendme (rules_of rules.now) (log_of log.now) payload.now) }
 {
     let next = CIRCUIT_STEP * (good_sendmes(log) as u128 + 1);
-    let expected = digest_up_to(alloc, log, next)?;
+    let owed_proof = digest_up_to(alloc, log, next)?;
     let is_packaged = next <= packed(log) as u128;
-    let is_proved = needs_no_proof(rules, payload) || proves(&expected, payload);
+    let is_proved = needs_no_proof(rules, payload) || proves(&owed_proof, payload);
     Ok(is_packaged && is_proved)
 }
 

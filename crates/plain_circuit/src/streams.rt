@@ -113,10 +113,10 @@ pub fn data_effects(
         stream: message.stream,
         serial,
     };
-    let acknowledged = acknowledging(alloc, log, message)?;
+    let acknowledgement_effects = acknowledging(alloc, log, message)?;
     Ok(Effects {
         edge: Some(Order::Carry(key, bytes)),
-        ..acknowledged
+        ..acknowledgement_effects
     })
 }
 

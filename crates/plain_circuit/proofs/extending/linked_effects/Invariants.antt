@@ -7,5 +7,5 @@ use Rattle.plain_circuit.proofs.extending.linked_effects.Given as goal
 
 abbrev pub invariant-loop-entry : goal.invariant-loop-entry
 invariant-loop-entry l =
-    (option_map extend_of l.asked ≡ newest accepted_request (log_of (take l.entry-index l.log)))
-    × IfSome l.asked (λ request. length request.hdata.now ≤ 498)
+    (option_map extend_of l.last_request ≡ newest accepted_request (log_of (take l.entry-index l.log)))
+    × IfSome l.last_request (λ request. length request.hdata.now ≤ 498)

@@ -4,4 +4,4 @@ use Rattle.plain_circuit.specs.Values.{log_of}
 use Rattle.plain_circuit.proofs.places.is_freed.Given as goal
 
 abbrev pub invariant-loop-entry : goal.invariant-loop-entry
-invariant-loop-entry l = l.freed ≡ is_freed (log_of (take l.entry-index l.log)) l.serial
+invariant-loop-entry l = l.has_freed ≡ is_freed (log_of (take l.entry-index l.log)) l.serial
