@@ -36,8 +36,8 @@ pub struct Input {
 pub fn read_tape<S: Source>(alloc: Global, source: &mut S) -> Result<Input, AllocError>
     ensures counted { S.faults source.old ≤ S.faults source.new }
     ensures cause { IfOk result (λ input. EndCause input.ending (S.faults source.old) (S.faults source.new)) }
-    ensures read { OnErr result ((bytes : List ℕ) × IsRead (S.left source.old) bytes (S.left source.new)) }
-    ensures tape { IfOk result (λ input. IsTape input.ending (S.left source.old) input.bytes.items (S.left source.new)) }
+    ensures read { OnErr result ((bytes : List ℕ) × IsRead (S.rest source.old) bytes (S.rest source.new)) }
+    ensures tape { IfOk result (λ input. IsTape input.ending (S.rest source.old) input.bytes.items (S.rest source.new)) }
 {
     let mut bytes = Vec::new(alloc);
     let mut chunk = [0; CHUNK];

@@ -43,10 +43,10 @@ pub fn tape_main<S: Source, K: Sink>(
     ensures read { result ≡ Status.ReadFault → Rose (S.faults source.old) (S.faults source.new) }
     ensures write { result ≡ Status.WriteFault → Rose (K.faults sink.old) (K.faults sink.new) }
     ensures run { is_tape_line (map string_bytes words.now) ≡ true → IsRun result
-        (source_run (S.left source.old) (S.faults source.old) (S.left source.new) (S.faults source.new))
+        (source_run (S.rest source.old) (S.faults source.old) (S.rest source.new) (S.faults source.new))
         (sink_run (K.written sink.old) (K.faults sink.old) (K.written sink.new) (K.flushed sink.new) (K.faults sink.new)) }
     ensures done { is_tape_line (map string_bytes words.now) ≡ true → (tape : List ℕ) (rules : Rules) (records : List Record) → IsGood tape rules records
-        (source_run (S.left source.old) (S.faults source.old) (S.left source.new) (S.faults source.new))
+        (source_run (S.rest source.old) (S.faults source.old) (S.rest source.new) (S.faults source.new))
         (sink_run (K.written sink.old) (K.faults sink.old) (K.written sink.new) (K.flushed sink.new) (K.faults sink.new)) →
         IsDone result rules records (sink_run (K.written sink.old) (K.faults sink.old) (K.written sink.new) (K.flushed sink.new) (K.faults sink.new)) }
 {

@@ -31,7 +31,7 @@ pub fn run_program<S: Source, K: Sink, E: Sink>(
     errors: &mut E,
 ) -> u8
     ensures { IsProgramRun (map string_bytes words.now) result source.old source.new sink.old sink.new
-        (source_run (S.left source.old) (S.faults source.old) (S.left source.new) (S.faults source.new))
+        (source_run (S.rest source.old) (S.faults source.old) (S.rest source.new) (S.faults source.new))
         (sink_run (K.written sink.old) (K.faults sink.old) (K.written sink.new) (K.flushed sink.new) (K.faults sink.new))
         (sink_run (E.written errors.old) (E.faults errors.old) (E.written errors.new) (E.flushed errors.new) (E.faults errors.new)) }
 {

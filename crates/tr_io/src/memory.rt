@@ -48,7 +48,7 @@ impl MemorySource {
 }
 
 impl Source for MemorySource {
-    ghost left = { λ s. Some s.rest };
+    ghost rest = { λ s. Some s.rest };
 
     ghost faults = { λ s. s.faults };
 

@@ -19,7 +19,7 @@ pub enum ReadAnswer {
 /// A source in memory tells the bytes that it has left; one over a file or a terminal tells none.
 pub trait Source {
     /// The bytes that are left, where the source tells them.
-    ghost left: { Self → Option (List ℕ) };
+    ghost rest: { Self → Option (List ℕ) };
 
     /// How often the source failed. The count rises at failures alone, and stands still at 2^64 - 1.
     ghost faults: { Self → ℕ };
@@ -28,7 +28,7 @@ pub trait Source {
     fn read(&mut self, into: &mut [u8]) -> ReadAnswer
         requires { 0 < length into.old }
         ensures within { GotWithin result into.new }
-        ensures bytes { ReadsFrom (left self.old) result into.new (left self.new) }
+        ensures bytes { ReadsFrom (rest self.old) result into.new (rest self.new) }
         ensures counted { faults self.old ≤ faults self.new }
         ensures cause { result ≡ ReadAnswer.Failed → Rose (faults self.old) (faults self.new) }
         ensures steady { result ≢ ReadAnswer.Failed → faults self.new ≡ faults self.old };

@@ -24,7 +24,7 @@ impl<R: Read> ReaderSource<R> {
 }
 
 impl<R: Read> Source for ReaderSource<R> {
-    ghost left = { λ _. None };
+    ghost rest = { λ _. None };
 
     ghost faults = { λ s. s.faults };
 
