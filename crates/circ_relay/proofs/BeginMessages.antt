@@ -9,7 +9,7 @@ use Rattle.tor_spec.specs.Extend.{Address}
 use Rattle.tr_io.specs.declared.names.Dest.{Dest}
 use Rattle.stream_edge.specs.PlacesState.{PlacesState, held_at}
 use Rattle.stream_edge.specs.Streams.{begun, is_free}
-use Rattle.stream_edge.specs.declared.held.Held.{Held}
+use Rattle.stream_edge.specs.declared.placed_stream.PlacedStream.{PlacedStream}
 use Rattle.circuit_model.specs.declared.event.Event.TheVariants.{Forward}
 use Rattle.circuit_model.specs.Rules.{Rules, allowed_address}
 use Rattle.circuit_model.specs.Log.{Entry, Log, Message, Effects, no_effects, closing, ordering}
@@ -116,7 +116,7 @@ pub record IsKept (old new : List Dest) (place : ℕ) (to : Dest) : Type 0 where
   pub there : (none : Dest) → slice_index_or new place none ≡ to
   pub elsewhere : (other : ℕ) (none : Dest) → other ≢ place → slice_index_or new other none ≡ slice_index_or old other none
 
-reached_there : (s : PlacesState) (log longer : Log) (place id : ℕ) (to : Dest) (h : Held) (of_log : Place) → ArePlaces s log
+reached_there : (s : PlacesState) (log longer : Log) (place id : ℕ) (to : Dest) (h : PlacedStream) (of_log : Place) → ArePlaces s log
     → place < length s.streams
     → places longer ≡ places log ++ place_made log id (address_of to) ∷ [] → held_at (after_begin s place id) place ≡ Some h
     → place_at longer h.serial ≡ Some of_log → of_log.to ≡ address_of to
@@ -124,13 +124,13 @@ reached_there s log longer place id to h of_log are within more holds at =
     let there : held_at (after_begin s place id) place ≡ Some (begun id s.next_serial) =
     get_or-set_same s.streams place (Some (begun id s.next_serial)) None within in
     let h_is : begun id s.next_serial ≡ h = same_some (begun id s.next_serial) h (sym there ∙ holds) in
-    let serial : h.serial ≡ length (places log) = ap (λ (k : Held). k.serial) (sym h_is) ∙ are.next in
+    let serial : h.serial ≡ length (places log) = ap (λ (k : PlacedStream). k.serial) (sym h_is) ∙ are.next in
     let got : slice_get (places log ++ place_made log id (address_of to) ∷ []) (length (places log)) ≡ Some of_log =
     ap (λ (ps : List Place). slice_get ps (length (places log))) (sym more) ∙ ap (λ n. slice_get (places longer) n) (sym serial)
     ∙ at in
     ap (λ (p : Place). p.to) (sym (same_some (place_made log id (address_of to)) of_log (sym (got_last (places log) (place_made log id (address_of to))) ∙ got)))
 
-reached_elsewhere : (s : PlacesState) (addresses : List Dest) (log longer : Log) (place id other : ℕ) (to : Dest) (h : Held) (of_log : Place) (none : Dest)
+reached_elsewhere : (s : PlacesState) (addresses : List Dest) (log longer : Log) (place id other : ℕ) (to : Dest) (h : PlacedStream) (of_log : Place) (none : Dest)
     → ArePlaces s log → AreAddresses addresses s log
     → places longer ≡ places log ++ place_made log id (address_of to) ∷ [] → other ≢ place
     → held_at (after_begin s place id) other ≡ Some h → place_at longer h.serial ≡ Some of_log
@@ -144,7 +144,7 @@ reached_elsewhere s addresses log longer place id other to h of_log none are kep
     ∙ got_before (places log) (place_made log id (address_of to)) old.place h.serial old.found in
     ap (λ (p : Place). p.to) (sym (same_some old.place of_log (sym got ∙ at))) ∙ kept other h old.place none before old.found
 
-reached_address : (s : PlacesState) (addresses new : List Dest) (log longer : Log) (place id other : ℕ) (to : Dest) (h : Held) (of_log : Place) (none : Dest)
+reached_address : (s : PlacesState) (addresses new : List Dest) (log longer : Log) (place id other : ℕ) (to : Dest) (h : PlacedStream) (of_log : Place) (none : Dest)
     → ArePlaces s log → AreAddresses addresses s log
     → IsKept addresses new place to → place < length s.streams
     → places longer ≡ places log ++ place_made log id (address_of to) ∷ [] → (b : Bool) → (other == place) ≡ b

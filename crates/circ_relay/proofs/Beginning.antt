@@ -1,7 +1,7 @@
 -- A circuit without events.
 use Rattle.std.proofs.Common.{◌≡◌, ℕ, zero, suc, [], Option, None, refl, sym, ◌∙◌, arith, get_or, replicate}
 use Rattle.circuit_model.specs.Places.{phase}
-use Rattle.stream_edge.specs.declared.held.Held.{Held}
+use Rattle.stream_edge.specs.declared.placed_stream.PlacedStream.{PlacedStream}
 use Rattle.circ_relay.specs.PlacesOfLog.{IsUntold, ArePlaces}
 use Rattle.circ_relay.proofs.Changing.{none-held}
 
@@ -9,7 +9,7 @@ nothing-told : (serial : ℕ) → IsUntold [] serial
 unfolding phase
 nothing-told serial = record { phase = refl; packed = refl; credits = refl; accepted = refl; drained = refl }
 
-nothing-held : (n place : ℕ) → ◌≡◌ {A = Option Held} (get_or (replicate n None) place None) None
+nothing-held : (n place : ℕ) → ◌≡◌ {A = Option PlacedStream} (get_or (replicate n None) place None) None
 nothing-held zero place = refl
 nothing-held (suc n) zero = refl
 nothing-held (suc n) (suc place) = nothing-held n place

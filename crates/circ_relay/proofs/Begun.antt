@@ -16,7 +16,7 @@ use Rattle.circuit_model.specs.Windows.{carries}
 use Rattle.circuit_model.specs.Received.{message_at}
 use Rattle.circuit_model.specs.Effects.{effects_after}
 use Rattle.circuit_model.specs.Words.{entry_after}
-use Rattle.stream_edge.specs.declared.held.Held.{Held}
+use Rattle.stream_edge.specs.declared.placed_stream.PlacedStream.{PlacedStream}
 use Rattle.stream_edge.specs.PlacesState.{PlacesState, held_at, with_held}
 use Rattle.stream_edge.specs.Streams.{begun, is_free}
 use Rattle.circ_relay.specs.PlacesOfLog.{IsOfLog, IsUntold, IsHeld, IsSilent, ArePlaces}
@@ -67,7 +67,7 @@ elsewhere state place id other apart = get_or-set_other state.streams place othe
 
 -- What the state holds afterwards: at this place the stream that has begun, elsewhere what it held.
 holds-by : (state : PlacesState) (log : Log) (entry : Entry) (place id : ℕ) (to : Address) → IsBegun state log entry place id to →
-    (other : ℕ) (h : Held) → held_at (after_begin state place id) other ≡ Some h → (b : Bool) → (other == place) ≡ b →
+    (other : ℕ) (h : PlacedStream) → held_at (after_begin state place id) other ≡ Some h → (b : Bool) → (other == place) ≡ b →
     ((other ≡ place) × (h ≡ begun id state.next_serial)) ⊎ (held_at state other ≡ Some h)
 holds-by state log entry place id to begins other h is true same =
     let here : other ≡ place = same_by other place same in
@@ -76,7 +76,7 @@ holds-by state log entry place id to begins other h is false same =
     inr (sym (elsewhere state place id other (apart_by other place same)) ∙ is)
 
 holds : (state : PlacesState) (log : Log) (entry : Entry) (place id : ℕ) (to : Address) → IsBegun state log entry place id to →
-    (other : ℕ) (h : Held) → held_at (after_begin state place id) other ≡ Some h →
+    (other : ℕ) (h : PlacedStream) → held_at (after_begin state place id) other ≡ Some h →
     ((other ≡ place) × (h ≡ begun id state.next_serial)) ⊎ (held_at state other ≡ Some h)
 holds state log entry place id to begins other h is = holds-by state log entry place id to begins other h is (other == place) refl
 
@@ -100,35 +100,35 @@ begun-is state log entry place id to begins =
       drained = sym (drained_stays entry log state.next_serial silent.drains ∙ untold.drained);
     }
 
-old-is : (log : Log) (entry : Entry) (made : Place) (h : Held) → place_of entry.effects.edge ≡ Some made
+old-is : (log : Log) (entry : Entry) (made : Place) (h : PlacedStream) → place_of entry.effects.edge ≡ Some made
     → IsSilent entry h.serial → IsOfLog log h → IsOfLog (entry ∷ log) h
 old-is log entry made h makes silent is =
     stream_at_its_place entry log h is (found-before entry log made is.place h.serial makes is.found) silent
 
 streams-by : (state : PlacesState) (log : Log) (entry : Entry) (place id : ℕ) (to : Address)
     → IsBegun state log entry place id to →
-    (other : ℕ) (h : Held) → ((other ≡ place) × (h ≡ begun id state.next_serial)) ⊎ (held_at state other ≡ Some h)
+    (other : ℕ) (h : PlacedStream) → ((other ≡ place) × (h ≡ begun id state.next_serial)) ⊎ (held_at state other ≡ Some h)
     → IsOfLog (entry ∷ log) h
 streams-by state log entry place id to begins other h (inl new) =
     subst (λ x. IsOfLog (entry ∷ log) x) (sym new.1) (begun-is state log entry place id to begins)
 streams-by state log entry place id to begins other h (inr old) =
     old-is log entry (place_made log id to) h (ap place_of begins.order) (begins.silent h.serial) (begins.are.streams other h old)
 
-below : (state : PlacesState) (log : Log) → ArePlaces state log → (place : ℕ) (h : Held) → held_at state place ≡ Some h
+below : (state : PlacesState) (log : Log) → ArePlaces state log → (place : ℕ) (h : PlacedStream) → held_at state place ≡ Some h
     → h.serial < length (places log)
 below state log are place h at =
     slice_get_within (places log) h.serial (are.streams place h at).place (are.streams place h at).found
 
 once-by : (state : PlacesState) (log : Log) (entry : Entry) (place id : ℕ) (to : Address) → IsBegun state log entry place id to →
-    (one other : ℕ) (g h : Held) →
+    (one other : ℕ) (g h : PlacedStream) →
     ((one ≡ place) × (g ≡ begun id state.next_serial)) ⊎ (held_at state one ≡ Some g) →
     ((other ≡ place) × (h ≡ begun id state.next_serial)) ⊎ (held_at state other ≡ Some h) → g.serial ≡ h.serial → one ≡ other
 once-by state log entry place id to begins one other g h (inl new) (inl also) equal = new.0 ∙ sym also.0
 once-by state log entry place id to begins one other g h (inl new) (inr old) equal =
-    let serial : g.serial ≡ state.next_serial = ap (λ (x : Held). x.serial) new.1 in
+    let serial : g.serial ≡ state.next_serial = ap (λ (x : PlacedStream). x.serial) new.1 in
     absurd (omega (arith, serial, begins.are.next, equal, below state log begins.are other h old))
 once-by state log entry place id to begins one other g h (inr old) (inl new) equal =
-    let serial : h.serial ≡ state.next_serial = ap (λ (x : Held). x.serial) new.1 in
+    let serial : h.serial ≡ state.next_serial = ap (λ (x : PlacedStream). x.serial) new.1 in
     absurd (omega (arith, serial, begins.are.next, equal, below state log begins.are one g old))
 once-by state log entry place id to begins one other g h (inr old) (inr also) equal = begins.are.once one other g h old also equal
 
@@ -166,7 +166,7 @@ begun_takes_a_place state log entry place id to begins =
           λ serial beyond. untold_stays entry log serial (begins.silent serial) (begins.are.untold serial (omega (arith, count, beyond)));
     }
 
-free-is : (held : Option Held) → is_free held ≡ true → held ≡ None
+free-is : (held : Option PlacedStream) → is_free held ≡ true → held ≡ None
 free-is None is = refl
 free-is (Some h) is = cc
 

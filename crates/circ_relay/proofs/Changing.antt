@@ -4,7 +4,7 @@ use Rattle.std.proofs.lemmas.Option.{slice_get_within}
 use Rattle.circuit_model.specs.Log.{Entry, Log}
 use Rattle.circuit_model.specs.declared.places.Phase.TheVariants.{Free}
 use Rattle.circuit_model.specs.Places.{Place, places, place_of, phase}
-use Rattle.stream_edge.specs.declared.held.Held.{Held}
+use Rattle.stream_edge.specs.declared.placed_stream.PlacedStream.{PlacedStream}
 use Rattle.stream_edge.specs.PlacesState.{PlacesState, held_at, with_held}
 use Rattle.stream_edge.proofs.Holding.{held_there, held_elsewhere}
 use Rattle.circ_relay.specs.PlacesOfLog.{IsOfLog, IsHeld, IsSilent, ArePlaces}
@@ -18,7 +18,7 @@ pub silent_entry_leaves_places : (state new : PlacesState) (log : Log) (entry : 
     ((serial : ℕ) → IsSilent entry serial) → ArePlaces state log → ArePlaces new (entry ∷ log)
 silent_entry_leaves_places state new log entry held next none silent are =
     let same : (place : ℕ) → held_at new place ≡ held_at state place =
-    λ place. ap (λ (xs : List (Option Held)). get_or xs place None) held in
+    λ place. ap (λ (xs : List (Option PlacedStream)). get_or xs place None) held in
     let count : length (places (entry ∷ log)) ≡ length (places log) =
     ap (λ (xs : List Place). length xs) (places_stay entry log none) in
     record {
@@ -34,12 +34,12 @@ silent_entry_leaves_places state new log entry held next none silent are =
 
 -- One place changes: to another stream with the same serial, or to none where the log has freed it.
 
-pub record IsChange (state : PlacesState) (log : Log) (entry : Entry) (place : ℕ) (g : Held) (holds : Option Held) : Type 0 where
+pub record IsChange (state : PlacesState) (log : Log) (entry : Entry) (place : ℕ) (g : PlacedStream) (holds : Option PlacedStream) : Type 0 where
   pub at : held_at state place ≡ Some g
   pub makes_none : place_of entry.effects.edge ≡ None
   pub silent : (serial : ℕ) → serial ≢ g.serial → IsSilent entry serial
-  pub fits : (h : Held) → holds ≡ Some h → (h.serial ≡ g.serial) × IsOfLog (entry ∷ log) h
-  pub lasts : phase (entry ∷ log) g.serial ≢ Free → (h : Held) × (holds ≡ Some h) × (h.serial ≡ g.serial)
+  pub fits : (h : PlacedStream) → holds ≡ Some h → (h.serial ≡ g.serial) × IsOfLog (entry ∷ log) h
+  pub lasts : phase (entry ∷ log) g.serial ≢ Free → (h : PlacedStream) × (holds ≡ Some h) × (h.serial ≡ g.serial)
   pub are : ArePlaces state log
 
 pub same_by : (a b : ℕ) → (a == b) ≡ true → a ≡ b
@@ -49,10 +49,10 @@ pub apart_by : (a b : ℕ) → (a == b) ≡ false → a ≢ b
 apart_by a b is same = grind arith
 
 -- What a place holds after the change, it held before with the same serial.
-before-by : (state : PlacesState) (log : Log) (entry : Entry) (place : ℕ) (g : Held) (holds : Option Held)
+before-by : (state : PlacesState) (log : Log) (entry : Entry) (place : ℕ) (g : PlacedStream) (holds : Option PlacedStream)
     → IsChange state log entry place g holds →
-    (other : ℕ) (h : Held) → held_at (with_held state place holds) other ≡ Some h → (b : Bool) → (other == place) ≡ b →
-    (x : Held) × (held_at state other ≡ Some x) × (x.serial ≡ h.serial)
+    (other : ℕ) (h : PlacedStream) → held_at (with_held state place holds) other ≡ Some h → (b : Bool) → (other == place) ≡ b →
+    (x : PlacedStream) × (held_at state other ≡ Some x) × (x.serial ≡ h.serial)
 before-by state log entry place g holds change other h is true same =
     let there : other ≡ place = same_by other place same in
     let fits =
@@ -61,16 +61,16 @@ before-by state log entry place g holds change other h is true same =
 before-by state log entry place g holds change other h is false same =
     (h, sym (held_elsewhere state place other holds (apart_by other place same)) ∙ is, refl)
 
-before : (state : PlacesState) (log : Log) (entry : Entry) (place : ℕ) (g : Held) (holds : Option Held)
+before : (state : PlacesState) (log : Log) (entry : Entry) (place : ℕ) (g : PlacedStream) (holds : Option PlacedStream)
     → IsChange state log entry place g holds →
-    (other : ℕ) (h : Held) → held_at (with_held state place holds) other ≡ Some h →
-    (x : Held) × (held_at state other ≡ Some x) × (x.serial ≡ h.serial)
+    (other : ℕ) (h : PlacedStream) → held_at (with_held state place holds) other ≡ Some h →
+    (x : PlacedStream) × (held_at state other ≡ Some x) × (x.serial ≡ h.serial)
 before state log entry place g holds change other h is =
     before-by state log entry place g holds change other h is (other == place) refl
 
-streams-by : (state : PlacesState) (log : Log) (entry : Entry) (place : ℕ) (g : Held) (holds : Option Held)
+streams-by : (state : PlacesState) (log : Log) (entry : Entry) (place : ℕ) (g : PlacedStream) (holds : Option PlacedStream)
     → IsChange state log entry place g holds →
-    (other : ℕ) (h : Held) → held_at (with_held state place holds) other ≡ Some h → (b : Bool) → (other == place) ≡ b
+    (other : ℕ) (h : PlacedStream) → held_at (with_held state place holds) other ≡ Some h → (b : Bool) → (other == place) ≡ b
     → IsOfLog (entry ∷ log) h
 streams-by state log entry place g holds change other h is true same =
     let there : other ≡ place = same_by other place same in
@@ -82,7 +82,7 @@ streams-by state log entry place g holds change other h is false same =
     (change.silent h.serial (λ equal. apart (change.are.once other place h g old change.at equal)))
     (change.are.streams other h old)
 
-whole-by : (state : PlacesState) (log : Log) (entry : Entry) (place : ℕ) (g : Held) (holds : Option Held)
+whole-by : (state : PlacesState) (log : Log) (entry : Entry) (place : ℕ) (g : PlacedStream) (holds : Option PlacedStream)
     → IsChange state log entry place g holds →
     (serial : ℕ) → serial < length (places log) → phase (entry ∷ log) serial ≢ Free → (b : Bool) → (serial == g.serial) ≡ b
     → IsHeld (with_held state place holds) serial
@@ -95,10 +95,10 @@ whole-by state log entry place g holds change serial below lasts false same =
     let old : IsHeld state serial =
     change.are.whole serial below (λ free. lasts (silent_phase entry log serial (change.silent serial apart) ∙ free)) in
     let elsewhere : old.place ≢ place =
-    λ there. apart (sym old.named ∙ ap (λ (x : Held). x.serial) (same_some old.stream g (sym old.holds ∙ ap (λ p. held_at state p) there ∙ change.at))) in
+    λ there. apart (sym old.named ∙ ap (λ (x : PlacedStream). x.serial) (same_some old.stream g (sym old.holds ∙ ap (λ p. held_at state p) there ∙ change.at))) in
     record { place = old.place; stream = old.stream; holds = held_elsewhere state place old.place holds elsewhere ∙ old.holds; named = old.named }
 
-pub one_place_changes : (state : PlacesState) (log : Log) (entry : Entry) (place : ℕ) (g : Held) (holds : Option Held) →
+pub one_place_changes : (state : PlacesState) (log : Log) (entry : Entry) (place : ℕ) (g : PlacedStream) (holds : Option PlacedStream) →
     IsChange state log entry place g holds → ArePlaces (with_held state place holds) (entry ∷ log)
 one_place_changes state log entry place g holds change =
     let are : ArePlaces state log = change.are in
@@ -120,7 +120,7 @@ one_place_changes state log entry place g holds change =
     }
 
 -- The place holds the stream as it has become.
-pub stream_changes : (state : PlacesState) (log : Log) (entry : Entry) (place : ℕ) (g h : Held) →
+pub stream_changes : (state : PlacesState) (log : Log) (entry : Entry) (place : ℕ) (g h : PlacedStream) →
     held_at state place ≡ Some g → place_of entry.effects.edge ≡ None
     → ((serial : ℕ) → serial ≢ g.serial → IsSilent entry serial) →
     h.serial ≡ g.serial → IsOfLog (entry ∷ log) h → ArePlaces state log → ArePlaces (with_held state place (Some h)) (entry ∷ log)
@@ -134,11 +134,11 @@ stream_changes state log entry place g h at none silent named becomes are =
       are = are;
     })
 
-pub none-held : (h : Held) → ◌≡◌ {A = Option Held} None (Some h) → ⊥
+pub none-held : (h : PlacedStream) → ◌≡◌ {A = Option PlacedStream} None (Some h) → ⊥
 none-held h is = cc
 
 -- The place holds nothing.
-pub stream_goes : (state : PlacesState) (log : Log) (entry : Entry) (place : ℕ) (g : Held) →
+pub stream_goes : (state : PlacesState) (log : Log) (entry : Entry) (place : ℕ) (g : PlacedStream) →
     held_at state place ≡ Some g → place_of entry.effects.edge ≡ None
     → ((serial : ℕ) → serial ≢ g.serial → IsSilent entry serial) →
     phase (entry ∷ log) g.serial ≡ Free → ArePlaces state log → ArePlaces (with_held state place None) (entry ∷ log)
@@ -157,7 +157,7 @@ pub calls_say_nothing : (state new : PlacesState) (log : Log) → new.streams �
     → ArePlaces state log → ArePlaces new log
 calls_say_nothing state new log held next are =
     let same : (place : ℕ) → held_at new place ≡ held_at state place =
-    λ place. ap (λ (xs : List (Option Held)). get_or xs place None) held in
+    λ place. ap (λ (xs : List (Option PlacedStream)). get_or xs place None) held in
     record {
       next = next ∙ are.next;
       streams = λ place h holds. are.streams place h (sym (same place) ∙ holds);

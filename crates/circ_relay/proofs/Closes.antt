@@ -9,8 +9,8 @@ use Rattle.circuit_model.specs.Places.{Place, place_of, place_at, connects, free
 use Rattle.circuit_model.specs.Windows.{is_data_of, is_accepted, has_place, carries, drains}
 use Rattle.circuit_model.specs.Effects.{open_effects, effects_after}
 use Rattle.circuit_model.specs.Words.{entry_after}
-use Rattle.stream_edge.specs.declared.held.Held.{Held}
-use Rattle.stream_edge.specs.declared.held.Phase.TheVariants.{Ending as held_ending}
+use Rattle.stream_edge.specs.declared.placed_stream.PlacedStream.{PlacedStream}
+use Rattle.stream_edge.specs.declared.placed_stream.Phase.TheVariants.{Ending as held_ending}
 use Rattle.stream_edge.specs.PlacesState.{PlacesState, held_at, with_held}
 use Rattle.circ_relay.specs.PlacesOfLog.{IsOfLog, ArePlaces}
 use Rattle.circ_relay.proofs.Telling.{place_stays, phase_ending, packaged_stays, sendmes_stay, carried_stays, drained_stays, no_message_credits}
@@ -26,7 +26,7 @@ pub record IsClosing (entry : Entry) (key : StreamKey) (reason : ℕ) : Type 0 w
   pub packs : (serial : ℕ) → is_data_of serial entry.event ≡ false
   pub drains : (serial : ℕ) → drains serial entry.event ≡ false
 
-pub order_closes : (state : PlacesState) (log : Log) (entry : Entry) (place : ℕ) (h : Held) (key : StreamKey) (reason : ℕ) →
+pub order_closes : (state : PlacesState) (log : Log) (entry : Entry) (place : ℕ) (h : PlacedStream) (key : StreamKey) (reason : ℕ) →
     ArePlaces state log → held_at state place ≡ Some h → key.serial ≡ h.serial → IsClosing entry key reason →
     ArePlaces (with_held state place (Some (record h { phase = held_ending }))) (entry ∷ log)
 order_closes state log entry place h key reason are at named closing =
@@ -35,7 +35,7 @@ order_closes state log entry place h key reason are at named closing =
     λ serial. ap (closes_place serial) closing.order in
     let carries_none : (serial : ℕ) → carries serial entry.effects.edge ≡ false = λ serial. ap (carries serial) closing.order in
     let is : IsOfLog log h = are.streams place h at in
-    let ended : Held = record h { phase = held_ending } in
+    let ended : PlacedStream = record h { phase = held_ending } in
     let becomes : IsOfLog (entry ∷ log) ended = record {
       place = is.place;
       found = place_stays entry log h.serial makes_none ∙ is.found;
@@ -67,7 +67,7 @@ ended-orders : (rules : Rules) (log : Log) (serial reason : ℕ) (place : Place)
 unfolding open_effects
 ended-orders rules log serial reason place live found = rw (live, found) refl
 
-pub ended_ends : (state : PlacesState) (rules : Rules) (log : Log) (place : ℕ) (h : Held) (reason : ℕ) →
+pub ended_ends : (state : PlacesState) (rules : Rules) (log : Log) (place : ℕ) (h : PlacedStream) (reason : ℕ) →
     ArePlaces state log → is_closed log ≡ false → held_at state place ≡ Some h →
     ArePlaces (with_held state place (Some (record h { phase = held_ending }))) (entry_after rules log (Ended h.serial reason) ∷ log)
 ended_ends state rules log place h reason are live at =

@@ -2,7 +2,7 @@
 use Rattle.std.proofs.Common.{◌≡◌, ℕ, ◌+◌, [], ◌∷◌, ◌++◌, List, Bool, true, false, Option, Some, None, if◌then◌else◌, map, length, refl, ap, ◌∙◌, length-append}
 use Rattle.std.proofs.lemmas.List.{map-append, append-nil}
 use Rattle.circuit_model.specs.Log.{Log, pushed}
-use Rattle.circuit_model.specs.Packaged.{packaged_by, own}
+use Rattle.circuit_model.specs.Packaged.{packaged_by, own_bodies}
 use Rattle.circuit_model.specs.Windows.{is_data_body, packs_data, circuit_packaged}
 use Rattle.circ_relay.specs.WindowOfLog.{up_to_each_data}
 
@@ -53,8 +53,8 @@ count_pushed bodies (Some body) =
     ap length (one_more_body bodies body) ∙ counted (is_data_body (Some body)) (bodies ++ body ∷ []) (up_to_each_data bodies)
 
 -- There are as many as the circuit packaged DATA.
-pub count_packaged : (log : Log) → length (up_to_each_data (own log)) ≡ circuit_packaged log
+pub count_packaged : (log : Log) → length (up_to_each_data (own_bodies log)) ≡ circuit_packaged log
 count_packaged [] = refl
 count_packaged (entry ∷ log) =
-    count_pushed (own log) (packaged_by entry.event entry.effects.back)
+    count_pushed (own_bodies log) (packaged_by entry.event entry.effects.back)
     ∙ ap (λ n. if packs_data entry then n + 1 else n) (count_packaged log)

@@ -6,10 +6,10 @@ use Rattle.tor_spec.specs.CircuitWindow.{after_accepting, is_sendme_due}
 use Rattle.tor_spec.specs.Sendme.{sendme_payload}
 use Rattle.circuit_model.specs.Packaged.{packaging}
 use Rattle.circuit_model.specs.Streams.{acknowledging, data_at, data_effects}
-use Rattle.circuit_model.specs.Windows.{accepted_data, carried, accept_grant}
+use Rattle.circuit_model.specs.Windows.{accepted_data, carried_count, accept_grant}
 use Rattle.circ_relay.proofs.WindowMoves.{due_by_log}
 use Rattle.stream_edge.specs.PlacesState.{PlacesState, held_at, with_held}
-use Rattle.stream_edge.specs.declared.held.Held.{Held}
+use Rattle.stream_edge.specs.declared.placed_stream.PlacedStream.{PlacedStream}
 use Rattle.circuit_model.specs.declared.event.Event.TheVariants.{Forward}
 use Rattle.circuit_model.specs.Rules.{Rules}
 use Rattle.circuit_model.specs.Log.{Log, Message, Effects, no_effects, closing}
@@ -113,23 +113,23 @@ overrun_by : (may : Bool) (answer : AcceptAnswer) → answer ≡ (if may then Ac
 overrun_by false answer by is = refl
 overrun_by true answer by is = (let never : ◌≡◌ {A = AcceptAnswer} AcceptAnswer.Accepted AcceptAnswer.Overrun = sym by ∙ is in cc)
 
-pub overrun_does : (s : PlacesState) (log : Log) (m : Message) (place : ℕ) (h : Held) (answer : AcceptAnswer) → ArePlaces s log
+pub overrun_does : (s : PlacesState) (log : Log) (m : Message) (place : ℕ) (h : PlacedStream) (answer : AcceptAnswer) → ArePlaces s log
     → held_at s place ≡ Some h → m.place ≡ Some h.serial
     → answer ≡ (if may_accept h then AcceptAnswer.Accepted else AcceptAnswer.Overrun) → answer ≡ AcceptAnswer.Overrun
     → data_effects log m ≡ closing 1
 overrun_does s log m place h answer are holds named by is =
-    let test : nat_le (accept_grant log h.serial) (carried log h.serial) ≡ true =
-    unnot (nat_le (accept_grant log h.serial) (carried log h.serial)) (sym (may_accept_by_the_log s log place h are holds) ∙ overrun_by (may_accept h) answer by is) in
+    let test : nat_le (accept_grant log h.serial) (carried_count log h.serial) ≡ true =
+    unnot (nat_le (accept_grant log h.serial) (carried_count log h.serial)) (sym (may_accept_by_the_log s log place h are holds) ∙ overrun_by (may_accept h) answer by is) in
     ap (λ p. data_at log m p) named
     ∙ ap (λ (b : Bool). if b then closing 1 else record (acknowledging log m) { edge = Some (Carry (record { stream = m.stream; serial = h.serial }) m.payload) }) test
 
-pub accepted_does : (s : PlacesState) (log : Log) (m : Message) (place : ℕ) (h : Held) (answer : AcceptAnswer) → ArePlaces s log
+pub accepted_does : (s : PlacesState) (log : Log) (m : Message) (place : ℕ) (h : PlacedStream) (answer : AcceptAnswer) → ArePlaces s log
     → held_at s place ≡ Some h → m.place ≡ Some h.serial
     → answer ≡ (if may_accept h then AcceptAnswer.Accepted else AcceptAnswer.Overrun) → answer ≡ AcceptAnswer.Accepted
     → data_effects log m ≡ record (acknowledging log m) { edge = Some (Carry (record { stream = m.stream; serial = h.serial }) m.payload) }
 accepted_does s log m place h answer are holds named by is =
-    let test : nat_le (accept_grant log h.serial) (carried log h.serial) ≡ false =
-    not-true (nat_le (accept_grant log h.serial) (carried log h.serial)) (sym (may_accept_by_the_log s log place h are holds) ∙ accepted_by (may_accept h) answer by is) in
+    let test : nat_le (accept_grant log h.serial) (carried_count log h.serial) ≡ false =
+    not-true (nat_le (accept_grant log h.serial) (carried_count log h.serial)) (sym (may_accept_by_the_log s log place h are holds) ∙ accepted_by (may_accept h) answer by is) in
     ap (λ p. data_at log m p) named
     ∙ ap (λ (b : Bool). if b then closing 1 else record (acknowledging log m) { edge = Some (Carry (record { stream = m.stream; serial = h.serial }) m.payload) }) test
 
@@ -141,11 +141,11 @@ carried_effects outcome acknowledged key bytes stream payload m serial is named 
     ap (λ (e : Effects). record e { edge = Some (Carry (key_of key) bytes.items) }) is
     ∙ rw (named, carried_, streamed, paid) refl
 
-accepted_serial : (h : Held) (may : Bool) → h.serial ≡ (if may then record h { accepted = h.accepted + 1 } else h).serial
+accepted_serial : (h : PlacedStream) (may : Bool) → h.serial ≡ (if may then record h { accepted = h.accepted + 1 } else h).serial
 accepted_serial h true = refl
 accepted_serial h false = refl
 
-pub accepted_parts : (c d : Circuit) (new : PlacesState) (message : CodeMessage) (rules : Rules) (log : Log) (command : ℕ) (body : List ℕ) (m : Message) (place : ℕ) (h : Held) (answer : AcceptAnswer)
+pub accepted_parts : (c d : Circuit) (new : PlacesState) (message : CodeMessage) (rules : Rules) (log : Log) (command : ℕ) (body : List ℕ) (m : Message) (place : ℕ) (h : PlacedStream) (answer : AcceptAnswer)
     → IsBrought message log command body m → HasParts c log → m.command ≡ data_command → m.place ≡ Some h.serial
     → held_at c.places place ≡ Some h
     → answer ≡ (if may_accept h then AcceptAnswer.Accepted else AcceptAnswer.Overrun) → answer ≡ AcceptAnswer.Accepted

@@ -13,12 +13,12 @@ use Rattle.circuit_model.specs.Log.{Entry, Log, Message, Effects, StreamKey, no_
 use Rattle.circuit_model.specs.declared.effects.Order.TheVariants.{Reach, Carry, Close}
 use Rattle.circuit_model.specs.Places.{Place, places, place_at, place_of, taken_places}
 use Rattle.circuit_model.specs.Packaged.{packaging}
-use Rattle.circuit_model.specs.Windows.{carried, drained, accept_grant as log_accept_grant}
+use Rattle.circuit_model.specs.Windows.{carried_count, drained_count, accept_grant as log_accept_grant}
 use Rattle.circuit_model.specs.Received.{message_at}
 use Rattle.circuit_model.specs.Streams.{place_limit, time_to_live, ending, beginning, acknowledging, data_at, drained_effects, ended_effects, connected_effects, edge_data_effects}
 use Rattle.circuit_model.specs.Effects.{message_effects, open_effects, effects_after}
 use Rattle.circuit_model.proofs.Reading.{read-effects}
-use Rattle.stream_edge.specs.declared.held.Held.{Held}
+use Rattle.stream_edge.specs.declared.placed_stream.PlacedStream.{PlacedStream}
 use Rattle.stream_edge.specs.PlacesState.{PlacesState, held_at}
 use Rattle.stream_edge.specs.Streams.{is_free, may_accept, may_credit, may_drain, sendme_due}
 use Rattle.circ_relay.specs.PlacesOfLog.{stream_key, IsOfLog, ArePlaces, AreNamed}
@@ -35,7 +35,7 @@ pub when_open : (closed : Bool) (x : Effects) → closed ≡ false → (if close
 when_open true x live = cc
 when_open false x live = refl
 
-pub connected_does : (state : PlacesState) (rules : Rules) (log : Log) (place : ℕ) (h : Held) (p : Place) → ArePlaces state log
+pub connected_does : (state : PlacesState) (rules : Rules) (log : Log) (place : ℕ) (h : PlacedStream) (p : Place) → ArePlaces state log
     → is_closed log ≡ false →
     held_at state place ≡ Some h → place_at log h.serial ≡ Some p →
     effects_after rules log (Connected h.serial) ≡ packaging log connected_command h.stream (connected_payload p.to.ip time_to_live)
@@ -48,7 +48,7 @@ connected_does state rules log place h p are live at found =
     ∙ ap (connected_effects log) found
     ∙ ap (λ (k : StreamKey). packaging log connected_command k.stream (connected_payload p.to.ip time_to_live)) key
 
-pub bytes_do : (state : PlacesState) (rules : Rules) (log : Log) (place : ℕ) (h : Held) (bytes : List ℕ) → ArePlaces state log
+pub bytes_do : (state : PlacesState) (rules : Rules) (log : Log) (place : ℕ) (h : PlacedStream) (bytes : List ℕ) → ArePlaces state log
     → is_closed log ≡ false →
     held_at state place ≡ Some h → effects_after rules log (Data h.serial bytes) ≡ packaging log data_command h.stream bytes
 unfolding open_effects
@@ -58,7 +58,7 @@ bytes_do state rules log place h bytes are live at =
     ∙ ap (edge_data_effects log bytes) is.found
     ∙ ap (λ (k : StreamKey). packaging log data_command k.stream bytes) is.key
 
-pub ended_does : (state : PlacesState) (rules : Rules) (log : Log) (place : ℕ) (h : Held) (reason : ℕ) → ArePlaces state log
+pub ended_does : (state : PlacesState) (rules : Rules) (log : Log) (place : ℕ) (h : PlacedStream) (reason : ℕ) → ArePlaces state log
     → is_closed log ≡ false →
     held_at state place ≡ Some h
     → effects_after rules log (Ended h.serial reason) ≡ record (ending log h.stream reason) { edge = Some (Close (stream_key h) reason) }
@@ -73,10 +73,10 @@ due-by : (may due other : Bool) → ◌≡◌ {A = Option Bool} (if may then Som
 due-by true due other is = same_some due other is
 due-by false due other is = cc
 
-due-is : (h : Held) (due : Bool) → sendme_due h ≡ Some due → ((h.drained + 1) % 50 == 0) ≡ due
+due-is : (h : PlacedStream) (due : Bool) → sendme_due h ≡ Some due → ((h.drained + 1) % 50 == 0) ≡ due
 due-is h due is = due-by (may_drain h) ((h.drained + 1) % 50 == 0) due is
 
-pub drained_does : (state : PlacesState) (rules : Rules) (log : Log) (place : ℕ) (h : Held) (due : Bool) → ArePlaces state log
+pub drained_does : (state : PlacesState) (rules : Rules) (log : Log) (place : ℕ) (h : PlacedStream) (due : Bool) → ArePlaces state log
     → is_closed log ≡ false →
     held_at state place ≡ Some h → sendme_due h ≡ Some due →
     effects_after rules log (Drained h.serial) ≡ (if due then packaging log sendme_command h.stream [] else no_effects)
@@ -85,7 +85,7 @@ drained_does state rules log place h due are live at is_due =
     let is : IsOfLog log h = are.streams place h at in
     when_open (is_closed log) (drained_effects log (place_at log h.serial)) live
     ∙ ap (drained_effects log) is.found
-    ∙ ap (λ (k : StreamKey). if ((drained log k.serial + 1) % 50) == 0 then packaging log sendme_command k.stream [] else no_effects) is.key
+    ∙ ap (λ (k : StreamKey). if ((drained_count log k.serial + 1) % 50) == 0 then packaging log sendme_command k.stream [] else no_effects) is.key
     ∙ ap (λ n. if ((n + 1) % 50) == 0 then packaging log sendme_command h.stream [] else no_effects) (sym is.drained)
     ∙ ap (λ (b : Bool). if b then packaging log sendme_command h.stream [] else no_effects) (due-is h due is_due)
 
@@ -104,29 +104,29 @@ not-not false true true is same = cc
 not-not false true false is same = refl
 not-not false false c is same = cc
 
-data-carries : (log : Log) (m : Message) (serial : ℕ) → nat_le (log_accept_grant log serial) (carried log serial) ≡ false →
+data-carries : (log : Log) (m : Message) (serial : ℕ) → nat_le (log_accept_grant log serial) (carried_count log serial) ≡ false →
     data_at log m (Some serial) ≡ record (acknowledging log m) { edge = Some (Carry (record { stream = m.stream; serial = serial }) m.payload) }
 data-carries log m serial room = rw room refl
 
-pub data_does : (state : PlacesState) (rules : Rules) (log : Log) (e : Event) (m : Message) (place : ℕ) (h : Held)
+pub data_does : (state : PlacesState) (rules : Rules) (log : Log) (e : Event) (m : Message) (place : ℕ) (h : PlacedStream)
     → ArePlaces state log →
     message_at log e ≡ Some m → m.command ≡ data_command → m.place ≡ Some h.serial → held_at state place ≡ Some h
     → may_accept h ≡ true →
     effects_after rules log e ≡ record (acknowledging log m) { edge = Some (Carry (record { stream = m.stream; serial = h.serial }) m.payload) }
 data_does state rules log e m place h are found command named at may =
     read-effects rules log e m found ∙ data-does rules log m h.serial command named
-    ∙ data-carries log m h.serial (not-not (may_accept h) (nat_le (log_accept_grant log h.serial) (carried log h.serial)) true (may_accept_by_the_log state log place h are at) may)
+    ∙ data-carries log m h.serial (not-not (may_accept h) (nat_le (log_accept_grant log h.serial) (carried_count log h.serial)) true (may_accept_by_the_log state log place h are at) may)
 
-pub overrun_does : (state : PlacesState) (rules : Rules) (log : Log) (e : Event) (m : Message) (place : ℕ) (h : Held)
+pub overrun_does : (state : PlacesState) (rules : Rules) (log : Log) (e : Event) (m : Message) (place : ℕ) (h : PlacedStream)
     → ArePlaces state log →
     message_at log e ≡ Some m → m.command ≡ data_command → m.place ≡ Some h.serial → held_at state place ≡ Some h
     → may_accept h ≡ false →
     effects_after rules log e ≡ closing 1
 overrun_does state rules log e m place h are found command named at may =
     read-effects rules log e m found ∙ data-does rules log m h.serial command named
-    ∙ data-overrun log m h.serial (not-not (may_accept h) (nat_le (log_accept_grant log h.serial) (carried log h.serial)) false (may_accept_by_the_log state log place h are at) may)
+    ∙ data-overrun log m h.serial (not-not (may_accept h) (nat_le (log_accept_grant log h.serial) (carried_count log h.serial)) false (may_accept_by_the_log state log place h are at) may)
 
-pub sendme_does : (state : PlacesState) (rules : Rules) (log : Log) (e : Event) (m : Message) (place : ℕ) (h : Held)
+pub sendme_does : (state : PlacesState) (rules : Rules) (log : Log) (e : Event) (m : Message) (place : ℕ) (h : PlacedStream)
     → ArePlaces state log →
     message_at log e ≡ Some m → m.command ≡ sendme_command → 0 < m.stream → m.place ≡ Some h.serial
     → held_at state place ≡ Some h → may_credit h ≡ true →
@@ -136,7 +136,7 @@ sendme_does state rules log e m place h are found command stream named at may =
     read-effects rules log e m found ∙ sendme-does rules log m h.serial command nonzero named
     ∙ sendme-raises log h.serial (not-not (may_credit h) (too_much log h.serial) true (may_credit_by_the_log state log place h are at) may)
 
-pub too_much_does : (state : PlacesState) (rules : Rules) (log : Log) (e : Event) (m : Message) (place : ℕ) (h : Held)
+pub too_much_does : (state : PlacesState) (rules : Rules) (log : Log) (e : Event) (m : Message) (place : ℕ) (h : PlacedStream)
     → ArePlaces state log →
     message_at log e ≡ Some m → m.command ≡ sendme_command → 0 < m.stream → m.place ≡ Some h.serial
     → held_at state place ≡ Some h → may_credit h ≡ false →

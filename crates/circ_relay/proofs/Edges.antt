@@ -6,8 +6,8 @@ use Rattle.tor_spec.specs.Connected.{connected_payload}
 use Rattle.tor_spec.specs.RelayCell.{relay_body, connected_command, end_command}
 use Rattle.tor_spec.specs.Extend.{Address}
 use Rattle.sendme_windows.specs.WindowsState.{HasCountsOf}
-use Rattle.stream_edge.specs.declared.held.Held.{Held}
-use Rattle.stream_edge.specs.declared.held.Phase.TheVariants.{Reaching, Joined, Ending}
+use Rattle.stream_edge.specs.declared.placed_stream.PlacedStream.{PlacedStream}
+use Rattle.stream_edge.specs.declared.placed_stream.Phase.TheVariants.{Reaching, Joined, Ending}
 use Rattle.stream_edge.specs.PlacesState.{held_at, with_held}
 use Rattle.stream_edge.specs.Streams.{is_stream}
 use Rattle.circuit_model.specs.Events.{Event}
@@ -38,13 +38,13 @@ use Rattle.circ_relay.proofs.Closes.{ended_ends}
 
 -- The stream that a name finds.
 
-pub named : (c : Circuit) (key : StreamKey) (place : ℕ) (stream : Held) → IsAt c key place stream
+pub named : (c : Circuit) (key : StreamKey) (place : ℕ) (stream : PlacedStream) → IsAt c key place stream
     → (stream.stream ≡ key.id) × (stream.serial ≡ key.serial)
 named c key place stream at =
     has_name stream key.id key.serial (ap (is_stream key.id key.serial) (sym at.held) ∙ passes c key place at.first)
 
 -- The place at which it is found.
-pub at_found : (c : Circuit) (key : StreamKey) (place found : ℕ) (stream : Held) → IsAt c key place stream
+pub at_found : (c : Circuit) (key : StreamKey) (place found : ℕ) (stream : PlacedStream) → IsAt c key place stream
     → position (is_stream key.id key.serial) c.places.streams ≡ Some found → IsAt c key found stream
 at_found c key place found stream at first = record {
   first = first;
@@ -52,7 +52,7 @@ at_found c key place found stream at first = record {
 }
 
 -- Its name in the log is that of its key.
-name_is : (c : Circuit) (key : StreamKey) (place : ℕ) (stream : Held) → IsAt c key place stream → stream_key stream ≡ key_of key
+name_is : (c : Circuit) (key : StreamKey) (place : ℕ) (stream : PlacedStream) → IsAt c key place stream → stream_key stream ≡ key_of key
 name_is c key place stream at =
     let names = named c key place stream at in
     (λ i. record { stream = names.0 i; serial = names.1 i })
@@ -101,17 +101,17 @@ packager_after_report state rules log e x is next =
 
 -- A report that leaves the window.
 
-pub record IsReported (c new : Circuit) (rules : Rules) (h : List Event) (e : Event) (x : Effects) (place : ℕ) (g : Held) (holds : Option Held) : Type 0 where
+pub record IsReported (c new : Circuit) (rules : Rules) (h : List Event) (e : Event) (x : Effects) (place : ℕ) (g : PlacedStream) (holds : Option PlacedStream) : Type 0 where
   pub before : IsCircuit c rules h
   pub is : IsPlainReport rules (log rules h) e x
   pub at : held_at c.places place ≡ Some g
-  pub same : (y : Held) → holds ≡ Some y → y.serial ≡ g.serial
+  pub same : (y : PlacedStream) → holds ≡ Some y → y.serial ≡ g.serial
   pub rest : new ≡ record c { packager = new.packager; places = with_held c.places place holds }
   pub packager : IsPackager new.packager (log rules (e ∷ h))
   pub leaves : window_of (log rules (e ∷ h)) ≡ window_of (log rules h)
   pub places : ArePlaces (with_held c.places place holds) (log rules (e ∷ h))
 
-pub report_goes_on : (c new : Circuit) (rules : Rules) (h : List Event) (e : Event) (x : Effects) (place : ℕ) (g : Held) (holds : Option Held)
+pub report_goes_on : (c new : Circuit) (rules : Rules) (h : List Event) (e : Event) (x : Effects) (place : ℕ) (g : PlacedStream) (holds : Option PlacedStream)
     → IsReported c new rules h e x place g holds → IsCircuit new rules (e ∷ h)
 report_goes_on c new rules h e x place g holds r =
     let same_windows : new.windows ≡ c.windows = ap (λ (y : Circuit). y.windows) r.rest in
@@ -140,7 +140,7 @@ plain_nothing = record { dial = refl; cut = refl; makes_none = refl }
 
 -- Connected.
 
-pub connected_packs : (c : Circuit) (rules : Rules) (h : List Event) (key : StreamKey) (place : ℕ) (stream : Held) (none : Dest) (body : List ℕ)
+pub connected_packs : (c : Circuit) (rules : Rules) (h : List Event) (key : StreamKey) (place : ℕ) (stream : PlacedStream) (none : Dest) (body : List ℕ)
     → IsAt c key place stream
     → body ≡ relay_body connected_command key.id (connected_payload (slice_index_or c.addresses place none).ip 60)
     → IsCircuit c rules h → effects rules h (Connected key.serial) ≡ packs (log rules h) body
@@ -155,7 +155,7 @@ connected_packs c rules h key place stream none body at body_is is =
     ∙ ap (λ (a : Address). packs (log rules h) (relay_body connected_command key.id (connected_payload a.ip time_to_live))) to
     ∙ ap (packs (log rules h)) (sym body_is)
 
-pub connected_goes_on : (c new : Circuit) (rules : Rules) (h : List Event) (key : StreamKey) (place : ℕ) (stream : Held) (body : List ℕ)
+pub connected_goes_on : (c new : Circuit) (rules : Rules) (h : List Event) (key : StreamKey) (place : ℕ) (stream : PlacedStream) (body : List ℕ)
     → IsAt c key place stream → stream.phase ≡ Reaching
     → new ≡ record c { packager = new.packager; places = with_held c.places place (Some (record stream { phase = Joined })) }
     → (IsPackager c.packager (log rules h) → IsPackagedNext new.packager (log rules h) (Some (finished (log rules h) body)))
@@ -165,7 +165,7 @@ connected_goes_on c new rules h key place stream body at reaching rest next give
     let names = named c key place stream at in
     let report : IsPlainReport rules (log rules h) (Connected key.serial) (packs (log rules h) body) =
     record { report = refl; gives = gives; plain = plain_packs (log rules h) body; close = refl } in
-    let joined : Held = record stream { phase = Joined } in
+    let joined : PlacedStream = record stream { phase = Joined } in
     report_goes_on c new rules h (Connected key.serial) (packs (log rules h) body) place stream (Some joined) record {
       before = is;
       is = report;
@@ -185,7 +185,7 @@ connected_goes_on c new rules h key place stream body at reaching rest next give
 abbrev pub ends : Log → ModelKey → ℕ → List ℕ → Effects
 ends log key reason body = record (packs log body) { edge = Some (Close key reason) }
 
-pub ended_packs : (c : Circuit) (rules : Rules) (h : List Event) (key : StreamKey) (place : ℕ) (stream : Held) (reason : ℕ) (body : List ℕ)
+pub ended_packs : (c : Circuit) (rules : Rules) (h : List Event) (key : StreamKey) (place : ℕ) (stream : PlacedStream) (reason : ℕ) (body : List ℕ)
     → IsAt c key place stream → body ≡ relay_body end_command key.id (reason ∷ [])
     → IsCircuit c rules h → effects rules h (Ended key.serial reason) ≡ ends (log rules h) (key_of key) reason body
 ended_packs c rules h key place stream reason body at body_is is =
@@ -195,7 +195,7 @@ ended_packs c rules h key place stream reason body at body_is is =
     ∙ ap (λ (k : ModelKey). ends (log rules h) k reason (relay_body end_command k.stream (reason ∷ []))) (name_is c key place stream at)
     ∙ ap (ends (log rules h) (key_of key) reason) (sym body_is)
 
-pub ended_goes_on : (c new : Circuit) (rules : Rules) (h : List Event) (key : StreamKey) (place : ℕ) (stream : Held) (reason : ℕ) (body : List ℕ)
+pub ended_goes_on : (c new : Circuit) (rules : Rules) (h : List Event) (key : StreamKey) (place : ℕ) (stream : PlacedStream) (reason : ℕ) (body : List ℕ)
     → IsAt c key place stream
     → new ≡ record c { packager = new.packager; places = with_held c.places place (Some (record stream { phase = Ending })) }
     → (IsPackager c.packager (log rules h) → IsPackagedNext new.packager (log rules h) (Some (finished (log rules h) body)))
@@ -206,7 +206,7 @@ ended_goes_on c new rules h key place stream reason body at rest next gives is =
     let x : Effects = ends (log rules h) (key_of key) reason body in
     let report : IsPlainReport rules (log rules h) (Ended key.serial reason) x =
     record { report = refl; gives = gives; plain = record { dial = refl; cut = refl; makes_none = refl }; close = refl } in
-    let ended : Held = record stream { phase = Ending } in
+    let ended : PlacedStream = record stream { phase = Ending } in
     report_goes_on c new rules h (Ended key.serial reason) x place stream (Some ended) record {
       before = is;
       is = report;

@@ -1,9 +1,9 @@
 -- The parts of a circuit behind an END.
 use Rattle.std.proofs.Common.{◌≡◌, ℕ, ◌==◌, List, Some, None, refl, sym, ap, subst, ◌∙◌}
 use Rattle.tor_spec.specs.RelayCell.{begin_command, data_command, end_command, sendme_command}
-use Rattle.stream_edge.specs.declared.held.Phase.TheVariants.{Ending}
+use Rattle.stream_edge.specs.declared.placed_stream.Phase.TheVariants.{Ending}
 use Rattle.stream_edge.specs.PlacesState.{PlacesState, held_at, with_held}
-use Rattle.stream_edge.specs.declared.held.Held.{Held}
+use Rattle.stream_edge.specs.declared.placed_stream.PlacedStream.{PlacedStream}
 use Rattle.circuit_model.specs.declared.event.Event.TheVariants.{Forward}
 use Rattle.circuit_model.specs.Rules.{Rules}
 use Rattle.circuit_model.specs.Log.{Log, Message, Effects, no_effects, ordering}
@@ -25,7 +25,7 @@ use Rattle.circ_relay.proofs.AfterCells.{cell_parts}
 use Rattle.circ_relay.proofs.Longer.{none_packaged, KeepsStreams, changed_streams, same_held, stands_still}
 use Rattle.circ_relay.proofs.MessageKinds.{found, does, of_end, other_window, unmoved_parts, placeless_places}
 
-pub ended_effects : (outcome : CodeEffects) (key : CodeKey) (reason : ℕ) (stream : ℕ) (payload : List ℕ) (m : Message) (h : Held)
+pub ended_effects : (outcome : CodeEffects) (key : CodeKey) (reason : ℕ) (stream : ℕ) (payload : List ℕ) (m : Message) (h : PlacedStream)
     → effects_of outcome ≡ no_effects
     → key_of key ≡ record { stream = stream; serial = h.serial } → reason ≡ end_reason payload → stream ≡ m.stream
     → payload ≡ m.payload → m.place ≡ Some h.serial
@@ -41,7 +41,7 @@ end_does : (m : Message) (serial : ℕ) → m.place ≡ Some serial
     → end_effects m ≡ ordering (Close (record { stream = m.stream; serial = serial }) (end_reason m.payload))
 end_does m serial is = rw is refl
 
-pub ended_parts : (c : Circuit) (new : PlacesState) (message : CodeMessage) (rules : Rules) (log : Log) (command : ℕ) (body : List ℕ) (m : Message) (place : ℕ) (h : Held)
+pub ended_parts : (c : Circuit) (new : PlacesState) (message : CodeMessage) (rules : Rules) (log : Log) (command : ℕ) (body : List ℕ) (m : Message) (place : ℕ) (h : PlacedStream)
     → IsBrought message log command body m → HasParts c log → m.command ≡ end_command → m.place ≡ Some h.serial
     → held_at c.places place ≡ Some h
     → new ≡ with_held c.places place (Some (record h { phase = Ending }))

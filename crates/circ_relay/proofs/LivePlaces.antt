@@ -3,13 +3,13 @@ use Rattle.std.proofs.Common.{option_map, ◌≡◌, ◌≢◌, ℕ, ◌==◌, t
 use Rattle.std.specs.Prelude.{position, IfSome, IfNone}
 use Rattle.std.proofs.lemmas.List.Quantifiers.{position-Some}
 use Rattle.stream_edge.specs.declared.places.PlaceNo.{PlaceNo}
-use Rattle.stream_edge.specs.declared.held.Phase.{Phase as HeldPhase}
-use Rattle.stream_edge.specs.declared.held.Phase.TheVariants.{Reaching, Joined, Ending}
+use Rattle.stream_edge.specs.declared.placed_stream.Phase.{Phase as HeldPhase}
+use Rattle.stream_edge.specs.declared.placed_stream.Phase.TheVariants.{Reaching, Joined, Ending}
 use Rattle.stream_edge.specs.Streams.{is_live_as, is_live_phase}
 use Rattle.circuit_model.specs.Places.{live_place}
 use Rattle.circ_relay.proofs.Reading.{live_found, none_live}
 use Rattle.stream_edge.specs.PlacesState.{PlacesState, IsLive, held_at}
-use Rattle.stream_edge.specs.declared.held.Held.{Held}
+use Rattle.stream_edge.specs.declared.placed_stream.PlacedStream.{PlacedStream}
 use Rattle.circuit_model.specs.Log.{Log}
 use Rattle.circ_relay.specs.PlacesOfLog.{ArePlaces, AreNamed}
 use Rattle.circ_relay.proofs.Lists.{same_some}
@@ -21,7 +21,7 @@ not_ending Reaching is ending = cc
 not_ending Joined is ending = cc
 not_ending Ending is ending = cc
 
-held_live-by : (id : ℕ) (held : Option Held) → is_live_as id held ≡ true → (h : Held) × (held ≡ Some h) × (h.phase ≢ Ending)
+held_live-by : (id : ℕ) (held : Option PlacedStream) → is_live_as id held ≡ true → (h : PlacedStream) × (held ≡ Some h) × (h.phase ≢ Ending)
 held_live-by id None is = cc
 held_live-by id (Some h) is = (h, refl, not_ending h.phase (and-right (h.stream == id) (is_live_phase h.phase) is))
 
@@ -34,11 +34,11 @@ live_held s id (Some place) is =
 
 pub live_serial_of : (s : PlacesState) (id : ℕ) (found : Option PlaceNo)
     → option_map (λ place. place.0) found ≡ position (is_live_as id) s.streams
-    → IfSome found (λ place. (log : Log) (h : Held) → ArePlaces s log → AreNamed log → held_at s place.0 ≡ Some h → live_place log id ≡ Some h.serial)
+    → IfSome found (λ place. (log : Log) (h : PlacedStream) → ArePlaces s log → AreNamed log → held_at s place.0 ≡ Some h → live_place log id ≡ Some h.serial)
 live_serial_of s id None is = tt
 live_serial_of s id (Some place) is = λ log h are named holds.
     let first = live_found s log id place.0 are named (sym is) in
-    first.4 ∙ ap (λ (k : Held). Some k.serial) (same_some first.0 h (sym first.1 ∙ holds))
+    first.4 ∙ ap (λ (k : PlacedStream). Some k.serial) (same_some first.0 h (sym first.1 ∙ holds))
 
 pub none_live_of : (s : PlacesState) (id : ℕ) (found : Option PlaceNo)
     → option_map (λ place. place.0) found ≡ position (is_live_as id) s.streams

@@ -3,7 +3,7 @@ use Rattle.std.proofs.Common.{◌≡◌, ℕ, ◌+◌, ◌==◌, ◌||◌, List,
 use Rattle.std.specs.Option.{unwrap_or, option_or}
 use Rattle.tr_io.specs.declared.names.Dest.{Dest}
 use Rattle.sendme_windows.specs.WindowsState.{KeepsLimits, HasCountsOf, WindowsState}
-use Rattle.stream_edge.specs.declared.held.Held.{Held}
+use Rattle.stream_edge.specs.declared.placed_stream.PlacedStream.{PlacedStream}
 use Rattle.stream_edge.specs.PlacesState.{PlacesState, held_at, with_held}
 use Rattle.stream_edge.proofs.Holding.{held_there, held_elsewhere}
 use Rattle.circuit_model.specs.Events.{Event}
@@ -11,7 +11,7 @@ use Rattle.circuit_model.specs.declared.event.Event.TheVariants.{Born, Forward, 
 use Rattle.circuit_model.specs.Rules.{Rules}
 use Rattle.circuit_model.specs.Log.{Entry, Log, Effects, is_closed, newest, pushed}
 use Rattle.circuit_model.specs.Opened.{born_pad, keys_in, pad_in}
-use Rattle.circuit_model.specs.Packaged.{packaged_by, own}
+use Rattle.circuit_model.specs.Packaged.{packaged_by, own_bodies}
 use Rattle.circuit_model.specs.Extending.{accepted_request, linked_effects, creating}
 use Rattle.circuit_model.specs.declared.next_hop.NextHop.{NextHop}
 use Rattle.circuit_model.specs.declared.next_hop.NextHop.TheVariants.{Absent}
@@ -75,7 +75,7 @@ same_circuit entry log opens_none = record {
 pub packager_after : (state : PackagerState) (entry : Entry) (log : Log) (back : Option (List ℕ)) → keys_in entry.event ≡ None
     → packaged_by entry.event entry.effects.back ≡ back → IsPackagedNext state log back → IsPackager state (entry ∷ log)
 packager_after state entry log back opens_none packs next =
-    next (entry ∷ log) (ap (pushed (own log)) packs) (same_circuit entry log opens_none)
+    next (entry ∷ log) (ap (pushed (own_bodies log)) packs) (same_circuit entry log opens_none)
 
 pub none_packaged : (state : PackagerState) (log : Log) → IsPackager state log → IsPackagedNext state log None
 none_packaged state log is = λ longer more same. record {
@@ -92,16 +92,16 @@ stands_still windows log longer stands same = subst (λ w. HasCountsOf windows w
 -- Addresses stay where their streams stay.
 
 pub record KeepsStreams (old new : PlacesState) : Type 0 where
-  pub kept : (place : ℕ) (h : Held) → held_at new place ≡ Some h
-      → (g : Held) × (held_at old place ≡ Some g) × (g.serial ≡ h.serial)
+  pub kept : (place : ℕ) (h : PlacedStream) → held_at new place ≡ Some h
+      → (g : PlacedStream) × (held_at old place ≡ Some g) × (g.serial ≡ h.serial)
 
 pub same_streams : (s : PlacesState) → KeepsStreams s s
 same_streams s = record { kept = λ place h is. (h, is, refl) }
 
-changed_by : (s : PlacesState) (place : ℕ) (g : Held) (holds : Option Held) → held_at s place ≡ Some g
-    → ((h : Held) → holds ≡ Some h → h.serial ≡ g.serial)
-    → (other : ℕ) (k : Held) → (b : Bool) → (other == place) ≡ b
-    → held_at (with_held s place holds) other ≡ Some k → (j : Held) × (held_at s other ≡ Some j) × (j.serial ≡ k.serial)
+changed_by : (s : PlacesState) (place : ℕ) (g : PlacedStream) (holds : Option PlacedStream) → held_at s place ≡ Some g
+    → ((h : PlacedStream) → holds ≡ Some h → h.serial ≡ g.serial)
+    → (other : ℕ) (k : PlacedStream) → (b : Bool) → (other == place) ≡ b
+    → held_at (with_held s place holds) other ≡ Some k → (j : PlacedStream) × (held_at s other ≡ Some j) × (j.serial ≡ k.serial)
 changed_by s place g holds is same other k true at found =
     let spot : other ≡ place = same_by other place at in
     let there : held_at (with_held s place holds) other ≡ holds =
@@ -111,22 +111,22 @@ changed_by s place g holds is same other k false at found =
     (k, sym (held_elsewhere s place other holds (apart_by other place at)) ∙ found, refl)
 
 -- One place changes and keeps its serial, or holds nothing any more.
-pub changed_streams : (s : PlacesState) (place : ℕ) (g : Held) (holds : Option Held) → held_at s place ≡ Some g
-    → ((h : Held) → holds ≡ Some h → h.serial ≡ g.serial)
+pub changed_streams : (s : PlacesState) (place : ℕ) (g : PlacedStream) (holds : Option PlacedStream) → held_at s place ≡ Some g
+    → ((h : PlacedStream) → holds ≡ Some h → h.serial ≡ g.serial)
     → KeepsStreams s (with_held s place holds)
 changed_streams s place g holds is same =
     record { kept = λ other k found. changed_by s place g holds is same other k (other == place) refl found }
 
 -- The serial stays where a stream changes.
-pub same_held : (g : Held) (f : Held) → f.serial ≡ g.serial → (y : Held) → Some f ≡ Some y → y.serial ≡ g.serial
-same_held g f same y is = sym (ap (λ (z : Held). z.serial) (same_some f y is)) ∙ same
+pub same_held : (g : PlacedStream) (f : PlacedStream) → f.serial ≡ g.serial → (y : PlacedStream) → Some f ≡ Some y → y.serial ≡ g.serial
+same_held g f same y is = sym (ap (λ (z : PlacedStream). z.serial) (same_some f y is)) ∙ same
 
-pub none_held : (g y : Held) → ◌≡◌ {A = Option Held} None (Some y) → y.serial ≡ g.serial
+pub none_held : (g y : PlacedStream) → ◌≡◌ {A = Option PlacedStream} None (Some y) → y.serial ≡ g.serial
 none_held g y is = cc
 
-address-before : (old : PlacesState) (addresses : List Dest) (entry : Entry) (log : Log) (place : ℕ) (stream : Held) (to : Place) (none : Dest)
+address-before : (old : PlacesState) (addresses : List Dest) (entry : Entry) (log : Log) (place : ℕ) (stream : PlacedStream) (to : Place) (none : Dest)
     → place_of entry.effects.edge ≡ None
-    → AreAddresses addresses old log → (g : Held) × (held_at old place ≡ Some g) × (g.serial ≡ stream.serial)
+    → AreAddresses addresses old log → (g : PlacedStream) × (held_at old place ≡ Some g) × (g.serial ≡ stream.serial)
     → place_at (entry ∷ log) stream.serial ≡ Some to
     → to.to ≡ address_of (slice_index_or addresses place none)
 address-before old addresses entry log place stream to none makes_none are before at =
@@ -190,20 +190,20 @@ same_limits old new same =
 
 -- The circuit, where an event changes one place, what is packaged and the window.
 
-pub record IsStep (c new : Circuit) (rules : Rules) (h : List Event) (e : Event) (place : ℕ) (g : Held) (holds : Option Held) : Type 0 where
+pub record IsStep (c new : Circuit) (rules : Rules) (h : List Event) (e : Event) (place : ℕ) (g : PlacedStream) (holds : Option PlacedStream) : Type 0 where
   pub before : IsCircuit c rules h
   pub aside : IsAside (entry_after rules (log rules h) e)
   pub early : is_early e ≡ false
   pub close : (entry_after rules (log rules h) e).effects.close ≡ None
   pub at : held_at c.places place ≡ Some g
-  pub same : (x : Held) → holds ≡ Some x → x.serial ≡ g.serial
+  pub same : (x : PlacedStream) → holds ≡ Some x → x.serial ≡ g.serial
   pub rest : new ≡ record c { packager = new.packager; windows = new.windows; places = with_held c.places place holds }
   pub limits : KeepsLimits c.windows new.windows
   pub packager : IsPackager new.packager (log rules (e ∷ h))
   pub windows : HasCountsOf new.windows (window_of (log rules (e ∷ h)))
   pub places : ArePlaces (with_held c.places place holds) (log rules (e ∷ h))
 
-pub step_goes_on : (c new : Circuit) (rules : Rules) (h : List Event) (e : Event) (place : ℕ) (g : Held) (holds : Option Held)
+pub step_goes_on : (c new : Circuit) (rules : Rules) (h : List Event) (e : Event) (place : ℕ) (g : PlacedStream) (holds : Option PlacedStream)
     → IsStep c new rules h e place g holds → IsCircuit new rules (e ∷ h)
 step_goes_on c new rules h e place g holds step =
     let entry : Entry = entry_after rules (log rules h) e in

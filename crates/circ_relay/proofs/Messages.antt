@@ -9,14 +9,14 @@ use Rattle.circuit_model.specs.Rules.{Rules}
 use Rattle.circuit_model.specs.Log.{Entry, Log, Message, Effects, StreamKey, closing, ordering, is_closed}
 use Rattle.circuit_model.specs.declared.effects.Order.TheVariants.{Carry, Close}
 use Rattle.circuit_model.specs.Places.{place_of, connects, frees, closes_place}
-use Rattle.circuit_model.specs.Windows.{is_data_of, is_accepted, has_command, has_place, carries, drains, accept_grant as log_accept_grant, carried}
+use Rattle.circuit_model.specs.Windows.{is_data_of, is_accepted, has_command, has_place, carries, drains, accept_grant as log_accept_grant, carried_count}
 use Rattle.circuit_model.specs.Received.{message_at}
 use Rattle.circuit_model.specs.Streams.{data_at}
 use Rattle.circuit_model.specs.Effects.{message_effects, effects_after}
 use Rattle.circuit_model.specs.Words.{entry_after}
 use Rattle.circuit_model.proofs.Reading.{read-effects}
-use Rattle.stream_edge.specs.declared.held.Held.{Held}
-use Rattle.stream_edge.specs.declared.held.Phase.TheVariants.{Ending as held_ending}
+use Rattle.stream_edge.specs.declared.placed_stream.PlacedStream.{PlacedStream}
+use Rattle.stream_edge.specs.declared.placed_stream.Phase.TheVariants.{Ending as held_ending}
 use Rattle.stream_edge.specs.PlacesState.{PlacesState, held_at, with_held}
 use Rattle.stream_edge.specs.Streams.{accept_grant, may_accept, after_accepting}
 use Rattle.circ_relay.specs.PlacesOfLog.{IsOfLog, IsSilent, ArePlaces}
@@ -65,7 +65,7 @@ pub end-does : (rules : Rules) (log : Log) (m : Message) (serial : ℕ) → m.co
 unfolding message_effects
 end-does rules log m serial command place = rw (command, place) refl
 
-pub end_ends : (state : PlacesState) (rules : Rules) (log : Log) (e : Event) (m : Message) (place : ℕ) (h : Held) →
+pub end_ends : (state : PlacesState) (rules : Rules) (log : Log) (e : Event) (m : Message) (place : ℕ) (h : PlacedStream) →
     ArePlaces state log → message_at log e ≡ Some m → m.command ≡ end_command → m.place ≡ Some h.serial
     → held_at state place ≡ Some h →
     ArePlaces (with_held state place (Some (record h { phase = held_ending }))) (entry_after rules log e ∷ log)
@@ -90,22 +90,22 @@ pub data-does : (rules : Rules) (log : Log) (m : Message) (serial : ℕ) → m.c
 unfolding message_effects
 data-does rules log m serial command place = rw (command, place) refl
 
-pub data-overrun : (log : Log) (m : Message) (serial : ℕ) → nat_le (log_accept_grant log serial) (carried log serial) ≡ true
+pub data-overrun : (log : Log) (m : Message) (serial : ℕ) → nat_le (log_accept_grant log serial) (carried_count log serial) ≡ true
     → data_at log m (Some serial) ≡ closing 1
 data-overrun log m serial full = rw full refl
 
-data-order : (log : Log) (m : Message) (serial : ℕ) → nat_le (log_accept_grant log serial) (carried log serial) ≡ false →
+data-order : (log : Log) (m : Message) (serial : ℕ) → nat_le (log_accept_grant log serial) (carried_count log serial) ≡ false →
     (data_at log m (Some serial)).edge ≡ Some (Carry (record { stream = m.stream; serial = serial }) m.payload)
 data-order log m serial room = rw room refl
 
-accepting-none : (h : Held) → may_accept h ≡ false → after_accepting h ≡ h
+accepting-none : (h : PlacedStream) → may_accept h ≡ false → after_accepting h ≡ h
 accepting-none h may = rw may refl
 
-accepting-one : (h : Held) → may_accept h ≡ true → after_accepting h ≡ record h { accepted = h.accepted + 1 }
+accepting-one : (h : PlacedStream) → may_accept h ≡ true → after_accepting h ≡ record h { accepted = h.accepted + 1 }
 accepting-one h may = rw may refl
 
 -- The stream as it was, after a message that gives no order and is no accepted SENDME.
-pub unchanged_by : (state : PlacesState) (rules : Rules) (log : Log) (e : Event) (m : Message) (place : ℕ) (h : Held) →
+pub unchanged_by : (state : PlacesState) (rules : Rules) (log : Log) (e : Event) (m : Message) (place : ℕ) (h : PlacedStream) →
     ArePlaces state log → message_at log e ≡ Some m → held_at state place ≡ Some h → (effects_after rules log e).edge ≡ None →
     ((serial : ℕ) → (is_accepted sendme_command (entry_after rules log e) && has_place serial (message_at log e)) ≡ false) →
     ArePlaces (with_held state place (Some h)) (entry_after rules log e ∷ log)
@@ -119,10 +119,10 @@ unchanged_by state rules log e m place h are found at none quiet =
     stream_changes state log entry place h h at makes_none (λ serial apart. silent serial) refl is are
 
 -- Where it was refused, or where one more is counted.
-data-by : (state : PlacesState) (rules : Rules) (log : Log) (e : Event) (m : Message) (place : ℕ) (h : Held) →
+data-by : (state : PlacesState) (rules : Rules) (log : Log) (e : Event) (m : Message) (place : ℕ) (h : PlacedStream) →
     ArePlaces state log → message_at log e ≡ Some m → m.command ≡ data_command → m.place ≡ Some h.serial
     → held_at state place ≡ Some h →
-    (b : Bool) → nat_le (log_accept_grant log h.serial) (carried log h.serial) ≡ b → may_accept h ≡ (if b then false else true) →
+    (b : Bool) → nat_le (log_accept_grant log h.serial) (carried_count log h.serial) ≡ b → may_accept h ≡ (if b then false else true) →
     ArePlaces (with_held state place (Some (after_accepting h))) (entry_after rules log e ∷ log)
 data-by state rules log e m place h are found command named at true full may =
     let does : effects_after rules log e ≡ closing 1 =
@@ -144,7 +144,7 @@ data-by state rules log e m place h are found command named at false room may =
     let carries_by : (serial : ℕ) → carries serial entry.effects.edge ≡ (h.serial == serial) =
     λ serial. ap (carries serial) order in
     let is : IsOfLog log h = are.streams place h at in
-    let more : Held = record h { accepted = h.accepted + 1 } in
+    let more : PlacedStream = record h { accepted = h.accepted + 1 } in
     let becomes : IsOfLog (entry ∷ log) more = record {
       place = is.place;
       found = place_stays entry log h.serial makes_none ∙ is.found;
@@ -173,14 +173,14 @@ less_by : (a b : ℕ) (t : Bool) → nat_le b a ≡ t → nat_lt a b ≡ (if t t
 less_by a b true is = grind arith
 less_by a b false is = grind arith
 
-pub data_accepts : (state : PlacesState) (rules : Rules) (log : Log) (e : Event) (m : Message) (place : ℕ) (h : Held) →
+pub data_accepts : (state : PlacesState) (rules : Rules) (log : Log) (e : Event) (m : Message) (place : ℕ) (h : PlacedStream) →
     ArePlaces state log → message_at log e ≡ Some m → m.command ≡ data_command → m.place ≡ Some h.serial
     → held_at state place ≡ Some h →
     ArePlaces (with_held state place (Some (after_accepting h))) (entry_after rules log e ∷ log)
 data_accepts state rules log e m place h are found command named at =
     let is : IsOfLog log h = are.streams place h at in
-    let full : Bool = nat_le (log_accept_grant log h.serial) (carried log h.serial) in
+    let full : Bool = nat_le (log_accept_grant log h.serial) (carried_count log h.serial) in
     let may : may_accept h ≡ (if full then false else true) =
-    ap (λ n. nat_lt n (accept_grant h)) is.accepted ∙ ap (λ n. nat_lt (carried log h.serial) (500 + 50 * (n / 50))) is.drained
-    ∙ less_by (carried log h.serial) (log_accept_grant log h.serial) full refl in
+    ap (λ n. nat_lt n (accept_grant h)) is.accepted ∙ ap (λ n. nat_lt (carried_count log h.serial) (500 + 50 * (n / 50))) is.drained
+    ∙ less_by (carried_count log h.serial) (log_accept_grant log h.serial) full refl in
     data-by state rules log e m place h are found command named at full refl may

@@ -13,7 +13,7 @@ use Rattle.circuit_model.specs.Log.{Log, Message, Order, Effects, StreamKey, no_
 use Rattle.circuit_model.specs.declared.effects.Order.TheVariants.{Reach, Carry, Close}
 use Rattle.circuit_model.specs.Opened.{plain_body, recognises}
 use Rattle.circuit_model.specs.Places.{Place, places, place_at, live_place, taken_places}
-use Rattle.circuit_model.specs.Windows.{accept_grant, carried}
+use Rattle.circuit_model.specs.Windows.{accept_grant, carried_count}
 use Rattle.circuit_model.specs.Received.{received, message_in_body, message_of, message_at, relay_early_limit, early_count}
 use Rattle.circuit_model.specs.declared.message.Received.TheVariants.{TooManyEarly, Unrecognised, TooLong, ForUs}
 use Rattle.circuit_model.specs.Streams.{place_limit, reaching, beginning, data_at, end_at, ended_effects}
@@ -133,7 +133,7 @@ begin-by rules log m place false is =
 data-naming : (log : Log) (m : Message) (place : Option ℕ) → IsNaming log (data_at log m place)
 data-naming log m None = none-naming log _ (acknowledging-edge log m)
 data-naming log m (Some serial) =
-    if-naming log (nat_le (accept_grant log serial) (carried log serial)) _ _ (none-naming log _ refl)
+    if-naming log (nat_le (accept_grant log serial) (carried_count log serial)) _ _ (none-naming log _ refl)
     (record { names = λ key to is. absurd (carry-reach (record { stream = m.stream; serial = serial }) key m.payload to is) })
 
 end-naming : (log : Log) (m : Message) (place : Option ℕ) → IsNaming log (end_at m place)

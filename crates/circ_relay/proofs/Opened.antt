@@ -12,7 +12,7 @@ use Rattle.circuit_model.specs.Rules.{Rules}
 use Rattle.circuit_model.specs.Log.{Entry, Log, is_closed}
 use Rattle.circuit_model.specs.Opened.{born_keys, born_pad}
 use Rattle.circuit_model.specs.NextHop.{next_hop}
-use Rattle.circuit_model.specs.Packaged.{own}
+use Rattle.circuit_model.specs.Packaged.{own_bodies}
 use Rattle.circuit_model.specs.Places.{place_of}
 use Rattle.circuit_model.specs.Effects.{open_effects, effects_after}
 use Rattle.circuit_model.specs.Words.{entry_after, log}
@@ -35,7 +35,7 @@ unfolding open_effects
 first_hop rules reply keys pad = refl
 
 nothing_packaged : (rules : Rules) (reply : CircuitCell) (keys : LayerKeys) (pad : Option (List ℕ))
-    → own (entry_after rules [] (Born reply keys pad) ∷ []) ≡ []
+    → own_bodies (entry_after rules [] (Born reply keys pad) ∷ []) ≡ []
 unfolding open_effects
 nothing_packaged rules reply keys pad = refl
 
@@ -59,7 +59,7 @@ no_places state is = subst (λ (s : PlacesState). ArePlaces s []) (sym is) nothi
 
 opened_parts : (c : Circuit) (rules : Rules) (reply : CircuitCell) (keys : LayerKeys) (pad : Option (List ℕ))
     → c.next_hop ≡ Absent →
-    ((log : Log) → own log ≡ [] → (born_keys log).db ≡ keys.db → born_pad log ≡ pad → IsPackager c.packager log)
+    ((log : Log) → own_bodies log ≡ [] → (born_keys log).db ≡ keys.db → born_pad log ≡ pad → IsPackager c.packager log)
     → HasCountsOf c.windows fresh_window →
     c.places ≡ record { streams = replicate 32 None; next_serial = 0; calls = 0 }
     → HasParts c (entry_after rules [] (Born reply keys pad) ∷ [])
@@ -77,7 +77,7 @@ opened_parts c rules reply keys pad hop packs stands free =
 
 pub opened : (c : Circuit) (rules : Rules) (reply : CircuitCell) (keys : LayerKeys) (pad : Option (List ℕ)) → c.next_hop ≡ Absent
     → c.early_cells ≡ 0 → IsMadeBy c rules →
-    ((log : Log) → own log ≡ [] → (born_keys log).db ≡ keys.db → born_pad log ≡ pad → IsPackager c.packager log)
+    ((log : Log) → own_bodies log ≡ [] → (born_keys log).db ≡ keys.db → born_pad log ≡ pad → IsPackager c.packager log)
     → HasCountsOf c.windows fresh_window →
     c.places ≡ record { streams = replicate 32 None; next_serial = 0; calls = 0 } → IsCircuit c rules (Born reply keys pad ∷ [])
 opened c rules reply keys pad hop early made packs stands free = record {

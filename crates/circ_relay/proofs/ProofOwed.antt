@@ -11,7 +11,7 @@ use Rattle.sendme_windows.specs.declared.proof_answer.ProofAnswer.{ProofAnswer}
 use Rattle.sendme_windows.specs.declared.proof_answer.ProofAnswer.TheVariants.{Good, Wrong, NoneOwed, BadForm}
 use Rattle.circuit_model.specs.Rules.{Rules}
 use Rattle.circuit_model.specs.Log.{Log}
-use Rattle.circuit_model.specs.Packaged.{own, back_digest}
+use Rattle.circuit_model.specs.Packaged.{own_bodies, back_digest}
 use Rattle.circuit_model.specs.Windows.{circuit_packaged, good_sendmes}
 use Rattle.circuit_model.specs.SendmeProof.{up_to_data, proves, is_right_sendme, proof_owed as proof_with_number}
 use Rattle.circ_relay.specs.WindowOfLog.{up_to_each_data, data_digests, window_of, is_good}
@@ -23,7 +23,7 @@ unfolding window_of proofs
 owed_at log = first_dropped (good_sendmes log) _ ∙ hundredth_at (data_digests log) (good_sendmes log)
 
 count_of_digests : (log : Log) → length (data_digests log) ≡ circuit_packaged log
-count_of_digests log = length-map (up_to_each_data (own log)) (back_digest log) ∙ count_packaged log
+count_of_digests log = length-map (up_to_each_data (own_bodies log)) (back_digest log) ∙ count_packaged log
 
 -- Where the hundred is whole.
 pub owed_when_packaged : (log : Log) → 100 * (good_sendmes log + 1) ≤ circuit_packaged log
@@ -32,11 +32,11 @@ unfolding proof_with_number
 owed_when_packaged log enough =
     let place : ℕ = 100 * good_sendmes log + 99 in
     let number : place + 1 ≡ 100 * (good_sendmes log + 1) = omega arith in
-    let inside : place < length (up_to_each_data (own log)) = omega (arith, count_packaged log) in
+    let inside : place < length (up_to_each_data (own_bodies log)) = omega (arith, count_packaged log) in
     owed_at log
-    ∙ slice_get-map (back_digest log) (up_to_each_data (own log)) place
-    ∙ ap (option_map (back_digest log)) (data_by_number (own log) place inside)
-    ∙ ap (λ n. Some (back_digest log (up_to_data n (own log)))) number
+    ∙ slice_get-map (back_digest log) (up_to_each_data (own_bodies log)) place
+    ∙ ap (option_map (back_digest log)) (data_by_number (own_bodies log) place inside)
+    ∙ ap (λ n. Some (back_digest log (up_to_data n (own_bodies log)))) number
 
 -- Where it isn't.
 pub owed_none_before : (log : Log) → circuit_packaged log < 100 * (good_sendmes log + 1) → next_owed (window_of log) ≡ None

@@ -9,10 +9,10 @@ use Rattle.circuit_model.specs.Log.{Log, StreamKey}
 use Rattle.circuit_model.specs.declared.places.Phase.{Phase}
 use Rattle.circuit_model.specs.declared.places.Phase.TheVariants.{Reaching, Joined, Ending, Free}
 use Rattle.circuit_model.specs.Places.{Place, places, place_at, phase, is_live, is_live_phase, live_place}
-use Rattle.circuit_model.specs.Windows.{stream_packaged, stream_grant, carried, drained, accept_grant as log_accept_grant}
-use Rattle.stream_edge.specs.declared.held.Held.{Held}
-use Rattle.stream_edge.specs.declared.held.Phase.{Phase as HeldPhase}
-use Rattle.stream_edge.specs.declared.held.Phase.TheVariants.{Reaching as held_reaching, Joined as held_joined, Ending as held_ending}
+use Rattle.circuit_model.specs.Windows.{stream_packaged, stream_grant, carried_count, drained_count, accept_grant as log_accept_grant}
+use Rattle.stream_edge.specs.declared.placed_stream.PlacedStream.{PlacedStream}
+use Rattle.stream_edge.specs.declared.placed_stream.Phase.{Phase as HeldPhase}
+use Rattle.stream_edge.specs.declared.placed_stream.Phase.TheVariants.{Reaching as held_reaching, Joined as held_joined, Ending as held_ending}
 use Rattle.stream_edge.specs.PlacesState.{PlacesState, held_at}
 use Rattle.stream_edge.specs.Streams.{is_live_as, is_live_phase as is_live_held, pack_grant, accept_grant, may_package, may_accept, may_credit, sendme_due}
 use Rattle.stream_edge.proofs.Holding.{taken_within}
@@ -24,15 +24,15 @@ use Rattle.circ_relay.proofs.Bools.{and-right}
 
 -- Windows.
 
-pub packs_by_the_log : (state : PlacesState) (log : Log) (place : ℕ) (h : Held) → ArePlaces state log
+pub packs_by_the_log : (state : PlacesState) (log : Log) (place : ℕ) (h : PlacedStream) → ArePlaces state log
     → held_at state place ≡ Some h → pack_grant h ≡ stream_grant log h.serial
 packs_by_the_log state log place h are at = ap (λ n. 500 + 50 * n) (are.streams place h at).credits
 
-pub accepts_by_the_log : (state : PlacesState) (log : Log) (place : ℕ) (h : Held) → ArePlaces state log
+pub accepts_by_the_log : (state : PlacesState) (log : Log) (place : ℕ) (h : PlacedStream) → ArePlaces state log
     → held_at state place ≡ Some h → accept_grant h ≡ log_accept_grant log h.serial
 accepts_by_the_log state log place h are at = ap (λ n. 500 + 50 * (n / 50)) (are.streams place h at).drained
 
-pub may_package_by_the_log : (state : PlacesState) (log : Log) (place : ℕ) (h : Held) → ArePlaces state log
+pub may_package_by_the_log : (state : PlacesState) (log : Log) (place : ℕ) (h : PlacedStream) → ArePlaces state log
     → held_at state place ≡ Some h →
     may_package h ≡ nat_lt (stream_packaged log h.serial) (stream_grant log h.serial)
 may_package_by_the_log state log place h are at =
@@ -47,15 +47,15 @@ not-at_most : (a b : ℕ) (t : Bool) → nat_lt b a ≡ t → nat_le a b ≡ not
 not-at_most a b true is = grind arith
 not-at_most a b false is = grind arith
 
-pub may_accept_by_the_log : (state : PlacesState) (log : Log) (place : ℕ) (h : Held) → ArePlaces state log
+pub may_accept_by_the_log : (state : PlacesState) (log : Log) (place : ℕ) (h : PlacedStream) → ArePlaces state log
     → held_at state place ≡ Some h →
-    may_accept h ≡ not (nat_le (log_accept_grant log h.serial) (carried log h.serial))
+    may_accept h ≡ not (nat_le (log_accept_grant log h.serial) (carried_count log h.serial))
 may_accept_by_the_log state log place h are at =
     ap (λ n. nat_lt n (accept_grant h)) (are.streams place h at).accepted
-    ∙ ap (λ n. nat_lt (carried log h.serial) n) (accepts_by_the_log state log place h are at)
-    ∙ not-less (carried log h.serial) (log_accept_grant log h.serial) (nat_le (log_accept_grant log h.serial) (carried log h.serial)) refl
+    ∙ ap (λ n. nat_lt (carried_count log h.serial) n) (accepts_by_the_log state log place h are at)
+    ∙ not-less (carried_count log h.serial) (log_accept_grant log h.serial) (nat_le (log_accept_grant log h.serial) (carried_count log h.serial)) refl
 
-pub may_credit_by_the_log : (state : PlacesState) (log : Log) (place : ℕ) (h : Held) → ArePlaces state log
+pub may_credit_by_the_log : (state : PlacesState) (log : Log) (place : ℕ) (h : PlacedStream) → ArePlaces state log
     → held_at state place ≡ Some h →
     may_credit h ≡ not (nat_lt (stream_start + stream_packaged log h.serial) (stream_grant log h.serial + stream_step))
 may_credit_by_the_log state log place h are at =
@@ -64,12 +64,12 @@ may_credit_by_the_log state log place h are at =
     ∙ not-at_most (stream_grant log h.serial + stream_step) (stream_start + stream_packaged log h.serial)
     (nat_lt (stream_start + stream_packaged log h.serial) (stream_grant log h.serial + stream_step)) refl
 
-pub sendme_due_by_the_log : (state : PlacesState) (log : Log) (place : ℕ) (h : Held) → ArePlaces state log
+pub sendme_due_by_the_log : (state : PlacesState) (log : Log) (place : ℕ) (h : PlacedStream) → ArePlaces state log
     → held_at state place ≡ Some h →
-    sendme_due h ≡ (if nat_lt (drained log h.serial) (carried log h.serial) then Some (((drained log h.serial + 1) % stream_step) == 0) else None)
+    sendme_due h ≡ (if nat_lt (drained_count log h.serial) (carried_count log h.serial) then Some (((drained_count log h.serial + 1) % stream_step) == 0) else None)
 sendme_due_by_the_log state log place h are at =
     ap (λ n. if nat_lt n h.accepted then Some (((n + 1) % 50) == 0) else None) (are.streams place h at).drained
-    ∙ ap (λ n. if nat_lt (drained log h.serial) n then Some (((drained log h.serial + 1) % 50) == 0) else None) (are.streams place h at).accepted
+    ∙ ap (λ n. if nat_lt (drained_count log h.serial) n then Some (((drained_count log h.serial + 1) % 50) == 0) else None) (are.streams place h at).accepted
 
 -- Live streams.
 
@@ -91,11 +91,11 @@ not_ending-live held_ending other = absurd (other refl)
 abbrev is_live_at : Log → ℕ → Place → Bool
 is_live_at log id p = (p.key.stream == id) && is_live log p
 
-place-live : (log : Log) (h : Held) → IsOfLog log h → (p : Place) → p.key ≡ stream_key h → is_live log p ≡ is_live_held h.phase
+place-live : (log : Log) (h : PlacedStream) → IsOfLog log h → (p : Place) → p.key ≡ stream_key h → is_live log p ≡ is_live_held h.phase
 place-live log h is p key =
     ap (λ (k : StreamKey). is_live_phase (phase log k.serial)) key ∙ ap is_live_phase is.phase ∙ same-liveness h.phase
 
-live_place-by : (state : PlacesState) (log : Log) → AreNamed log → (h : Held) → IsOfLog log h → is_live_held h.phase ≡ true →
+live_place-by : (state : PlacesState) (log : Log) → AreNamed log → (h : PlacedStream) → IsOfLog log h → is_live_held h.phase ≡ true →
     (x : Option Place) → find (is_live_at log h.stream) (places log) ≡ x
     → option_map (λ (p : Place). p.key.serial) x ≡ Some h.serial
 live_place-by state log named h is live None found =
@@ -111,20 +111,20 @@ live_place-by state log named h is live (Some q) found =
     named.live_once among.place h.serial q is.place among.got is.found q_live (place-live log h is is.place is.key ∙ live) (q_stream ∙ sym (ap (λ (k : StreamKey). k.stream) is.key)) in
     ap Some (named.numbered among.place q among.got ∙ same)
 
-pub live_stream_is_live_place : (state : PlacesState) (log : Log) (place : ℕ) (h : Held) → ArePlaces state log → AreNamed log →
+pub live_stream_is_live_place : (state : PlacesState) (log : Log) (place : ℕ) (h : PlacedStream) → ArePlaces state log → AreNamed log →
     held_at state place ≡ Some h → h.phase ≢ held_ending → live_place log h.stream ≡ Some h.serial
 unfolding live_place
 live_stream_is_live_place state log place h are named at live =
     live_place-by state log named h (are.streams place h at) (not_ending-live h.phase live) (find (is_live_at log h.stream) (places log)) refl
 
 -- What a place that passes holds.
-record Passes (id : ℕ) (held : Option Held) : Type 0 where
-  stream : Held
+record Passes (id : ℕ) (held : Option PlacedStream) : Type 0 where
+  stream : PlacedStream
   holds : held ≡ Some stream
   named : stream.stream ≡ id
   live : is_live_held stream.phase ≡ true
 
-passes : (id : ℕ) (held : Option Held) → is_live_as id held ≡ true → Passes id held
+passes : (id : ℕ) (held : Option PlacedStream) → is_live_as id held ≡ true → Passes id held
 passes id None is = cc
 passes id (Some h) is = record {
   stream = h;
@@ -135,11 +135,11 @@ passes id (Some h) is = record {
 
 pub live_found : (state : PlacesState) (log : Log) (id place : ℕ) → ArePlaces state log → AreNamed log
     → position (is_live_as id) state.streams ≡ Some place →
-    (h : Held) × (held_at state place ≡ Some h) × (h.stream ≡ id) × (h.phase ≢ held_ending) × (live_place log id ≡ Some h.serial)
+    (h : PlacedStream) × (held_at state place ≡ Some h) × (h.stream ≡ id) × (h.phase ≢ held_ending) × (live_place log id ≡ Some h.serial)
 live_found state log id place are named first =
     let at = position-Some (is_live_as id) state.streams place None first in
     let there : Passes id (held_at state place) = passes id (held_at state place) at.1 in
-    let h : Held = there.stream in (
+    let h : PlacedStream = there.stream in (
       h,
       there.holds,
       there.named,
@@ -174,12 +174,12 @@ live-lasts Joined is free = cc
 live-lasts Ending is free = cc
 live-lasts Free is free = cc
 
-passes-as : (id : ℕ) (held : Option Held) (h : Held) → held ≡ Some h → h.stream ≡ id → is_live_held h.phase ≡ true
+passes-as : (id : ℕ) (held : Option PlacedStream) (h : PlacedStream) → held ≡ Some h → h.stream ≡ id → is_live_held h.phase ≡ true
     → is_live_as id held ≡ true
 passes-as id held h holds named live =
     ap (is_live_as id) holds ∙ both (h.stream == id) (is_live_held h.phase) (equal_true h.stream id named) live
 
-none-passes : (state : PlacesState) (id place : ℕ) (h : Held) → position (is_live_as id) state.streams ≡ None
+none-passes : (state : PlacesState) (id place : ℕ) (h : PlacedStream) → position (is_live_as id) state.streams ≡ None
     → held_at state place ≡ Some h →
     h.stream ≡ id → is_live_held h.phase ≡ true → ⊥
 none-passes state id place h none holds named live =
@@ -212,12 +212,12 @@ none_live state log id are named none = none-by state log id are named none (fin
 
 serial-by : (state : PlacesState) (log : Log) (id : ℕ) → ArePlaces state log → AreNamed log → (x : Option ℕ)
     → position (is_live_as id) state.streams ≡ x →
-    option_and_then (λ place. option_map (λ (h : Held). h.serial) (held_at state place)) x ≡ live_place log id
+    option_and_then (λ place. option_map (λ (h : PlacedStream). h.serial) (held_at state place)) x ≡ live_place log id
 serial-by state log id are named None is = sym (none_live state log id are named is)
 serial-by state log id are named (Some place) is =
     let found = live_found state log id place are named is in
-    ap (option_map (λ (h : Held). h.serial)) found.1 ∙ sym found.4
+    ap (option_map (λ (h : PlacedStream). h.serial)) found.1 ∙ sym found.4
 
 pub live_serial : (state : PlacesState) (log : Log) (id : ℕ) → ArePlaces state log → AreNamed log →
-    option_and_then (λ place. option_map (λ (h : Held). h.serial) (held_at state place)) (position (is_live_as id) state.streams) ≡ live_place log id
+    option_and_then (λ place. option_map (λ (h : PlacedStream). h.serial) (held_at state place)) (position (is_live_as id) state.streams) ≡ live_place log id
 live_serial state log id are named = serial-by state log id are named (position (is_live_as id) state.streams) refl

@@ -11,9 +11,9 @@ use Rattle.circuit_model.specs.Windows.{is_data_of, is_accepted, has_place, carr
 use Rattle.circuit_model.specs.Streams.{connected_effects, edge_data_effects, drained_effects}
 use Rattle.circuit_model.specs.Effects.{open_effects, effects_after}
 use Rattle.circuit_model.specs.Words.{entry_after}
-use Rattle.stream_edge.specs.declared.held.Held.{Held}
-use Rattle.stream_edge.specs.declared.held.Phase.{Phase as HeldPhase}
-use Rattle.stream_edge.specs.declared.held.Phase.TheVariants.{Reaching as held_reaching, Joined as held_joined, Ending as held_ending}
+use Rattle.stream_edge.specs.declared.placed_stream.PlacedStream.{PlacedStream}
+use Rattle.stream_edge.specs.declared.placed_stream.Phase.{Phase as HeldPhase}
+use Rattle.stream_edge.specs.declared.placed_stream.Phase.TheVariants.{Reaching as held_reaching, Joined as held_joined, Ending as held_ending}
 use Rattle.stream_edge.specs.PlacesState.{PlacesState, held_at, with_held}
 use Rattle.stream_edge.specs.Streams.{after_packaging, after_draining, may_drain}
 use Rattle.circ_relay.specs.PlacesOfLog.{model_phase, IsOfLog, IsSilent, ArePlaces}
@@ -65,7 +65,7 @@ pub connected-orders : (rules : Rules) (log : Log) (serial : ℕ) → (effects_a
 unfolding open_effects
 connected-orders rules log serial = closed-edge (is_closed log) _ (connected-edge log (place_at log serial))
 
-pub connected_joins : (state : PlacesState) (rules : Rules) (log : Log) (place : ℕ) (h : Held) →
+pub connected_joins : (state : PlacesState) (rules : Rules) (log : Log) (place : ℕ) (h : PlacedStream) →
     ArePlaces state log → held_at state place ≡ Some h → h.phase ≡ held_reaching →
     ArePlaces (with_held state place (Some (record h { phase = held_joined }))) (entry_after rules log (Connected h.serial) ∷ log)
 connected_joins state rules log place h are at reaching =
@@ -75,7 +75,7 @@ connected_joins state rules log place h are at reaching =
     let quiet : (serial : ℕ) → (is_accepted sendme_command entry && has_place serial entry.message) ≡ false =
     λ serial. no_message_credits entry serial (nothing_by (is_closed log)) in
     let is : IsOfLog log h = are.streams place h at in
-    let joined : Held = record h { phase = held_joined } in
+    let joined : PlacedStream = record h { phase = held_joined } in
     let becomes : IsOfLog (entry ∷ log) joined = record {
       place = is.place;
       found = place_stays entry log h.serial makes_none ∙ is.found;
@@ -102,7 +102,7 @@ pub data-orders : (rules : Rules) (log : Log) (serial : ℕ) (bytes : List ℕ)
 unfolding open_effects
 data-orders rules log serial bytes = closed-edge (is_closed log) _ (data-edge log bytes (place_at log serial))
 
-pub bytes_package : (state : PlacesState) (rules : Rules) (log : Log) (place : ℕ) (h : Held) (bytes : List ℕ) →
+pub bytes_package : (state : PlacesState) (rules : Rules) (log : Log) (place : ℕ) (h : PlacedStream) (bytes : List ℕ) →
     ArePlaces state log → held_at state place ≡ Some h →
     ArePlaces (with_held state place (Some (after_packaging h))) (entry_after rules log (Data h.serial bytes) ∷ log)
 bytes_package state rules log place h bytes are at =
@@ -140,10 +140,10 @@ pub drained-orders : (rules : Rules) (log : Log) (serial : ℕ) → (effects_aft
 unfolding open_effects
 drained-orders rules log serial = closed-edge (is_closed log) _ (drained-edge log (place_at log serial))
 
-one_drained : (h : Held) → may_drain h ≡ true → after_draining h ≡ record h { drained = h.drained + 1 }
+one_drained : (h : PlacedStream) → may_drain h ≡ true → after_draining h ≡ record h { drained = h.drained + 1 }
 one_drained h may = rw may refl
 
-pub drained_drains : (state : PlacesState) (rules : Rules) (log : Log) (place : ℕ) (h : Held) →
+pub drained_drains : (state : PlacesState) (rules : Rules) (log : Log) (place : ℕ) (h : PlacedStream) →
     ArePlaces state log → held_at state place ≡ Some h → may_drain h ≡ true →
     ArePlaces (with_held state place (Some (after_draining h))) (entry_after rules log (Drained h.serial) ∷ log)
 drained_drains state rules log place h are at may =
@@ -153,7 +153,7 @@ drained_drains state rules log place h are at may =
     let quiet : (serial : ℕ) → (is_accepted sendme_command entry && has_place serial entry.message) ≡ false =
     λ serial. no_message_credits entry serial (nothing_by (is_closed log)) in
     let is : IsOfLog log h = are.streams place h at in
-    let fewer : Held = record h { drained = h.drained + 1 } in
+    let fewer : PlacedStream = record h { drained = h.drained + 1 } in
     let becomes : IsOfLog (entry ∷ log) fewer = record {
       place = is.place;
       found = place_stays entry log h.serial makes_none ∙ is.found;
@@ -175,7 +175,7 @@ pub freed-orders : (rules : Rules) (log : Log) (serial : ℕ) → (effects_after
 unfolding open_effects
 freed-orders rules log serial = closed-edge (is_closed log) no_effects refl
 
-pub freed_frees : (state : PlacesState) (rules : Rules) (log : Log) (place : ℕ) (h : Held) →
+pub freed_frees : (state : PlacesState) (rules : Rules) (log : Log) (place : ℕ) (h : PlacedStream) →
     ArePlaces state log → held_at state place ≡ Some h →
     ArePlaces (with_held state place None) (entry_after rules log (Freed h.serial) ∷ log)
 freed_frees state rules log place h are at =

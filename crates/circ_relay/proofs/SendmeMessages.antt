@@ -5,7 +5,7 @@ use Rattle.sendme_windows.specs.WindowsState.{HasCountsOf, WindowsState}
 use Rattle.tor_spec.specs.StreamWindow.{stream_start, stream_step}
 use Rattle.circuit_model.specs.Places.{live_place}
 use Rattle.stream_edge.specs.PlacesState.{PlacesState, held_at, with_held}
-use Rattle.stream_edge.specs.declared.held.Held.{Held}
+use Rattle.stream_edge.specs.declared.placed_stream.PlacedStream.{PlacedStream}
 use Rattle.circuit_model.specs.declared.event.Event.TheVariants.{Forward}
 use Rattle.circuit_model.specs.Rules.{Rules}
 use Rattle.circuit_model.specs.Log.{Log, Message, Effects, no_effects, closing}
@@ -134,7 +134,7 @@ too_much : (may : Bool) (answer : CreditAnswer) → answer ≡ (if may then Cred
 too_much false answer by is = refl
 too_much true answer by is = (let never : ◌≡◌ {A = CreditAnswer} CreditAnswer.Raised CreditAnswer.TooMuch = sym by ∙ is in cc)
 
-pub raised_does : (rules : Rules) (s : PlacesState) (log : Log) (m : Message) (place : ℕ) (h : Held) (answer : CreditAnswer)
+pub raised_does : (rules : Rules) (s : PlacesState) (log : Log) (m : Message) (place : ℕ) (h : PlacedStream) (answer : CreditAnswer)
     → ArePlaces s log → held_at s place ≡ Some h → (m.stream ≡ 0 → ⊥) → m.place ≡ Some h.serial
     → answer ≡ (if may_credit h then CreditAnswer.Raised else CreditAnswer.TooMuch) → answer ≡ CreditAnswer.Raised
     → sendme_effects rules log m ≡ no_effects
@@ -144,7 +144,7 @@ raised_does rules s log m place h answer are holds some named by is =
     stream_sendme_does rules log m some ∙ ap (λ p. stream_sendme_at log p) named
     ∙ ap (λ (b : Bool). if b then closing 1 else no_effects) test
 
-pub too_much_does : (rules : Rules) (s : PlacesState) (log : Log) (m : Message) (place : ℕ) (h : Held) (answer : CreditAnswer)
+pub too_much_does : (rules : Rules) (s : PlacesState) (log : Log) (m : Message) (place : ℕ) (h : PlacedStream) (answer : CreditAnswer)
     → ArePlaces s log → held_at s place ≡ Some h → (m.stream ≡ 0 → ⊥) → m.place ≡ Some h.serial
     → answer ≡ (if may_credit h then CreditAnswer.Raised else CreditAnswer.TooMuch) → answer ≡ CreditAnswer.TooMuch
     → sendme_effects rules log m ≡ closing 1
@@ -154,11 +154,11 @@ too_much_does rules s log m place h answer are holds some named by is =
     stream_sendme_does rules log m some ∙ ap (λ p. stream_sendme_at log p) named
     ∙ ap (λ (b : Bool). if b then closing 1 else no_effects) test
 
-credited_serial : (h : Held) (may : Bool) → h.serial ≡ (if may then record h { credits = h.credits + 1 } else h).serial
+credited_serial : (h : PlacedStream) (may : Bool) → h.serial ≡ (if may then record h { credits = h.credits + 1 } else h).serial
 credited_serial h true = refl
 credited_serial h false = refl
 
-pub raised_parts : (c : Circuit) (new : PlacesState) (message : CodeMessage) (rules : Rules) (log : Log) (command : ℕ) (body : List ℕ) (m : Message) (place : ℕ) (h : Held) (answer : CreditAnswer)
+pub raised_parts : (c : Circuit) (new : PlacesState) (message : CodeMessage) (rules : Rules) (log : Log) (command : ℕ) (body : List ℕ) (m : Message) (place : ℕ) (h : PlacedStream) (answer : CreditAnswer)
     → IsBrought message log command body m → HasParts c log → m.command ≡ sendme_command → (m.stream ≡ 0 → ⊥)
     → m.place ≡ Some h.serial → held_at c.places place ≡ Some h
     → answer ≡ (if may_credit h then CreditAnswer.Raised else CreditAnswer.TooMuch) → answer ≡ CreditAnswer.Raised

@@ -13,8 +13,8 @@ use Rattle.circuit_model.specs.Places.{places}
 use Rattle.circuit_model.specs.Received.{message_at}
 use Rattle.circuit_model.specs.Effects.{effects_after}
 use Rattle.circuit_model.specs.Words.{entry_after}
-use Rattle.stream_edge.specs.declared.held.Held.{Held}
-use Rattle.stream_edge.specs.declared.held.Phase.TheVariants.{Reaching, Joined, Ending}
+use Rattle.stream_edge.specs.declared.placed_stream.PlacedStream.{PlacedStream}
+use Rattle.stream_edge.specs.declared.placed_stream.Phase.TheVariants.{Reaching, Joined, Ending}
 use Rattle.stream_edge.specs.PlacesState.{PlacesState, held_at, with_held}
 use Rattle.stream_edge.specs.Streams.{after_accepting, after_credit, after_draining, after_packaging, begun, is_free, may_drain}
 use Rattle.circ_relay.specs.PlacesOfLog.{ArePlaces, PlacesGoOn, is_edge_report}
@@ -39,55 +39,55 @@ unfolding PlacesGoOn
 begin_goes_on state new rules log e m place id to found command order first is are =
     to_equal (record (with_held state place (Some (begun id state.next_serial))) { next_serial = state.next_serial + 1 }) new rules log e is (begin_takes_a_place state rules log e m place id to are found command order first)
 
-pub connected_goes_on : (state new : PlacesState) (rules : Rules) (log : Log) (place : ℕ) (h : Held) →
+pub connected_goes_on : (state new : PlacesState) (rules : Rules) (log : Log) (place : ℕ) (h : PlacedStream) →
     held_at state place ≡ Some h → h.phase ≡ Reaching → new ≡ with_held state place (Some (record h { phase = Joined }))
     → PlacesGoOn state new rules log (Connected h.serial)
 unfolding PlacesGoOn
 connected_goes_on state new rules log place h at reaching is are =
     to_equal (with_held state place (Some (record h { phase = Joined }))) new rules log (Connected h.serial) is (connected_joins state rules log place h are at reaching)
 
-pub bytes_go_on : (state new : PlacesState) (rules : Rules) (log : Log) (place : ℕ) (h : Held) (bytes : List ℕ) →
+pub bytes_go_on : (state new : PlacesState) (rules : Rules) (log : Log) (place : ℕ) (h : PlacedStream) (bytes : List ℕ) →
     held_at state place ≡ Some h → new ≡ with_held state place (Some (after_packaging h))
     → PlacesGoOn state new rules log (Data h.serial bytes)
 unfolding PlacesGoOn
 bytes_go_on state new rules log place h bytes at is are =
     to_equal (with_held state place (Some (after_packaging h))) new rules log (Data h.serial bytes) is (bytes_package state rules log place h bytes are at)
 
-pub drained_goes_on : (state new : PlacesState) (rules : Rules) (log : Log) (place : ℕ) (h : Held) →
+pub drained_goes_on : (state new : PlacesState) (rules : Rules) (log : Log) (place : ℕ) (h : PlacedStream) →
     held_at state place ≡ Some h → may_drain h ≡ true → new ≡ with_held state place (Some (after_draining h))
     → PlacesGoOn state new rules log (Drained h.serial)
 unfolding PlacesGoOn
 drained_goes_on state new rules log place h at may is are =
     to_equal (with_held state place (Some (after_draining h))) new rules log (Drained h.serial) is (drained_drains state rules log place h are at may)
 
-pub ended_goes_on : (state new : PlacesState) (rules : Rules) (log : Log) (place : ℕ) (h : Held) (reason : ℕ) →
+pub ended_goes_on : (state new : PlacesState) (rules : Rules) (log : Log) (place : ℕ) (h : PlacedStream) (reason : ℕ) →
     is_closed log ≡ false → held_at state place ≡ Some h → new ≡ with_held state place (Some (record h { phase = Ending }))
     → PlacesGoOn state new rules log (Ended h.serial reason)
 unfolding PlacesGoOn
 ended_goes_on state new rules log place h reason live at is are =
     to_equal (with_held state place (Some (record h { phase = Ending }))) new rules log (Ended h.serial reason) is (ended_ends state rules log place h reason are live at)
 
-pub freed_goes_on : (state new : PlacesState) (rules : Rules) (log : Log) (place : ℕ) (h : Held) →
+pub freed_goes_on : (state new : PlacesState) (rules : Rules) (log : Log) (place : ℕ) (h : PlacedStream) →
     held_at state place ≡ Some h → new ≡ with_held state place None → PlacesGoOn state new rules log (Freed h.serial)
 unfolding PlacesGoOn
 freed_goes_on state new rules log place h at is are =
     to_equal (with_held state place None) new rules log (Freed h.serial) is (freed_frees state rules log place h are at)
 
-pub end_goes_on : (state new : PlacesState) (rules : Rules) (log : Log) (e : Event) (m : Message) (place : ℕ) (h : Held) →
+pub end_goes_on : (state new : PlacesState) (rules : Rules) (log : Log) (e : Event) (m : Message) (place : ℕ) (h : PlacedStream) →
     held_at state place ≡ Some h → message_at log e ≡ Some m → m.command ≡ end_command → m.place ≡ Some h.serial →
     new ≡ with_held state place (Some (record h { phase = Ending })) → PlacesGoOn state new rules log e
 unfolding PlacesGoOn
 end_goes_on state new rules log e m place h at found command named is are =
     to_equal (with_held state place (Some (record h { phase = Ending }))) new rules log e is (end_ends state rules log e m place h are found command named at)
 
-pub data_goes_on : (state new : PlacesState) (rules : Rules) (log : Log) (e : Event) (m : Message) (place : ℕ) (h : Held) →
+pub data_goes_on : (state new : PlacesState) (rules : Rules) (log : Log) (e : Event) (m : Message) (place : ℕ) (h : PlacedStream) →
     held_at state place ≡ Some h → message_at log e ≡ Some m → m.command ≡ data_command → m.place ≡ Some h.serial →
     new ≡ with_held state place (Some (after_accepting h)) → PlacesGoOn state new rules log e
 unfolding PlacesGoOn
 data_goes_on state new rules log e m place h at found command named is are =
     to_equal (with_held state place (Some (after_accepting h))) new rules log e is (data_accepts state rules log e m place h are found command named at)
 
-pub sendme_goes_on : (state new : PlacesState) (rules : Rules) (log : Log) (e : Event) (m : Message) (place : ℕ) (h : Held) →
+pub sendme_goes_on : (state new : PlacesState) (rules : Rules) (log : Log) (e : Event) (m : Message) (place : ℕ) (h : PlacedStream) →
     held_at state place ≡ Some h → message_at log e ≡ Some m → m.command ≡ sendme_command → 0 < m.stream
     → m.place ≡ Some h.serial →
     new ≡ with_held state place (Some (after_credit h)) → PlacesGoOn state new rules log e

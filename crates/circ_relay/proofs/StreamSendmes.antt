@@ -13,7 +13,7 @@ use Rattle.circuit_model.specs.Streams.{stream_sendme_at}
 use Rattle.circuit_model.specs.Effects.{message_effects, effects_after}
 use Rattle.circuit_model.specs.Words.{entry_after}
 use Rattle.circuit_model.proofs.Reading.{read-effects}
-use Rattle.stream_edge.specs.declared.held.Held.{Held}
+use Rattle.stream_edge.specs.declared.placed_stream.PlacedStream.{PlacedStream}
 use Rattle.stream_edge.specs.PlacesState.{PlacesState, held_at, with_held}
 use Rattle.stream_edge.specs.Streams.{pack_grant, may_credit, after_credit}
 use Rattle.circ_relay.specs.PlacesOfLog.{IsOfLog, ArePlaces}
@@ -37,10 +37,10 @@ sendme-closes log serial much = rw much refl
 pub sendme-raises : (log : Log) (serial : ℕ) → too_much log serial ≡ false → stream_sendme_at log (Some serial) ≡ no_effects
 sendme-raises log serial fits = rw fits refl
 
-credit-none : (h : Held) → may_credit h ≡ false → after_credit h ≡ h
+credit-none : (h : PlacedStream) → may_credit h ≡ false → after_credit h ≡ h
 credit-none h may = rw may refl
 
-credit-one : (h : Held) → may_credit h ≡ true → after_credit h ≡ record h { credits = h.credits + 1 }
+credit-one : (h : PlacedStream) → may_credit h ≡ true → after_credit h ≡ record h { credits = h.credits + 1 }
 credit-one h may = rw may refl
 
 and-false : (a b : Bool) → ((a && false) && b) ≡ false
@@ -54,7 +54,7 @@ closing_credits entry serial reason close =
     ap (λ (x : Option ℕ). (has_command sendme_command entry.message && is_none x) && has_place serial entry.message) close
     ∙ and-false (has_command sendme_command entry.message) (has_place serial entry.message)
 
-sendme-by : (state : PlacesState) (rules : Rules) (log : Log) (e : Event) (m : Message) (place : ℕ) (h : Held) →
+sendme-by : (state : PlacesState) (rules : Rules) (log : Log) (e : Event) (m : Message) (place : ℕ) (h : PlacedStream) →
     ArePlaces state log → message_at log e ≡ Some m → m.command ≡ sendme_command → (m.stream == 0) ≡ false
     → m.place ≡ Some h.serial → held_at state place ≡ Some h →
     (b : Bool) → too_much log h.serial ≡ b → may_credit h ≡ (if b then false else true) →
@@ -78,7 +78,7 @@ sendme-by state rules log e m place h are found command nonzero named at false f
     ∙ ap (λ (x : Effects). is_none x.close && has_place serial (Some m)) does
     ∙ ap (is_serial serial) named in
     let is : IsOfLog log h = are.streams place h at in
-    let more : Held = record h { credits = h.credits + 1 } in
+    let more : PlacedStream = record h { credits = h.credits + 1 } in
     let becomes : IsOfLog (entry ∷ log) more = record {
       place = is.place;
       found = place_stays entry log h.serial makes_none ∙ is.found;
@@ -101,7 +101,7 @@ at_most_by : (a b : ℕ) (t : Bool) → nat_lt b a ≡ t → nat_le a b ≡ (if 
 at_most_by a b true is = grind arith
 at_most_by a b false is = grind arith
 
-pub sendme_credits : (state : PlacesState) (rules : Rules) (log : Log) (e : Event) (m : Message) (place : ℕ) (h : Held) →
+pub sendme_credits : (state : PlacesState) (rules : Rules) (log : Log) (e : Event) (m : Message) (place : ℕ) (h : PlacedStream) →
     ArePlaces state log → message_at log e ≡ Some m → m.command ≡ sendme_command → 0 < m.stream → m.place ≡ Some h.serial
     → held_at state place ≡ Some h →
     ArePlaces (with_held state place (Some (after_credit h))) (entry_after rules log e ∷ log)

@@ -10,7 +10,7 @@ use Rattle.circuit_model.specs.declared.places.Phase.{Phase}
 use Rattle.circuit_model.specs.declared.places.Phase.TheVariants.{Reaching, Joined, Ending, Free}
 use Rattle.circuit_model.specs.Places.{Place, places, phase, is_taken_phase, taken_places}
 use Rattle.circuit_model.specs.Streams.{place_limit}
-use Rattle.stream_edge.specs.declared.held.Held.{Held}
+use Rattle.stream_edge.specs.declared.placed_stream.PlacedStream.{PlacedStream}
 use Rattle.stream_edge.specs.PlacesState.{PlacesState, held_at}
 use Rattle.stream_edge.specs.Streams.{is_free}
 use Rattle.stream_edge.proofs.Holding.{taken_within}
@@ -21,19 +21,19 @@ use Rattle.circ_relay.proofs.NamedNumbers.{AreApart, IsNamed, length-named, same
 
 -- The serials of the state and those of the log.
 
-abbrev serial_held : Option Held → Option ℕ
-serial_held held = option_map (λ (h : Held). h.serial) held
+abbrev serial_held : Option PlacedStream → Option ℕ
+serial_held held = option_map (λ (h : PlacedStream). h.serial) held
 
 abbrev serial_taken : Log → Place → Option ℕ
 serial_taken log place = if is_taken_phase (phase log place.key.serial) then Some place.key.serial else None
 
 -- What an element names.
-record Names (held : Option Held) (n : ℕ) : Type 0 where
-  stream : Held
+record Names (held : Option PlacedStream) (n : ℕ) : Type 0 where
+  stream : PlacedStream
   holds : held ≡ Some stream
   serial : stream.serial ≡ n
 
-names-held : (held : Option Held) (n : ℕ) → serial_held held ≡ Some n → Names held n
+names-held : (held : Option PlacedStream) (n : ℕ) → serial_held held ≡ Some n → Names held n
 names-held None n is = cc
 names-held (Some h) n is = record { stream = h; holds = refl; serial = same_some h.serial n is }
 
@@ -100,7 +100,7 @@ taken-held state log are named n is =
       names = ap serial_held kept.holds ∙ ap Some (kept.named ∙ sym serial ∙ names.1);
     }
 
-tests-held : (held : Option Held) → is_some (serial_held held) ≡ not (is_free held)
+tests-held : (held : Option PlacedStream) → is_some (serial_held held) ≡ not (is_free held)
 tests-held None = refl
 tests-held (Some h) = refl
 

@@ -6,8 +6,8 @@ use Rattle.circuit_model.specs.Log.{Entry, Log, Message}
 use Rattle.circuit_model.specs.declared.places.Phase.{Phase}
 use Rattle.circuit_model.specs.declared.places.Phase.TheVariants.{Reaching, Joined, Ending, Free}
 use Rattle.circuit_model.specs.Places.{Place, places, place_at, place_of, phase, connects, frees, closes_place, is_connected, is_ended, is_freed}
-use Rattle.circuit_model.specs.Windows.{stream_packaged, stream_sendmes, carried, drained, is_data_of, is_accepted, has_command, has_place, carries, drains}
-use Rattle.stream_edge.specs.declared.held.Held.{Held}
+use Rattle.circuit_model.specs.Windows.{stream_packaged, stream_sendmes, carried_count, drained_count, is_data_of, is_accepted, has_command, has_place, carries, drains}
+use Rattle.stream_edge.specs.declared.placed_stream.PlacedStream.{PlacedStream}
 use Rattle.circ_relay.specs.PlacesOfLog.{IsOfLog, IsUntold, IsSilent}
 
 -- An entry without a Reach order makes no place.
@@ -90,19 +90,19 @@ pub sendmes_more : (entry : Entry) (log : Log) (serial : ℕ)
 sendmes_more entry log serial is = rw is refl
 
 pub carried_stays : (entry : Entry) (log : Log) (serial : ℕ) → carries serial entry.effects.edge ≡ false
-    → carried (entry ∷ log) serial ≡ carried log serial
+    → carried_count (entry ∷ log) serial ≡ carried_count log serial
 carried_stays entry log serial other = rw other refl
 
 pub carried_more : (entry : Entry) (log : Log) (serial : ℕ) → carries serial entry.effects.edge ≡ true
-    → carried (entry ∷ log) serial ≡ carried log serial + 1
+    → carried_count (entry ∷ log) serial ≡ carried_count log serial + 1
 carried_more entry log serial is = rw is refl
 
 pub drained_stays : (entry : Entry) (log : Log) (serial : ℕ) → drains serial entry.event ≡ false
-    → drained (entry ∷ log) serial ≡ drained log serial
+    → drained_count (entry ∷ log) serial ≡ drained_count log serial
 drained_stays entry log serial other = rw other refl
 
 pub drained_more : (entry : Entry) (log : Log) (serial : ℕ) → drains serial entry.event ≡ true
-    → drained (entry ∷ log) serial ≡ drained log serial + 1
+    → drained_count (entry ∷ log) serial ≡ drained_count log serial + 1
 drained_more entry log serial is = rw is refl
 
 -- An entry that is silent on a place.
@@ -121,7 +121,7 @@ pub silent_phase : (entry : Entry) (log : Log) (serial : ℕ) → IsSilent entry
     → phase (entry ∷ log) serial ≡ phase log serial
 silent_phase entry log serial silent = phase_stays entry log serial silent.connects silent.frees silent.closes
 
-pub stream_at_its_place : (entry : Entry) (log : Log) (h : Held) (is : IsOfLog log h)
+pub stream_at_its_place : (entry : Entry) (log : Log) (h : PlacedStream) (is : IsOfLog log h)
     → place_at (entry ∷ log) h.serial ≡ Some is.place → IsSilent entry h.serial → IsOfLog (entry ∷ log) h
 stream_at_its_place entry log h is found silent = record {
   place = is.place;
@@ -134,7 +134,7 @@ stream_at_its_place entry log h is found silent = record {
   drained = is.drained ∙ sym (drained_stays entry log h.serial silent.drains);
 }
 
-pub stream_stays : (entry : Entry) (log : Log) (h : Held) → place_of entry.effects.edge ≡ None → IsSilent entry h.serial
+pub stream_stays : (entry : Entry) (log : Log) (h : PlacedStream) → place_of entry.effects.edge ≡ None → IsSilent entry h.serial
     → IsOfLog log h → IsOfLog (entry ∷ log) h
 stream_stays entry log h none silent is =
     stream_at_its_place entry log h is (place_stays entry log h.serial none ∙ is.found) silent

@@ -2,9 +2,9 @@
 use Rattle.std.proofs.Common.{◌≡◌, ◌≢◌, ℕ, Bool, true, Some, position, sym, ◌∙◌}
 use Rattle.std.proofs.lemmas.Bool.{ltb-true, lt-ltb}
 use Rattle.tr_io.specs.declared.names.StreamKey.{StreamKey}
-use Rattle.stream_edge.specs.declared.held.Held.{Held}
-use Rattle.stream_edge.specs.declared.held.Phase.{Phase}
-use Rattle.stream_edge.specs.declared.held.Phase.TheVariants.{Ending}
+use Rattle.stream_edge.specs.declared.placed_stream.PlacedStream.{PlacedStream}
+use Rattle.stream_edge.specs.declared.placed_stream.Phase.{Phase}
+use Rattle.stream_edge.specs.declared.placed_stream.Phase.TheVariants.{Ending}
 use Rattle.stream_edge.specs.PlacesState.{held_at}
 use Rattle.stream_edge.specs.Streams.{is_stream, may_drain}
 use Rattle.circ_relay.specs.declared.circuit.Circuit.{Circuit}
@@ -15,7 +15,7 @@ use Rattle.circ_relay.proofs.Edges.{at_found}
 pub undrained_by_test : (c : Circuit) (key : StreamKey) (phase : Phase) (place : ℕ) (result : Bool) → HasStream c key phase
     → phase ≢ Ending
     → position (is_stream key.id key.serial) c.places.streams ≡ Some place
-    → ((h : Held) → held_at c.places place ≡ Some h → result ≡ may_drain h)
+    → ((h : PlacedStream) → held_at c.places place ≡ Some h → result ≡ may_drain h)
     → (result ≡ true → HasUndrained c key) × (HasUndrained c key → result ≡ true)
 undrained_by_test c key phase place result has live first test =
     let at = at_found c key has.place place has.stream has.at first in

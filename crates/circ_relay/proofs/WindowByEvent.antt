@@ -11,7 +11,7 @@ use Rattle.circuit_model.specs.Rules.{Rules}
 use Rattle.circuit_model.specs.Log.{Log, Message, Effects, no_effects, closing, is_closed}
 use Rattle.circuit_model.specs.Opened.{keys_in, is_forward}
 use Rattle.circuit_model.specs.Places.{Place, place_at}
-use Rattle.circuit_model.specs.Packaged.{own, back_digest, package_of}
+use Rattle.circuit_model.specs.Packaged.{own_bodies, back_digest, package_of}
 use Rattle.circuit_model.specs.Windows.{is_data_body, is_data_of, packs_data, is_accepted, has_command, has_stream}
 use Rattle.circuit_model.specs.SendmeProof.{is_right_sendme}
 use Rattle.circuit_model.specs.Received.{message_in, message_at}
@@ -35,7 +35,7 @@ data_packs rules log serial bytes place live found = rw (live, found) refl
 pub edge_data_moves : (rules : Rules) (log : Log) (serial : ℕ) (bytes : List ℕ) (place : Place) → is_closed log ≡ false
     → place_at log serial ≡ Some place
     → window_of (entry_after rules log (Data serial bytes) ∷ log)
-    ≡ after_packaging (window_of log) (back_digest log (own log ++ package_of log data_command place.key.stream bytes ∷ []))
+    ≡ after_packaging (window_of log) (back_digest log (own_bodies log ++ package_of log data_command place.key.stream bytes ∷ []))
 edge_data_moves rules log serial bytes place live found =
     packaging_moves rules log (Data serial bytes) (package_of log data_command place.key.stream bytes)
     (data_packs rules log serial bytes place live found)

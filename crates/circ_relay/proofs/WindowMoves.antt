@@ -10,7 +10,7 @@ use Rattle.circuit_model.specs.declared.event.Event.TheVariants.{Born}
 use Rattle.circuit_model.specs.Rules.{Rules}
 use Rattle.circuit_model.specs.Log.{Entry, Log}
 use Rattle.circuit_model.specs.Opened.{born_keys, keys_in}
-use Rattle.circuit_model.specs.Packaged.{packaged_by, own, back_digest}
+use Rattle.circuit_model.specs.Packaged.{packaged_by, own_bodies, back_digest}
 use Rattle.circuit_model.specs.Windows.{is_data_body, packs_data, is_accepted, has_stream, good_sendmes, accepted_data, circuit_packaged, circuit_grant}
 use Rattle.circuit_model.specs.Received.{message_at}
 use Rattle.circuit_model.specs.Effects.{open_effects, effects_after}
@@ -21,7 +21,7 @@ use Rattle.circ_relay.proofs.EventKinds.{message_no_keys, data_no_keys, message_
 
 pub packaged_count : (log : Log) → length (window_of log).packaged ≡ circuit_packaged log
 unfolding window_of
-packaged_count log = length-map (up_to_each_data (own log)) (back_digest log) ∙ count_packaged log
+packaged_count log = length-map (up_to_each_data (own_bodies log)) (back_digest log) ∙ count_packaged log
 
 pub room_of_log : (rules : Rules) (log : Log)
     → may_package rules.window (window_of log) ≡ nat_lt (circuit_packaged log) (circuit_grant rules log)
@@ -45,17 +45,17 @@ under_same_keys entry log bodies opened =
 
 pub more_digests : (entry : Entry) (log : Log) (body : List ℕ) → keys_in entry.event ≡ None
     → packaged_by entry.event entry.effects.back ≡ Some body → is_data_body (Some body) ≡ true
-    → data_digests (entry ∷ log) ≡ data_digests log ++ back_digest log (own log ++ body ∷ []) ∷ []
+    → data_digests (entry ∷ log) ≡ data_digests log ++ back_digest log (own_bodies log ++ body ∷ []) ∷ []
 more_digests entry log body opened packs counts =
-    under_same_keys entry log (up_to_each_data (own (entry ∷ log))) opened
-    ∙ ap (map (back_digest log)) (one_more_data (own log) (packaged_by entry.event entry.effects.back) body packs counts)
-    ∙ map-append (back_digest log) (up_to_each_data (own log)) ((own log ++ body ∷ []) ∷ [])
+    under_same_keys entry log (up_to_each_data (own_bodies (entry ∷ log))) opened
+    ∙ ap (map (back_digest log)) (one_more_data (own_bodies log) (packaged_by entry.event entry.effects.back) body packs counts)
+    ∙ map-append (back_digest log) (up_to_each_data (own_bodies log)) ((own_bodies log ++ body ∷ []) ∷ [])
 
 pub same_digests : (entry : Entry) (log : Log) → keys_in entry.event ≡ None → packs_data entry ≡ false
     → data_digests (entry ∷ log) ≡ data_digests log
 same_digests entry log opened other =
-    under_same_keys entry log (up_to_each_data (own (entry ∷ log))) opened
-    ∙ ap (map (back_digest log)) (no_more_data (own log) (packaged_by entry.event entry.effects.back) other)
+    under_same_keys entry log (up_to_each_data (own_bodies (entry ∷ log))) opened
+    ∙ ap (map (back_digest log)) (no_more_data (own_bodies log) (packaged_by entry.event entry.effects.back) other)
 
 -- The window, by its three parts.
 
@@ -98,10 +98,10 @@ data_no_sendme entry has = rw (has.found, has.by_command) refl
 
 entry_packages : (entry : Entry) (log : Log) (body : List ℕ) → keys_in entry.event ≡ None → entry.message ≡ None
     → packaged_by entry.event entry.effects.back ≡ Some body → is_data_body (Some body) ≡ true
-    → window_of (entry ∷ log) ≡ after_packaging (window_of log) (back_digest log (own log ++ body ∷ []))
+    → window_of (entry ∷ log) ≡ after_packaging (window_of log) (back_digest log (own_bodies log ++ body ∷ []))
 unfolding window_of
 entry_packages entry log body opened none packs counts =
-    windows_agree (window_of (entry ∷ log)) (after_packaging (window_of log) (back_digest log (own log ++ body ∷ [])))
+    windows_agree (window_of (entry ∷ log)) (after_packaging (window_of log) (back_digest log (own_bodies log ++ body ∷ [])))
     (more_digests entry log body opened packs counts)
     (same_sendmes entry log (no_message_good entry none))
     (same_accepted entry log (no_message_accepted data_command entry none))
@@ -138,7 +138,7 @@ left_true false b both = both
 
 pub packaging_moves : (rules : Rules) (log : Log) (event : Event) (body : List ℕ)
     → packaged_by event (effects_after rules log event).back ≡ Some body → is_data_body (Some body) ≡ true
-    → window_of (entry_after rules log event ∷ log) ≡ after_packaging (window_of log) (back_digest log (own log ++ body ∷ []))
+    → window_of (entry_after rules log event ∷ log) ≡ after_packaging (window_of log) (back_digest log (own_bodies log ++ body ∷ []))
 packaging_moves rules log event body packs counts =
     let is_data : packs_data (entry_after rules log event) ≡ true = ap is_data_body packs ∙ counts in
     entry_packages (entry_after rules log event) log body (data_no_keys rules log event is_data) (data_no_message rules log event is_data) packs counts

@@ -5,9 +5,9 @@ use Rattle.tr_io.specs.declared.names.Dest.{Dest}
 use Rattle.tr_io.specs.declared.names.StreamKey.{StreamKey}
 use Rattle.sendme_windows.specs.WindowsState.{HasCountsOf, HasRoom}
 use Rattle.stream_edge.specs.PlacesState.{PlacesState, held_at}
-use Rattle.stream_edge.specs.declared.held.Held.{Held}
-use Rattle.stream_edge.specs.declared.held.Phase.{Phase}
-use Rattle.stream_edge.specs.declared.held.Phase.TheVariants.{Joined, Ending}
+use Rattle.stream_edge.specs.declared.placed_stream.PlacedStream.{PlacedStream}
+use Rattle.stream_edge.specs.declared.placed_stream.Phase.{Phase}
+use Rattle.stream_edge.specs.declared.placed_stream.Phase.TheVariants.{Joined, Ending}
 use Rattle.stream_edge.specs.Streams.{is_stream, may_package}
 use Rattle.circuit_model.specs.Events.{Event}
 use Rattle.circuit_model.specs.Rules.{Rules}
@@ -31,7 +31,7 @@ sends_create2 payload = record no_effects { forth = Some (record { command = cre
 -- Each stream's address is kept at its place.
 abbrev pub AreAddresses : List Dest → PlacesState → Log → Type 0
 AreAddresses addresses state log =
-    (place : ℕ) (stream : Held) (of_log : Place) (none : Dest) → held_at state place ≡ Some stream
+    (place : ℕ) (stream : PlacedStream) (of_log : Place) (none : Dest) → held_at state place ≡ Some stream
     → place_at log stream.serial ≡ Some of_log →
     of_log.to ≡ address_of (slice_index_or addresses place none)
 
@@ -63,21 +63,21 @@ pub record HasCalls (c : Circuit) : Type 0 where
   pub places : c.places.calls < 2 ^ 63
 
 -- The first place with this StreamID and serial, and the stream that it holds.
-pub record IsAt (c : Circuit) (key : StreamKey) (place : ℕ) (stream : Held) : Type 0 where
+pub record IsAt (c : Circuit) (key : StreamKey) (place : ℕ) (stream : PlacedStream) : Type 0 where
   pub first : position (is_stream key.id key.serial) c.places.streams ≡ Some place
   pub held : held_at c.places place ≡ Some stream
 
 -- The stream of this name is in this phase.
 pub record HasStream (c : Circuit) (key : StreamKey) (phase : Phase) : Type 0 where
   pub place : ℕ
-  pub stream : Held
+  pub stream : PlacedStream
   pub at : IsAt c key place stream
   pub now : stream.phase ≡ phase
 
 -- It isn't ending, and a DATA that was accepted for it is undrained.
 pub record HasUndrained (c : Circuit) (key : StreamKey) : Type 0 where
   pub place : ℕ
-  pub stream : Held
+  pub stream : PlacedStream
   pub at : IsAt c key place stream
   pub live : stream.phase ≢ Ending
   pub undrained : stream.drained < stream.accepted
@@ -85,7 +85,7 @@ pub record HasUndrained (c : Circuit) (key : StreamKey) : Type 0 where
 -- It is connected, and its window and the circuit's allow one more DATA.
 pub record MaySend (c : Circuit) (key : StreamKey) : Type 0 where
   pub place : ℕ
-  pub stream : Held
+  pub stream : PlacedStream
   pub at : IsAt c key place stream
   pub now : stream.phase ≡ Joined
   pub allowed : IsTrue (may_package stream)
@@ -93,6 +93,6 @@ pub record MaySend (c : Circuit) (key : StreamKey) : Type 0 where
 
 pub record IsLiveStream (c : Circuit) (key : StreamKey) : Type 0 where
   pub place : ℕ
-  pub stream : Held
+  pub stream : PlacedStream
   pub at : IsAt c key place stream
   pub live : stream.phase ≢ Ending

@@ -5,7 +5,7 @@ use Rattle.tr_io.specs.declared.edges.EdgeEvent.{EdgeEvent}
 use Rattle.tr_io.specs.declared.edges.EdgeEvent.TheVariants.{Connected, Data, Ended}
 use Rattle.tr_io.specs.declared.edges.EdgeOrder.{EdgeOrder}
 use Rattle.tr_io.specs.declared.edges.EdgeOrder.TheVariants.{Reach, Carry, Close}
-use Rattle.stream_edge.specs.declared.held.Phase.TheVariants.{Reaching}
+use Rattle.stream_edge.specs.declared.placed_stream.Phase.TheVariants.{Reaching}
 use Rattle.circuit_model.specs.Events.{Event}
 use Rattle.circuit_model.specs.declared.event.Event.TheVariants.{Connected as connected, Data as edge_data, Ended as ended}
 use Rattle.circ_relay.specs.declared.circuit.Circuit.{Circuit}

@@ -3,7 +3,7 @@ use Rattle.std.specs.Prelude.{◌≡◌, ℕ, List, length, Option, Some}
 use Rattle.run_digest.specs.HashState.{HashState, HasAbsorbed}
 use Rattle.circuit_model.specs.Log.{Log, pushed}
 use Rattle.circuit_model.specs.Opened.{born_keys, born_pad}
-use Rattle.circuit_model.specs.Packaged.{own, finished}
+use Rattle.circuit_model.specs.Packaged.{own_bodies, finished}
 use Rattle.relay_padding.specs.PaddingState.{PaddingState}
 
 -- What contracts see of a `Packager`.
@@ -14,9 +14,9 @@ pub record PackagerState : Type 0 where
 -- It is that of a circuit: its running digest is that of the bodies that the circuit packaged, and its
 -- padding goes on with the next one.
 pub record IsPackager (state : PackagerState) (log : Log) : Type 0 where
-  pub digest : HasAbsorbed state.digest (born_keys log).db (own log)
+  pub digest : HasAbsorbed state.digest (born_keys log).db (own_bodies log)
   pub key : state.padding.key ≡ born_pad log
-  pub count : state.padding.count ≡ length (own log)
+  pub count : state.padding.count ≡ length (own_bodies log)
 
 -- What the circuit was opened with stays.
 pub record IsSameCircuit (log longer : Log) : Type 0 where
@@ -27,7 +27,7 @@ pub record IsSameCircuit (log longer : Log) : Type 0 where
 -- packaged, the packager is that of the longer log.
 abbrev pub IsPackagedNext : PackagerState → Log → Option (List ℕ) → Type 0
 IsPackagedNext state log next_body =
-    (longer : Log) → own longer ≡ pushed (own log) next_body → IsSameCircuit log longer → IsPackager state longer
+    (longer : Log) → own_bodies longer ≡ pushed (own_bodies log) next_body → IsSameCircuit log longer → IsPackager state longer
 
 -- This body is packaged, whatever the log.
 abbrev pub Packages : PackagerState → PackagerState → List ℕ → Type 0

@@ -1,9 +1,9 @@
 -- When the places that a circuit keeps are those of its log.
 use Rattle.std.specs.Prelude.{◌≡◌, ◌≢◌, ◌<◌, ◌≤◌, ℕ, ◌==◌, ◌&&◌, ◌∷◌, Bool, true, false, length, filter, not, Some, IsTrue}
 use Rattle.tor_spec.specs.RelayCell.{sendme_command}
-use Rattle.stream_edge.specs.declared.held.Held.{Held}
-use Rattle.stream_edge.specs.declared.held.Phase.{Phase as HeldPhase}
-use Rattle.stream_edge.specs.declared.held.Phase.TheVariants.{Reaching as held_reaching, Joined as held_joined, Ending as held_ending}
+use Rattle.stream_edge.specs.declared.placed_stream.PlacedStream.{PlacedStream}
+use Rattle.stream_edge.specs.declared.placed_stream.Phase.{Phase as HeldPhase}
+use Rattle.stream_edge.specs.declared.placed_stream.Phase.TheVariants.{Reaching as held_reaching, Joined as held_joined, Ending as held_ending}
 use Rattle.stream_edge.specs.PlacesState.{PlacesState, held_at}
 use Rattle.stream_edge.specs.Streams.{is_free}
 use Rattle.circuit_model.specs.Events.{Event}
@@ -13,7 +13,7 @@ use Rattle.circuit_model.specs.Log.{Entry, Log, StreamKey}
 use Rattle.circuit_model.specs.declared.places.Phase.{Phase}
 use Rattle.circuit_model.specs.declared.places.Phase.TheVariants.{Reaching, Joined, Ending, Free}
 use Rattle.circuit_model.specs.Places.{Place, places, place_at, phase, is_live, connects, frees, closes_place}
-use Rattle.circuit_model.specs.Windows.{stream_packaged, stream_sendmes, carried, drained, is_data_of, is_accepted, has_place, carries, drains}
+use Rattle.circuit_model.specs.Windows.{stream_packaged, stream_sendmes, carried_count, drained_count, is_data_of, is_accepted, has_place, carries, drains}
 use Rattle.circuit_model.specs.Words.{entry_after}
 
 -- The phase of a stream that is held. A place that was freed holds none.
@@ -23,28 +23,28 @@ model_phase held_joined = Joined
 model_phase held_ending = Ending
 
 -- The name of a stream that is held.
-abbrev pub stream_key : Held → StreamKey
+abbrev pub stream_key : PlacedStream → StreamKey
 stream_key h = record { stream = h.stream; serial = h.serial }
 
 -- The stream is the one of a place of the log that isn't freed: it has the place's StreamID and serial,
 -- and its phase and its counts are those of the place.
-pub record IsOfLog (log : Log) (h : Held) : Type 0 where
+pub record IsOfLog (log : Log) (h : PlacedStream) : Type 0 where
   pub place : Place
   pub found : place_at log h.serial ≡ Some place
   pub key : place.key ≡ stream_key h
   pub phase : phase log h.serial ≡ model_phase h.phase
   pub packed : h.packed ≡ stream_packaged log h.serial
   pub credits : h.credits ≡ stream_sendmes log h.serial
-  pub accepted : h.accepted ≡ carried log h.serial
-  pub drained : h.drained ≡ drained log h.serial
+  pub accepted : h.accepted ≡ carried_count log h.serial
+  pub drained : h.drained ≡ drained_count log h.serial
 
 -- The log says nothing yet of the place with this serial.
 pub record IsUntold (log : Log) (serial : ℕ) : Type 0 where
   pub phase : phase log serial ≡ Reaching
   pub packed : stream_packaged log serial ≡ 0
   pub credits : stream_sendmes log serial ≡ 0
-  pub accepted : carried log serial ≡ 0
-  pub drained : drained log serial ≡ 0
+  pub accepted : carried_count log serial ≡ 0
+  pub drained : drained_count log serial ≡ 0
 
 -- What the edge reports of a place.
 abbrev pub is_edge_report : Event → Bool
@@ -68,7 +68,7 @@ pub record IsSilent (entry : Entry) (serial : ℕ) : Type 0 where
 -- A place of the state that holds the stream with this serial.
 pub record IsHeld (state : PlacesState) (serial : ℕ) : Type 0 where
   pub place : ℕ
-  pub stream : Held
+  pub stream : PlacedStream
   pub holds : held_at state place ≡ Some stream
   pub named : stream.serial ≡ serial
 
@@ -76,8 +76,8 @@ pub record IsHeld (state : PlacesState) (serial : ℕ) : Type 0 where
 -- the place with its next serial.
 pub record ArePlaces (state : PlacesState) (log : Log) : Type 0 where
   pub next : state.next_serial ≡ length (places log)
-  pub streams : (place : ℕ) (h : Held) → held_at state place ≡ Some h → IsOfLog log h
-  pub once : (one other : ℕ) (g h : Held) → held_at state one ≡ Some g → held_at state other ≡ Some h → g.serial ≡ h.serial
+  pub streams : (place : ℕ) (h : PlacedStream) → held_at state place ≡ Some h → IsOfLog log h
+  pub once : (one other : ℕ) (g h : PlacedStream) → held_at state one ≡ Some g → held_at state other ≡ Some h → g.serial ≡ h.serial
       → one ≡ other
   pub whole : (serial : ℕ) → serial < length (places log) → phase log serial ≢ Free → IsHeld state serial
   pub untold : (serial : ℕ) → length (places log) ≤ serial → IsUntold log serial

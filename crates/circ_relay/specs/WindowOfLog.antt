@@ -5,7 +5,7 @@ use Rattle.tor_spec.specs.CircuitWindow.{CircuitWindow}
 use Rattle.sendme_windows.specs.declared.proof_answer.ProofAnswer.{ProofAnswer}
 use Rattle.sendme_windows.specs.declared.proof_answer.ProofAnswer.TheVariants.{Good}
 use Rattle.circuit_model.specs.Log.{Log}
-use Rattle.circuit_model.specs.Packaged.{own, back_digest}
+use Rattle.circuit_model.specs.Packaged.{own_bodies, back_digest}
 use Rattle.circuit_model.specs.Windows.{is_data_body, good_sendmes, accepted_data}
 
 -- Some bodies up to and with each DATA among them, the first DATA's first.
@@ -18,7 +18,7 @@ up_to_each_data (body ∷ bodies) =
 
 -- The backward running digest after each DATA that this relay packaged, oldest first.
 abbrev pub data_digests : Log → List (List ℕ)
-data_digests log = map (back_digest log) (up_to_each_data (own log))
+data_digests log = map (back_digest log) (up_to_each_data (own_bodies log))
 
 -- The relay's side of the window: the digests after the DATA that it packaged, the right SENDMEs of
 -- the client for them, and the client's DATA that it accepted.

@@ -13,7 +13,7 @@ ghost use Rattle.circ_relay.specs.Packaging.{IsPackager, Packages};
 ghost use Rattle.circ_relay.specs.Values.{effects_of, rules_of};
 ghost use Rattle.stream_edge.specs.PlacesState.{held_at};
 ghost use Rattle.stream_edge.specs.Streams.{is_stream};
-ghost use Rattle.stream_edge.specs.declared.held.Held.{Held};
+ghost use Rattle.stream_edge.specs.declared.placed_stream.PlacedStream.{PlacedStream};
 
 use crate::effects::Effects;
 use crate::packager::Packager;
@@ -89,7 +89,7 @@ impl Circuit {
     pub fn phase(&self, key: StreamKey) -> Option<Phase>
         ensures phase { result ≡ option_map (λ stream. stream.phase) (option_and_then (held_at self.now.places) (position (is_stream key.id key.serial) self.now.places.streams)) }
         ensures some { IfSome result (λ phase. HasStream self.now key phase) }
-        ensures none { IfNone result ((place : ℕ) (stream : Held) → held_at self.now.places place ≡ Some stream → stream.stream ≡ key.id → stream.serial ≢ key.serial) }
+        ensures none { IfNone result ((place : ℕ) (stream : PlacedStream) → held_at self.now.places place ≡ Some stream → stream.stream ≡ key.id → stream.serial ≢ key.serial) }
     {
         self.places.phase(self.place_of(key)?)
     }

@@ -13,7 +13,7 @@ ghost use Rattle.circ_relay.specs.EdgeEvents.{MayReport, event_of, stream_of_ord
 ghost use Rattle.circ_relay.specs.ShutWindows.{shut_window};
 ghost use Rattle.circ_relay.specs.Values.{effects_of};
 ghost use Rattle.stream_edge.specs.Streams.{is_stream};
-ghost use Rattle.stream_edge.specs.declared.held.Phase.{Phase};
+ghost use Rattle.stream_edge.specs.declared.placed_stream.Phase.{Phase};
 
 use crate::circuit::{CellPayload, Circuit};
 use crate::effects::Effects;

@@ -19,23 +19,23 @@ ghost use Rattle.circuit_model.specs.Streams.{acknowledging, ending, place_limit
 ghost use Rattle.circuit_model.specs.Effects.{effects_after};
 ghost use Rattle.stream_edge.specs.PlacesState.{PlacesState, held_at};
 ghost use Rattle.stream_edge.specs.Streams.{is_free, may_accept, may_credit, sendme_due};
-ghost use Rattle.stream_edge.specs.declared.held.Held.{Held};
+ghost use Rattle.stream_edge.specs.declared.placed_stream.PlacedStream.{PlacedStream};
 ghost use Rattle.circ_relay.specs.PlacesOfLog.{AreNamed, ArePlaces, stream_key};
 
 /// What the edge reports of a held stream.
 pub fn reports_of_a_held_stream()
-    ensures connected { (state : PlacesState) (rules : Rules) (log : Log) (place : ℕ) (h : Held) (p : Place) →
+    ensures connected { (state : PlacesState) (rules : Rules) (log : Log) (place : ℕ) (h : PlacedStream) (p : Place) →
         ArePlaces state log → IsFalse (is_closed log) →
         held_at state place ≡ Some h → place_at log h.serial ≡ Some p →
         effects_after rules log (Connected h.serial) ≡ packaging log connected_command h.stream (connected_payload p.to.ip time_to_live) }
-    ensures bytes { (state : PlacesState) (rules : Rules) (log : Log) (place : ℕ) (h : Held) (bytes : List ℕ) →
+    ensures bytes { (state : PlacesState) (rules : Rules) (log : Log) (place : ℕ) (h : PlacedStream) (bytes : List ℕ) →
         ArePlaces state log → IsFalse (is_closed log) →
         held_at state place ≡ Some h → effects_after rules log (Data h.serial bytes) ≡ packaging log data_command h.stream bytes }
-    ensures ended { (state : PlacesState) (rules : Rules) (log : Log) (place : ℕ) (h : Held) (reason : ℕ) → ArePlaces state log →
+    ensures ended { (state : PlacesState) (rules : Rules) (log : Log) (place : ℕ) (h : PlacedStream) (reason : ℕ) → ArePlaces state log →
         IsFalse (is_closed log) →
         held_at state place ≡ Some h →
         effects_after rules log (Ended h.serial reason) ≡ record (ending log h.stream reason) { edge = Some (Close (stream_key h) reason) } }
-    ensures drained { (state : PlacesState) (rules : Rules) (log : Log) (place : ℕ) (h : Held) (due : Bool) →
+    ensures drained { (state : PlacesState) (rules : Rules) (log : Log) (place : ℕ) (h : PlacedStream) (due : Bool) →
         ArePlaces state log → IsFalse (is_closed log) →
         held_at state place ≡ Some h → sendme_due h ≡ Some due →
         effects_after rules log (Drained h.serial) ≡ (if due then packaging log sendme_command h.stream [] else no_effects) }
@@ -46,22 +46,22 @@ pub fn messages_of_a_live_stream()
     ensures end { (rules : Rules) (log : Log) (e : Event) (m : Message) (serial : ℕ) →
         message_at log e ≡ Some m → m.command ≡ end_command → m.place ≡ Some serial →
         effects_after rules log e ≡ ordering (Close (record { stream = m.stream; serial = serial }) (end_reason m.payload)) }
-    ensures accepted { (state : PlacesState) (rules : Rules) (log : Log) (e : Event) (m : Message) (place : ℕ) (h : Held) →
+    ensures accepted { (state : PlacesState) (rules : Rules) (log : Log) (e : Event) (m : Message) (place : ℕ) (h : PlacedStream) →
         ArePlaces state log →
         message_at log e ≡ Some m → m.command ≡ data_command → m.place ≡ Some h.serial → held_at state place ≡ Some h →
         IsTrue (may_accept h) →
         effects_after rules log e ≡ record (acknowledging log m) { edge = Some (Carry (record { stream = m.stream; serial = h.serial }) m.payload) } }
-    ensures overrun { (state : PlacesState) (rules : Rules) (log : Log) (e : Event) (m : Message) (place : ℕ) (h : Held) →
+    ensures overrun { (state : PlacesState) (rules : Rules) (log : Log) (e : Event) (m : Message) (place : ℕ) (h : PlacedStream) →
         ArePlaces state log →
         message_at log e ≡ Some m → m.command ≡ data_command → m.place ≡ Some h.serial → held_at state place ≡ Some h →
         IsFalse (may_accept h) →
         effects_after rules log e ≡ closing destroy_protocol }
-    ensures raised { (state : PlacesState) (rules : Rules) (log : Log) (e : Event) (m : Message) (place : ℕ) (h : Held) →
+    ensures raised { (state : PlacesState) (rules : Rules) (log : Log) (e : Event) (m : Message) (place : ℕ) (h : PlacedStream) →
         ArePlaces state log →
         message_at log e ≡ Some m → m.command ≡ sendme_command → 0 < m.stream → m.place ≡ Some h.serial →
         held_at state place ≡ Some h → IsTrue (may_credit h) →
         effects_after rules log e ≡ no_effects }
-    ensures too_much { (state : PlacesState) (rules : Rules) (log : Log) (e : Event) (m : Message) (place : ℕ) (h : Held) →
+    ensures too_much { (state : PlacesState) (rules : Rules) (log : Log) (e : Event) (m : Message) (place : ℕ) (h : PlacedStream) →
         ArePlaces state log →
         message_at log e ≡ Some m → m.command ≡ sendme_command → 0 < m.stream → m.place ≡ Some h.serial →
         held_at state place ≡ Some h → IsFalse (may_credit h) →

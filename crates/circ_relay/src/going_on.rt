@@ -14,28 +14,28 @@ ghost use Rattle.circuit_model.specs.Received.{message_at};
 ghost use Rattle.circuit_model.specs.Effects.{effects_after};
 ghost use Rattle.stream_edge.specs.PlacesState.{PlacesState, held_at, with_held};
 ghost use Rattle.stream_edge.specs.Streams.{after_accepting, after_credit, after_draining, after_packaging, begun, is_free, may_drain};
-ghost use Rattle.stream_edge.specs.declared.held.Held.{Held};
+ghost use Rattle.stream_edge.specs.declared.placed_stream.PlacedStream.{PlacedStream};
 ghost use Rattle.circ_relay.specs.PlacesOfLog.{PlacesGoOn, is_edge_report};
 
 use stream_edge::Phase;
 
 /// With what the edge reports of a held stream.
 pub fn places_go_on_with_reports()
-    ensures connected { (state new : PlacesState) (rules : Rules) (log : Log) (place : ℕ) (h : Held) →
+    ensures connected { (state new : PlacesState) (rules : Rules) (log : Log) (place : ℕ) (h : PlacedStream) →
         held_at state place ≡ Some h → h.phase ≡ Phase.Reaching →
         new ≡ with_held state place (Some (record h { phase = Phase.Joined })) →
         PlacesGoOn state new rules log (Connected h.serial) }
-    ensures bytes { (state new : PlacesState) (rules : Rules) (log : Log) (place : ℕ) (h : Held) (bytes : List ℕ) →
+    ensures bytes { (state new : PlacesState) (rules : Rules) (log : Log) (place : ℕ) (h : PlacedStream) (bytes : List ℕ) →
         held_at state place ≡ Some h → new ≡ with_held state place (Some (after_packaging h)) →
         PlacesGoOn state new rules log (Data h.serial bytes) }
-    ensures drained { (state new : PlacesState) (rules : Rules) (log : Log) (place : ℕ) (h : Held) →
+    ensures drained { (state new : PlacesState) (rules : Rules) (log : Log) (place : ℕ) (h : PlacedStream) →
         held_at state place ≡ Some h → IsTrue (may_drain h) → new ≡ with_held state place (Some (after_draining h)) →
         PlacesGoOn state new rules log (Drained h.serial) }
-    ensures ended { (state new : PlacesState) (rules : Rules) (log : Log) (place : ℕ) (h : Held) (reason : ℕ) →
+    ensures ended { (state new : PlacesState) (rules : Rules) (log : Log) (place : ℕ) (h : PlacedStream) (reason : ℕ) →
         IsFalse (is_closed log) → held_at state place ≡ Some h →
         new ≡ with_held state place (Some (record h { phase = Phase.Ending })) →
         PlacesGoOn state new rules log (Ended h.serial reason) }
-    ensures freed { (state new : PlacesState) (rules : Rules) (log : Log) (place : ℕ) (h : Held) →
+    ensures freed { (state new : PlacesState) (rules : Rules) (log : Log) (place : ℕ) (h : PlacedStream) →
         held_at state place ≡ Some h → new ≡ with_held state place None → PlacesGoOn state new rules log (Freed h.serial) }
 {}
 
@@ -47,13 +47,13 @@ pub fn places_go_on_with_messages()
         position is_free state.streams ≡ Some place →
         new ≡ record (with_held state place (Some (begun id state.next_serial))) { next_serial = state.next_serial + 1 } →
         PlacesGoOn state new rules log e }
-    ensures end { (state new : PlacesState) (rules : Rules) (log : Log) (e : Event) (m : Message) (place : ℕ) (h : Held) →
+    ensures end { (state new : PlacesState) (rules : Rules) (log : Log) (e : Event) (m : Message) (place : ℕ) (h : PlacedStream) →
         held_at state place ≡ Some h → message_at log e ≡ Some m → m.command ≡ end_command → m.place ≡ Some h.serial →
         new ≡ with_held state place (Some (record h { phase = Phase.Ending })) → PlacesGoOn state new rules log e }
-    ensures accepted { (state new : PlacesState) (rules : Rules) (log : Log) (e : Event) (m : Message) (place : ℕ) (h : Held) →
+    ensures accepted { (state new : PlacesState) (rules : Rules) (log : Log) (e : Event) (m : Message) (place : ℕ) (h : PlacedStream) →
         held_at state place ≡ Some h → message_at log e ≡ Some m → m.command ≡ data_command → m.place ≡ Some h.serial →
         new ≡ with_held state place (Some (after_accepting h)) → PlacesGoOn state new rules log e }
-    ensures credited { (state new : PlacesState) (rules : Rules) (log : Log) (e : Event) (m : Message) (place : ℕ) (h : Held) →
+    ensures credited { (state new : PlacesState) (rules : Rules) (log : Log) (e : Event) (m : Message) (place : ℕ) (h : PlacedStream) →
         held_at state place ≡ Some h → message_at log e ≡ Some m → m.command ≡ sendme_command → 0 < m.stream →
         m.place ≡ Some h.serial →
         new ≡ with_held state place (Some (after_credit h)) → PlacesGoOn state new rules log e }

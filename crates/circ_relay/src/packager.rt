@@ -4,7 +4,7 @@ ghost use Rattle.std.specs.Prelude.{◌≡◌, ◌+◌, ◌^◌, ◌<◌, ◌++�
 ghost use Rattle.tor_spec.specs.RelayCell.{fits_length};
 ghost use Rattle.circuit_model.specs.Log.{Log};
 ghost use Rattle.circuit_model.specs.Opened.{born_keys, born_pad};
-ghost use Rattle.circuit_model.specs.Packaged.{back_digest, finished, own};
+ghost use Rattle.circuit_model.specs.Packaged.{back_digest, finished, own_bodies};
 ghost use Rattle.circ_relay.specs.Packaging.{IsPackager, IsPackagedNext};
 
 use relay_cell::put_digest;
@@ -34,7 +34,7 @@ impl Model for Packager {
 impl Packager {
     /// Before the first body, by the seed of the backward digest and the key of the padding.
     pub fn of(seed: &[u8; 20], pad: Option<[u8; 16]>) -> Packager
-        ensures packager { (log : Log) → own log ≡ [] → (born_keys log).db ≡ seed.now → born_pad log ≡ pad →
+        ensures packager { (log : Log) → own_bodies log ≡ [] → (born_keys log).db ≡ seed.now → born_pad log ≡ pad →
             IsPackager result log }
         ensures count { result.padding.count ≡ 0 }
     {
@@ -50,7 +50,7 @@ impl Packager {
         requires count { self.old.padding.count < 2 ^ 63 }
         requires fits { IsTrue (fits_length body.old) }
         ensures body { (log : Log) → IsPackager self.old log → body.new ≡ finished log body.old }
-        ensures digest { (log : Log) → IsPackager self.old log → result ≡ back_digest log (own log ++ body.new ∷ []) }
+        ensures digest { (log : Log) → IsPackager self.old log → result ≡ back_digest log (own_bodies log ++ body.new ∷ []) }
         ensures next { (log : Log) → IsPackager self.old log → IsPackagedNext self.new log (Some body.new) }
         ensures count { self.new.padding.count ≡ self.old.padding.count + 1 }
     {

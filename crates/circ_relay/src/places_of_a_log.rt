@@ -14,7 +14,7 @@ ghost use Rattle.circuit_model.specs.Effects.{effects_after};
 ghost use Rattle.circuit_model.specs.Words.{entry_after, log};
 ghost use Rattle.stream_edge.specs.PlacesState.{PlacesState, held_at, with_held};
 ghost use Rattle.stream_edge.specs.Streams.{after_accepting, after_credit, after_packaging, after_draining, begun, is_free, may_drain};
-ghost use Rattle.stream_edge.specs.declared.held.Held.{Held};
+ghost use Rattle.stream_edge.specs.declared.placed_stream.PlacedStream.{PlacedStream};
 ghost use Rattle.circ_relay.specs.PlacesOfLog.{AreNamed, ArePlaces, IsSilent, is_edge_report};
 
 use stream_edge::Phase;
@@ -48,42 +48,42 @@ pub fn an_accepted_begin_takes_a_place()
 
 /// A stream that is connected is Joined.
 pub fn connected_streams_are_joined()
-    ensures { (state : PlacesState) (rules : Rules) (log : Log) (place : ℕ) (h : Held) →
+    ensures { (state : PlacesState) (rules : Rules) (log : Log) (place : ℕ) (h : PlacedStream) →
         ArePlaces state log → held_at state place ≡ Some h → h.phase ≡ Phase.Reaching →
         ArePlaces (with_held state place (Some (record h { phase = Phase.Joined }))) (entry_after rules log (Connected h.serial) ∷ log) }
 {}
 
 /// Bytes of a stream's connection are packaged, also where there are none.
 pub fn bytes_are_packaged()
-    ensures { (state : PlacesState) (rules : Rules) (log : Log) (place : ℕ) (h : Held) (bytes : List ℕ) →
+    ensures { (state : PlacesState) (rules : Rules) (log : Log) (place : ℕ) (h : PlacedStream) (bytes : List ℕ) →
         ArePlaces state log → held_at state place ≡ Some h →
         ArePlaces (with_held state place (Some (after_packaging h))) (entry_after rules log (Data h.serial bytes) ∷ log) }
 {}
 
 /// An accepted DATA that its connection has taken is drained.
 pub fn taken_cells_are_drained()
-    ensures { (state : PlacesState) (rules : Rules) (log : Log) (place : ℕ) (h : Held) →
+    ensures { (state : PlacesState) (rules : Rules) (log : Log) (place : ℕ) (h : PlacedStream) →
         ArePlaces state log → held_at state place ≡ Some h → IsTrue (may_drain h) →
         ArePlaces (with_held state place (Some (after_draining h))) (entry_after rules log (Drained h.serial) ∷ log) }
 {}
 
 /// A stream whose connection ended is Ending.
 pub fn ended_streams_are_ending()
-    ensures { (state : PlacesState) (rules : Rules) (log : Log) (place : ℕ) (h : Held) (reason : ℕ) →
+    ensures { (state : PlacesState) (rules : Rules) (log : Log) (place : ℕ) (h : PlacedStream) (reason : ℕ) →
         ArePlaces state log → IsFalse (is_closed log) → held_at state place ≡ Some h →
         ArePlaces (with_held state place (Some (record h { phase = Phase.Ending }))) (entry_after rules log (Ended h.serial reason) ∷ log) }
 {}
 
 /// A place that was given back holds nothing.
 pub fn freed_places_hold_nothing()
-    ensures { (state : PlacesState) (rules : Rules) (log : Log) (place : ℕ) (h : Held) →
+    ensures { (state : PlacesState) (rules : Rules) (log : Log) (place : ℕ) (h : PlacedStream) →
         ArePlaces state log → held_at state place ≡ Some h →
         ArePlaces (with_held state place None) (entry_after rules log (Freed h.serial) ∷ log) }
 {}
 
 /// A live stream that an END ends is Ending.
 pub fn an_end_message_ends_its_stream()
-    ensures { (state : PlacesState) (rules : Rules) (log : Log) (e : Event) (m : Message) (place : ℕ) (h : Held) →
+    ensures { (state : PlacesState) (rules : Rules) (log : Log) (e : Event) (m : Message) (place : ℕ) (h : PlacedStream) →
         ArePlaces state log → message_at log e ≡ Some m → m.command ≡ end_command → m.place ≡ Some h.serial →
         held_at state place ≡ Some h →
         ArePlaces (with_held state place (Some (record h { phase = Phase.Ending }))) (entry_after rules log e ∷ log) }
@@ -91,7 +91,7 @@ pub fn an_end_message_ends_its_stream()
 
 /// A DATA for a live stream is accepted where the stream's window allows it; else nothing is counted.
 pub fn a_data_message_is_accepted_by_its_window()
-    ensures { (state : PlacesState) (rules : Rules) (log : Log) (e : Event) (m : Message) (place : ℕ) (h : Held) →
+    ensures { (state : PlacesState) (rules : Rules) (log : Log) (e : Event) (m : Message) (place : ℕ) (h : PlacedStream) →
         ArePlaces state log → message_at log e ≡ Some m → m.command ≡ data_command → m.place ≡ Some h.serial →
         held_at state place ≡ Some h →
         ArePlaces (with_held state place (Some (after_accepting h))) (entry_after rules log e ∷ log) }
@@ -100,7 +100,7 @@ pub fn a_data_message_is_accepted_by_its_window()
 /// A SENDME for a live stream raises its window where the window stays at or below its start; else
 /// nothing is counted.
 pub fn a_sendme_raises_the_window_of_its_stream()
-    ensures { (state : PlacesState) (rules : Rules) (log : Log) (e : Event) (m : Message) (place : ℕ) (h : Held) →
+    ensures { (state : PlacesState) (rules : Rules) (log : Log) (e : Event) (m : Message) (place : ℕ) (h : PlacedStream) →
         ArePlaces state log → message_at log e ≡ Some m → m.command ≡ sendme_command → 0 < m.stream → m.place ≡ Some h.serial →
         held_at state place ≡ Some h →
         ArePlaces (with_held state place (Some (after_credit h))) (entry_after rules log e ∷ log) }

@@ -12,7 +12,7 @@ ghost use Rattle.circuit_model.specs.Streams.{ending, acknowledging, data_effect
 ghost use Rattle.circuit_model.specs.Words.{effects, log};
 ghost use Rattle.stream_edge.specs.PlacesState.{IsLive, IsTaken, held_at};
 ghost use Rattle.stream_edge.specs.Streams.{is_live_as};
-ghost use Rattle.stream_edge.specs.declared.held.Held.{Held};
+ghost use Rattle.stream_edge.specs.declared.placed_stream.PlacedStream.{PlacedStream};
 ghost use Rattle.circ_relay.specs.BroughtMessages.{IsBrought, after_cell};
 ghost use Rattle.circ_relay.specs.Packaging.{IsPackagedNext, Packages};
 ghost use Rattle.circ_relay.specs.EdgeEvents.{stream_of_order};
@@ -36,7 +36,7 @@ impl Circuit {
     // The place at which the StreamID is live.
     pub(crate) fn live_place(&self, stream: u16) -> Option<PlaceNo>
         ensures live { IfSome result (λ place. IsLive self.now.places place.0) }
-        ensures serial { IfSome result (λ place. (log : Log) (h : Held) → ArePlaces self.now.places log → AreNamed log → held_at self.now.places place.0 ≡ Some h → live_place log stream ≡ Some h.serial) }
+        ensures serial { IfSome result (λ place. (log : Log) (h : PlacedStream) → ArePlaces self.now.places log → AreNamed log → held_at self.now.places place.0 ≡ Some h → live_place log stream ≡ Some h.serial) }
         ensures none { IfNone result ((log : Log) → ArePlaces self.now.places log → AreNamed log → live_place log stream ≡ None) }
         ensures found { is_some result ≡ is_some (position (is_live_as stream) self.now.places.streams) }
     {
@@ -45,7 +45,7 @@ impl Circuit {
 
     pub(crate) fn key_at(&self, stream: u16, place: PlaceNo) -> StreamKey
         requires { IsTaken self.now.places place.0 }
-        ensures key { (h : Held) → held_at self.now.places place.0 ≡ Some h →
+        ensures key { (h : PlacedStream) → held_at self.now.places place.0 ≡ Some h →
             key_of result ≡ record { stream = stream; serial = h.serial } }
         ensures circuit { result.circ ≡ self.now.number }
     {

@@ -9,7 +9,7 @@ ghost use Rattle.circuit_model.specs.Rules.{Rules};
 ghost use Rattle.circuit_model.specs.Log.{Log, Message, is_closed};
 ghost use Rattle.circuit_model.specs.Opened.{keys_in};
 ghost use Rattle.circuit_model.specs.Places.{Place, place_at};
-ghost use Rattle.circuit_model.specs.Packaged.{own, back_digest, package_of};
+ghost use Rattle.circuit_model.specs.Packaged.{own_bodies, back_digest, package_of};
 ghost use Rattle.circuit_model.specs.Windows.{is_data_of};
 ghost use Rattle.circuit_model.specs.Received.{message_at};
 ghost use Rattle.circuit_model.specs.Effects.{effects_after};
@@ -23,7 +23,7 @@ pub fn bytes_of_the_edge_are_packaged()
     ensures at_a_place { (rules : Rules) (log : Log) (serial : ℕ) (bytes : List ℕ) (place : Place) →
         IsFalse (is_closed log) → place_at log serial ≡ Some place →
         window_of (entry_after rules log (Data serial bytes) ∷ log)
-        ≡ after_packaging (window_of log) (back_digest log (own log ++ package_of log data_command place.key.stream bytes ∷ [])) }
+        ≡ after_packaging (window_of log) (back_digest log (own_bodies log ++ package_of log data_command place.key.stream bytes ∷ [])) }
     ensures at_none { (rules : Rules) (log : Log) (serial : ℕ) (bytes : List ℕ) → place_at log serial ≡ None →
         window_of (entry_after rules log (Data serial bytes) ∷ log) ≡ window_of log }
 {}

@@ -10,7 +10,7 @@ ghost use Rattle.circuit_model.specs.declared.event.Event.TheVariants.{Born};
 ghost use Rattle.circuit_model.specs.Rules.{Rules};
 ghost use Rattle.circuit_model.specs.Log.{Log};
 ghost use Rattle.circuit_model.specs.Opened.{born_keys, keys_in};
-ghost use Rattle.circuit_model.specs.Packaged.{packaged_by, own, back_digest};
+ghost use Rattle.circuit_model.specs.Packaged.{packaged_by, own_bodies, back_digest};
 ghost use Rattle.circuit_model.specs.Windows.{is_data_body, is_data_of, packs_data, is_accepted, has_stream, accepted_data, good_sendmes, circuit_packaged, circuit_grant};
 ghost use Rattle.circuit_model.specs.SendmeProof.{is_right_sendme, proof_owed as proof_with_number};
 ghost use Rattle.circuit_model.specs.Effects.{effects_after};
@@ -54,7 +54,7 @@ pub fn packaged_data_adds_its_digest()
     ensures { (rules : Rules) (log : Log) (event : Event) (body : List ℕ) →
         packaged_by event (effects_after rules log event).back ≡ Some body → IsTrue (is_data_body (Some body)) →
         window_of (entry_after rules log event ∷ log)
-        ≡ after_packaging (window_of log) (back_digest log (own log ++ body ∷ [])) }
+        ≡ after_packaging (window_of log) (back_digest log (own_bodies log ++ body ∷ [])) }
 {}
 
 /// A circuit's SENDME that doesn't close it acknowledges a hundred DATA, and does nothing else.

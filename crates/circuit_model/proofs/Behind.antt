@@ -7,7 +7,7 @@ use Rattle.circuit_model.specs.Events.{Event}
 use Rattle.circuit_model.specs.declared.event.Event.TheVariants.{Backward}
 use Rattle.circuit_model.specs.Rules.{Rules, allowed_address}
 use Rattle.circuit_model.specs.Log.{Log, Message, pushed, is_closed}
-use Rattle.circuit_model.specs.Packaged.{behind}
+use Rattle.circuit_model.specs.Packaged.{back_bodies}
 use Rattle.circuit_model.specs.Places.{taken_places}
 use Rattle.circuit_model.specs.Received.{message_at}
 use Rattle.circuit_model.specs.Streams.{ending}
@@ -20,11 +20,11 @@ pushed-append xs None = simp append-nil
 pushed-append xs (Some x) = refl
 
 pub one_body_back : (rules : Rules) (h : List Event) (e : Event)
-    → behind (log rules (e ∷ h)) ≡ behind (log rules h) ++ option_to_list (effects rules h e).back
-one_body_back rules h e = pushed-append (behind (log rules h)) (effects rules h e).back
+    → back_bodies (log rules (e ∷ h)) ≡ back_bodies (log rules h) ++ option_to_list (effects rules h e).back
+one_body_back rules h e = pushed-append (back_bodies (log rules h)) (effects rules h e).back
 
 pub backward_goes_as_it_is : (rules : Rules) (h : List Event) (body : List ℕ) → is_closed (log rules h) ≡ false
-    → behind (log rules (Backward body ∷ h)) ≡ behind (log rules h) ++ body ∷ []
+    → back_bodies (log rules (Backward body ∷ h)) ≡ back_bodies (log rules h) ++ body ∷ []
 unfolding open_effects
 backward_goes_as_it_is rules h body live = rw live
 

@@ -11,14 +11,14 @@ use Rattle.circuit_model.specs.declared.next_hop.NextHop.{NextHop}
 use Rattle.circuit_model.specs.declared.next_hop.NextHop.TheVariants.{Absent, Dialling, Waiting, There}
 use Rattle.circuit_model.specs.NextHop.{next_hop, has_leg, is_absent, is_linked, leg_count}
 use Rattle.circuit_model.specs.Opened.{keys_in, reply_in, born_keys, born_reply}
-use Rattle.circuit_model.specs.Packaged.{behind}
+use Rattle.circuit_model.specs.Packaged.{back_bodies}
 use Rattle.circuit_model.specs.Places.{Place, place_at}
 use Rattle.circuit_model.specs.Received.{Received, received, message_in, message_at}
 use Rattle.circuit_model.specs.declared.message.Received.TheVariants.{TooManyEarly, Unrecognised, TooLong, ForUs}
 use Rattle.circuit_model.specs.Streams.{connected_effects, edge_data_effects}
 use Rattle.circuit_model.specs.Extending.{truncate_effects, extending}
 use Rattle.circuit_model.specs.Effects.{message_effects, passed_on, forward_effects, open_effects, effects_after}
-use Rattle.circuit_model.specs.Sent.{one, destroy, sent_to_hop, sealed, all_sealed}
+use Rattle.circuit_model.specs.Sent.{leg_cells, destroy, sent_to_hop, sealed, all_sealed}
 use Rattle.circuit_model.specs.Words.{log, effects}
 use Rattle.circuit_model.proofs.Reading.{read-effects}
 use Rattle.circuit_model.proofs.Tame.{message-tame, drained-tame, ended-tame}
@@ -57,7 +57,7 @@ self_eq n = grind arith
 
 pub truncate_ends_the_leg : (rules : Rules) (h : List Event) (e : Event) (m : Message) → message_at (log rules h) e ≡ Some m
     → m.command ≡ truncate_command → has_leg (next_hop (log rules h)) ≡ true → 0 < leg_count (log rules h) →
-    one (log rules (e ∷ h)) (leg_count (log rules h)) ≡ one (log rules h) (leg_count (log rules h)) ++ destroy 3 ∷ []
+    leg_cells (log rules (e ∷ h)) (leg_count (log rules h)) ≡ leg_cells (log rules h) (leg_count (log rules h)) ++ destroy 3 ∷ []
 truncate_ends_the_leg rules h e m found command leg some =
     let l : Log = log rules h in
     let does : effects_after rules l e ≡ truncate_effects l = read-effects rules l e m found ∙ does-truncate rules l m command in
@@ -158,11 +158,11 @@ pushed_sealed key reply bodies (Some body) =
     rw (append_sealed key 0 bodies body, place) (simp append_assoc)
 
 pub client_leg_grows : (rules : Rules) (h : List Event) (e : Event) → keys_in e ≡ None →
-    one (log rules (e ∷ h)) 0 ≡ one (log rules h) 0 ++ option_to_list (option_map (sealed (born_keys (log rules h)).kb (length (behind (log rules h)))) (effects rules h e).back)
+    leg_cells (log rules (e ∷ h)) 0 ≡ leg_cells (log rules h) 0 ++ option_to_list (option_map (sealed (born_keys (log rules h)).kb (length (back_bodies (log rules h)))) (effects rules h e).back)
 client_leg_grows rules h e other =
     let l : Log = log rules h in
     let same : reply_in e ≡ None = not_born-reply e other in
-    rw (other, same) (pushed_sealed (born_keys l).kb (option_to_list (born_reply l)) (behind l) (effects rules h e).back)
+    rw (other, same) (pushed_sealed (born_keys l).kb (option_to_list (born_reply l)) (back_bodies l) (effects rules h e).back)
 
 pub hop_leg_grows : (rules : Rules) (h : List Event) (e : Event) (leg : ℕ)
     → (more : List CircuitCell) × (sent_to_hop (log rules (e ∷ h)) leg ≡ sent_to_hop (log rules h) leg ++ more)

@@ -9,9 +9,9 @@ use Rattle.tor_spec.specs.StreamWindow.{stream_start, stream_step}
 use Rattle.tor_spec.specs.Extend.{Address}
 use Rattle.circuit_model.specs.Rules.{Rules, allowed_address}
 use Rattle.circuit_model.specs.Log.{Log, Message, Effects, no_effects, closing}
-use Rattle.circuit_model.specs.Packaged.{own, padded_by, package_of, digested, packaging}
+use Rattle.circuit_model.specs.Packaged.{own_bodies, padded_by, package_of, digested, packaging}
 use Rattle.circuit_model.specs.Opened.{born_pad}
-use Rattle.circuit_model.specs.Windows.{is_data_body, stream_packaged, stream_grant, accept_grant, carried, accepted_data}
+use Rattle.circuit_model.specs.Windows.{is_data_body, stream_packaged, stream_grant, accept_grant, carried_count, accepted_data}
 use Rattle.circuit_model.specs.NextHop.{next_hop, is_absent}
 use Rattle.circuit_model.specs.SendmeProof.{is_right_sendme}
 use Rattle.circuit_model.specs.Places.{Place, taken_places}
@@ -43,7 +43,7 @@ command-digested log (Some key) n command stream payload =
 
 pub command-package_of : (log : Log) (command stream : ℕ) (payload : List ℕ)
     → (relay_head (package_of log command stream payload)).command ≡ command
-command-package_of log command stream payload = command-digested log (born_pad log) (length (own log)) command stream payload
+command-package_of log command stream payload = command-digested log (born_pad log) (length (own_bodies log)) command stream payload
 
 package-tame : (log : Log) (command stream : ℕ) (payload : List ℕ) → (command == data_command) ≡ false
     → IsTame (packaging log command stream payload)
@@ -83,7 +83,7 @@ acknowledging-tame log m =
 data-tame : (log : Log) (m : Message) (place : Option ℕ) → IsTame (data_at log m place)
 data-tame log m None = acknowledging-tame log m
 data-tame log m (Some serial) =
-    if-tame (nat_le (accept_grant log serial) (carried log serial)) _ _ (closing-tame 1)
+    if-tame (nat_le (accept_grant log serial) (carried_count log serial)) _ _ (closing-tame 1)
     (record { no_data = (acknowledging-tame log m).no_data; no_cell = (acknowledging-tame log m).no_cell })
 
 end-tame : (m : Message) (place : Option ℕ) → IsTame (end_at m place)

@@ -15,12 +15,12 @@ packaged_by (Backward body) back = None
 packaged_by event back = back
 
 -- All bodies that this relay packaged, oldest first.
-abbrev pub own : Log → List (List ℕ)
-own log = collected (λ entry. packaged_by entry.event entry.effects.back) log
+abbrev pub own_bodies : Log → List (List ℕ)
+own_bodies log = collected (λ entry. packaged_by entry.event entry.effects.back) log
 
 -- All bodies that went back, the next hop's among them, oldest first.
-abbrev pub behind : Log → List (List ℕ)
-behind log = collected (λ entry. entry.effects.back) log
+abbrev pub back_bodies : Log → List (List ℕ)
+back_bodies log = collected (λ entry. entry.effects.back) log
 
 -- The backward running digest after these bodies.
 abbrev pub back_digest : Log → List (List ℕ) → List ℕ
@@ -28,7 +28,7 @@ back_digest log bodies = running_digest (born_keys log).db bodies
 
 -- The Digest is the first four bytes of the running digest of all packaged bodies with this one.
 unfoldable pub digested : Log → List ℕ → List ℕ
-digested log body = with_digest body (take 4 (back_digest log (own log ++ body ∷ [])))
+digested log body = with_digest body (take 4 (back_digest log (own_bodies log ++ body ∷ [])))
 
 -- Body number n that this relay packages, from 0, with its padding: by a key it is the keystream from
 -- number 509 n on, at the offsets that it has in the body; without one it is zero. That it comes from
@@ -39,7 +39,7 @@ padded_by None n body = body
 
 -- The next body that this relay packages, with its padding and its Digest.
 abbrev pub finished : Log → List ℕ → List ℕ
-finished log body = digested log (padded_by (born_pad log) (length (own log)) body)
+finished log body = digested log (padded_by (born_pad log) (length (own_bodies log)) body)
 
 -- The next packaged body with this relay command, StreamID and data.
 abbrev pub package_of : Log → ℕ → ℕ → List ℕ → List ℕ

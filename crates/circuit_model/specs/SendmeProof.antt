@@ -5,7 +5,7 @@ use Rattle.tor_spec.specs.CircuitWindow.{circuit_step}
 use Rattle.tor_spec.specs.Sendme.{needs_no_proof, sendme_proof}
 use Rattle.circuit_model.specs.Rules.{Rules}
 use Rattle.circuit_model.specs.Log.{Log}
-use Rattle.circuit_model.specs.Packaged.{own, back_digest}
+use Rattle.circuit_model.specs.Packaged.{own_bodies, back_digest}
 use Rattle.circuit_model.specs.Windows.{circuit_packaged, good_sendmes, is_data_body}
 
 -- The bodies up to and with the DATA with this number, counted from 1.
@@ -19,7 +19,7 @@ up_to_data n (body ∷ bodies) =
 -- The proof of the k-th SENDME, from 1: the backward running digest after the packaged DATA with
 -- number 100 k.
 unfoldable pub proof_owed : Log → ℕ → List ℕ
-proof_owed log k = back_digest log (up_to_data (circuit_step * k) (own log))
+proof_owed log k = back_digest log (up_to_data (circuit_step * k) (own_bodies log))
 
 -- Whether a payload carries this proof.
 abbrev pub proves : List ℕ → Option (List ℕ) → Bool

@@ -9,7 +9,7 @@ use Rattle.circuit_model.specs.Events.{CircuitCell}
 use Rattle.circuit_model.specs.Log.{Entry, Log}
 use Rattle.circuit_model.specs.Opened.{born_keys, born_reply}
 use Rattle.circuit_model.specs.NextHop.{next_hop, has_leg, leg_count}
-use Rattle.circuit_model.specs.Packaged.{behind}
+use Rattle.circuit_model.specs.Packaged.{back_bodies}
 
 -- A RELAY cell with the backward body with number n, this relay's layer put on: it uses the 509 bytes of
 -- the keystream from number 509 n on.
@@ -23,7 +23,7 @@ all_sealed key n (body ∷ bodies) = sealed key n body ∷ all_sealed key (n + 1
 
 -- Leg 0, towards the client: the answer to the opening, then all bodies that went back.
 abbrev pub sent_to_client : Log → List CircuitCell
-sent_to_client log = option_to_list (born_reply log) ++ all_sealed (born_keys log).kb 0 (behind log)
+sent_to_client log = option_to_list (born_reply log) ++ all_sealed (born_keys log).kb 0 (back_bodies log)
 
 -- DESTROY with this reason.
 abbrev pub destroy : ℕ → CircuitCell
@@ -43,5 +43,5 @@ sent_to_hop [] leg = []
 sent_to_hop (entry ∷ log) leg =
     sent_to_hop log leg ++ (if leg_count (entry ∷ log) == leg then given_forth log entry else [])
 
-abbrev pub one : Log → ℕ → List CircuitCell
-one log leg = if leg == 0 then sent_to_client log else sent_to_hop log leg
+abbrev pub leg_cells : Log → ℕ → List CircuitCell
+leg_cells log leg = if leg == 0 then sent_to_client log else sent_to_hop log leg

@@ -16,7 +16,7 @@ use Rattle.circuit_model.specs.Log.{Log, Message, Effects, no_effects, closing, 
 use Rattle.circuit_model.specs.declared.effects.Order.TheVariants.{Reach, Carry, Close}
 use Rattle.circuit_model.specs.Places.{Place, places, taken_places}
 use Rattle.circuit_model.specs.Packaged.{packaging}
-use Rattle.circuit_model.specs.Windows.{stream_packaged, stream_grant, accepted_data, carried, accept_grant, drained}
+use Rattle.circuit_model.specs.Windows.{stream_packaged, stream_grant, accepted_data, carried_count, accept_grant, drained_count}
 use Rattle.circuit_model.specs.SendmeProof.{is_right_sendme}
 
 -- A circuit has room for 32 places (own rule).
@@ -59,7 +59,7 @@ acknowledging log message =
 abbrev pub data_at : Log → Message → Option ℕ → Effects
 data_at log message None = acknowledging log message
 data_at log message (Some serial) =
-    if nat_le (accept_grant log serial) (carried log serial) then closing destroy_protocol
+    if nat_le (accept_grant log serial) (carried_count log serial) then closing destroy_protocol
     else record (acknowledging log message) { edge = Some (Carry (record { stream = message.stream; serial = serial }) message.payload) }
 
 abbrev pub data_effects : Log → Message → Effects
@@ -115,7 +115,7 @@ ended_effects log reason None = no_effects
 -- Each 50th DATA that is drained is acknowledged, by an empty payload.
 abbrev pub drained_effects : Log → Option Place → Effects
 drained_effects log (Some place) =
-    if ((drained log place.key.serial + 1) % stream_step) == 0
+    if ((drained_count log place.key.serial + 1) % stream_step) == 0
     then packaging log sendme_command place.key.stream []
     else no_effects
 drained_effects log None = no_effects

@@ -77,17 +77,17 @@ carries serial (Some (Carry key bytes)) = key.serial == serial
 carries serial order = false
 
 -- How many DATA a place accepted: each gives a Carry order.
-abbrev pub carried : Log → ℕ → ℕ
-carried log serial = count_of (λ entry. carries serial entry.effects.edge) log
+abbrev pub carried_count : Log → ℕ → ℕ
+carried_count log serial = count_of (λ entry. carries serial entry.effects.edge) log
 
 abbrev pub drains : ℕ → Event → Bool
 drains serial (Drained n) = n == serial
 drains serial event = false
 
 -- How many of them were drained.
-abbrev pub drained : Log → ℕ → ℕ
-drained log serial = count_of (λ entry. drains serial entry.event) log
+abbrev pub drained_count : Log → ℕ → ℕ
+drained_count log serial = count_of (λ entry. drains serial entry.event) log
 
 -- How many DATA a place may accept: each 50th that is drained grants 50 more.
 abbrev pub accept_grant : Log → ℕ → ℕ
-accept_grant log serial = stream_start + stream_step * (drained log serial / stream_step)
+accept_grant log serial = stream_start + stream_step * (drained_count log serial / stream_step)

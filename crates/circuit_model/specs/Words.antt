@@ -9,12 +9,12 @@
 --   opened bodies      Opened     born_keys, born_reply, born_pad, forward_count, plain_body, recognised_bodies
 --   places             Places     places, place_at, phase, is_live, live_place, taken_places
 --   next hop and legs  NextHop    next_hop, leg_count
---   packaged bodies    Packaged   own, behind
---   windows            Windows    circuit_packaged, circuit_grant, stream_packaged, stream_grant, accepted_data, carried, drained
+--   packaged bodies    Packaged   own_bodies, back_bodies
+--   windows            Windows    circuit_packaged, circuit_grant, stream_packaged, stream_grant, accepted_data, carried_count, drained_count
 --   SENDME proofs      SendmeProof  proof_owed, is_right_sendme
 --   received cells     Received   received, message_at, early_count
 --   the table          Streams, Extending, Effects   effects_after
---   what is sent       Sent       one
+--   what is sent       Sent       leg_cells
 --   workers' batches   Batches    next_layer, opened_each, forward_of, events_behind
 --
 -- What an `Event`, a `Message`, an `Order`, `Effects`, a `Received`, a `Place` and their parts are stands in

@@ -19,12 +19,12 @@ ghost use Rattle.circuit_model.specs.Opened.{born_keys, keys_in, forward_count, 
 ghost use Rattle.circuit_model.specs.PathLayers.{PathHop, layered_for, digested_for};
 ghost use Rattle.circuit_model.specs.NextHop.{next_hop, has_leg, is_linked, leg_count};
 ghost use Rattle.circuit_model.specs.Places.{Place, place_at, places, taken_places};
-ghost use Rattle.circuit_model.specs.Packaged.{behind};
+ghost use Rattle.circuit_model.specs.Packaged.{back_bodies};
 ghost use Rattle.circuit_model.specs.Windows.{has_command, is_data_of, circuit_packaged, circuit_grant, good_sendmes, stream_packaged, stream_grant};
 ghost use Rattle.circuit_model.specs.SendmeProof.{proof_owed, is_right_sendme};
 ghost use Rattle.circuit_model.specs.Received.{message_at, early_count, relay_early_limit};
 ghost use Rattle.circuit_model.specs.Streams.{ending, place_limit};
-ghost use Rattle.circuit_model.specs.Sent.{one, sent_to_hop, sealed, all_sealed, destroy};
+ghost use Rattle.circuit_model.specs.Sent.{leg_cells, sent_to_hop, sealed, all_sealed, destroy};
 ghost use Rattle.circuit_model.specs.Batches.{next_layer, events_behind, opened_each, body_of};
 ghost use Rattle.circuit_model.specs.Words.{log, effects};
 
@@ -123,7 +123,7 @@ pub fn truncate_destroys_the_leg()
     ensures last { (rules : Rules) (h : List Event) (e : Event) (m : Message) →
         message_at (log rules h) e ≡ Some m → m.command ≡ truncate_command →
         IsTrue (has_leg (next_hop (log rules h))) → 0 < leg_count (log rules h) →
-        one (log rules (e ∷ h)) (leg_count (log rules h)) ≡ one (log rules h) (leg_count (log rules h)) ++ destroy destroy_requested ∷ [] }
+        leg_cells (log rules (e ∷ h)) (leg_count (log rules h)) ≡ leg_cells (log rules h) (leg_count (log rules h)) ++ destroy destroy_requested ∷ [] }
     ensures then_nothing { (rules : Rules) (h : List Event) (e : Event) (leg : ℕ) →
         IsFalse (is_linked e) → IsFalse (has_leg (next_hop (log rules h))) →
         sent_to_hop (log rules (e ∷ h)) leg ≡ sent_to_hop (log rules h) leg }
@@ -134,8 +134,8 @@ pub fn truncate_destroys_the_leg()
 #[tactic(auto, using(crate::proofs::Legs::client_leg_grows, crate::proofs::Legs::hop_leg_grows))]
 pub fn legs_only_grow()
     ensures client { (rules : Rules) (h : List Event) (e : Event) → keys_in e ≡ None →
-        one (log rules (e ∷ h)) 0 ≡ one (log rules h) 0
-        ++ option_to_list (option_map (sealed (born_keys (log rules h)).kb (length (behind (log rules h)))) (effects rules h e).back) }
+        leg_cells (log rules (e ∷ h)) 0 ≡ leg_cells (log rules h) 0
+        ++ option_to_list (option_map (sealed (born_keys (log rules h)).kb (length (back_bodies (log rules h)))) (effects rules h e).back) }
     ensures hops { (rules : Rules) (h : List Event) (e : Event) (leg : ℕ) →
         (more : List CircuitCell) × (sent_to_hop (log rules (e ∷ h)) leg ≡ sent_to_hop (log rules h) leg ++ more) }
 {}
@@ -146,9 +146,9 @@ pub fn legs_only_grow()
 #[tactic(auto, using(crate::proofs::Behind::one_body_back, crate::proofs::Behind::backward_goes_as_it_is, crate::proofs::Behind::refused_begin_ends))]
 pub fn bodies_go_back_in_order()
     ensures one_each { (rules : Rules) (h : List Event) (e : Event) →
-        behind (log rules (e ∷ h)) ≡ behind (log rules h) ++ option_to_list (effects rules h e).back }
+        back_bodies (log rules (e ∷ h)) ≡ back_bodies (log rules h) ++ option_to_list (effects rules h e).back }
     ensures next_hops { (rules : Rules) (h : List Event) (body : List ℕ) → IsFalse (is_closed (log rules h)) →
-        behind (log rules (Backward body ∷ h)) ≡ behind (log rules h) ++ body ∷ [] }
+        back_bodies (log rules (Backward body ∷ h)) ≡ back_bodies (log rules h) ++ body ∷ [] }
     ensures refused { (rules : Rules) (h : List Event) (e : Event) (m : Message) (target : Target) →
         message_at (log rules h) e ≡ Some m → m.command ≡ begin_command → 0 < m.stream → m.place ≡ None →
         begin_target m.payload ≡ Some target → taken_places (log rules h) < place_limit → allowed_address rules target ≡ None →

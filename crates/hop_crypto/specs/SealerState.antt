@@ -5,11 +5,11 @@ use Rattle.hop_crypto.specs.OpenerState.{StreamPlace}
 -- A hop's layer towards the client: Kb, and on how many bodies it was put.
 pub record SealingLayer : Type 0 where
   pub key : List ℕ
-  pub sealed : ℕ
+  pub sealed_count : ℕ
 
 -- The sealer of a layer: each body uses 509 bytes of keystream.
 abbrev pub sealer_of : SealingLayer → StreamPlace
-sealer_of layer = record { key = layer.key; position = 509 * layer.sealed }
+sealer_of layer = record { key = layer.key; position = 509 * layer.sealed_count }
 
 -- A layer has this state.
 pub record IsSealerOfLayer (state : StreamPlace) : Type 0 where

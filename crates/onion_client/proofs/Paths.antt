@@ -9,7 +9,7 @@ use Rattle.tor_spec.specs.CircuitWindow.{circuit_start, may_package as circuit_m
 use Rattle.tr_io.specs.declared.answers.ShutWhy.TheVariants.{Stream, Circuit}
 use Rattle.circuit_model.specs.PathLayers.{PathHop, sealed_for}
 use Rattle.hop_handshake.specs.Opening.{cell_with}
-use Rattle.stream_edge.specs.declared.held.Held.{Held}
+use Rattle.stream_edge.specs.declared.placed_stream.PlacedStream.{PlacedStream}
 use Rattle.stream_edge.specs.Streams.{may_package}
 use Rattle.onion_client.specs.declared.close_cause.CloseCause.TheVariants.{BadKeys, Unrecognised}
 use Rattle.onion_client.specs.Calls.{Start, Call}
@@ -71,23 +71,23 @@ pub relay_before_hop : (start : Start) (body : List ℕ) → answer start [] (Ta
 unfolding first_cell
 relay_before_hop start body = ap (λ (o : Outcome). o.answer) (early_outcome start body)
 
-stream_outcome : (p : PathState) (id : ℕ) (bytes : List ℕ) (stream : Held) →
+stream_outcome : (p : PathState) (id : ℕ) (bytes : List ℕ) (stream : PlacedStream) →
     p.is_closed ≡ false → stream_of id p.streams ≡ Some stream → may_package stream ≡ false →
     outcome p (Send id bytes) ≡ record { answer = Shut Stream stream.packed; state = p }
 stream_outcome p id bytes stream unclosed live full = rw (unclosed, live, full) refl
 
-circuit_outcome : (p : PathState) (id : ℕ) (bytes : List ℕ) (stream : Held) →
+circuit_outcome : (p : PathState) (id : ℕ) (bytes : List ℕ) (stream : PlacedStream) →
     p.is_closed ≡ false → stream_of id p.streams ≡ Some stream → may_package stream ≡ true → circuit_may_package circuit_start p.window ≡ false →
     outcome p (Send id bytes) ≡ record { answer = Shut Circuit (length p.window.packaged); state = p }
 circuit_outcome p id bytes stream unclosed live may full = rw (unclosed, live, may, full) refl
 
-pub stream_shut : (start : Start) (h : List Call) (id : ℕ) (bytes : List ℕ) (stream : Held) →
+pub stream_shut : (start : Start) (h : List Call) (id : ℕ) (bytes : List ℕ) (stream : PlacedStream) →
     (path start h).is_closed ≡ false → stream_of id (path start h).streams ≡ Some stream → may_package stream ≡ false →
     answer start h (Send id bytes) ≡ Shut Stream stream.packed
 stream_shut start h id bytes stream unclosed live full =
     ap (λ (o : Outcome). o.answer) (stream_outcome (path start h) id bytes stream unclosed live full)
 
-pub circuit_shut : (start : Start) (h : List Call) (id : ℕ) (bytes : List ℕ) (stream : Held) →
+pub circuit_shut : (start : Start) (h : List Call) (id : ℕ) (bytes : List ℕ) (stream : PlacedStream) →
     (path start h).is_closed ≡ false → stream_of id (path start h).streams ≡ Some stream → may_package stream ≡ true →
     circuit_may_package circuit_start (path start h).window ≡ false →
     answer start h (Send id bytes) ≡ Shut Circuit (length (path start h).window.packaged)

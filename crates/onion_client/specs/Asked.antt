@@ -8,7 +8,7 @@ use Rattle.tor_spec.specs.Extend.{Address, extend_payload}
 use Rattle.tor_spec.specs.RelayCell.{relay_body, begin_command, data_command, end_command, sendme_command, extend2_command}
 use Rattle.tr_io.specs.declared.answers.ShutWhy.TheVariants.{Stream, Circuit}
 use Rattle.hop_handshake.specs.Fast.{fast_type}
-use Rattle.stream_edge.specs.declared.held.Held.{Held}
+use Rattle.stream_edge.specs.declared.placed_stream.PlacedStream.{PlacedStream}
 use Rattle.stream_edge.specs.Streams.{begun, may_package, after_packaging, after_draining, sendme_due}
 use Rattle.onion_client.specs.Calls.{Answer}
 use Rattle.onion_client.specs.Calls.Answer.{Gone, Nothing, Shut, Sends}
@@ -45,13 +45,13 @@ beginning p stream host port =
 abbrev pub data_body : ℕ → List ℕ → List ℕ
 data_body stream bytes = relay_body data_command stream bytes
 
-abbrev pub after_data : PathState → Held → List ℕ → PathState
+abbrev pub after_data : PathState → PlacedStream → List ℕ → PathState
 after_data p stream bytes = record p {
   streams = with_stream stream.stream (after_packaging stream) p.streams;
   window = circuit_after_packaging p.window (digest_of_next p (data_body stream.stream bytes));
 }
 
-abbrev pub sending_on : PathState → List ℕ → Option Held → Outcome
+abbrev pub sending_on : PathState → List ℕ → Option PlacedStream → Outcome
 sending_on p bytes None = only p Gone
 sending_on p bytes (Some stream) =
     if not (may_package stream) then only p (Shut Stream stream.packed)
@@ -65,7 +65,7 @@ sending_bytes p stream bytes = if p.is_closed then only p Gone else sending_on p
 abbrev pub end_body : ℕ → ℕ → List ℕ
 end_body stream reason = relay_body end_command stream (reason ∷ [])
 
-abbrev pub finishing_on : PathState → ℕ → Option Held → Outcome
+abbrev pub finishing_on : PathState → ℕ → Option PlacedStream → Outcome
 finishing_on p reason None = only p Gone
 finishing_on p reason (Some stream) =
     sending (record p { streams = without stream.stream p.streams }) (end_body stream.stream reason)
@@ -78,15 +78,15 @@ finishing p stream reason = if p.is_closed then only p Gone else finishing_on p 
 abbrev pub sendme_body : ℕ → List ℕ
 sendme_body stream = relay_body sendme_command stream []
 
-abbrev pub after_drained : PathState → Held → PathState
+abbrev pub after_drained : PathState → PlacedStream → PathState
 after_drained p stream = record p { streams = with_stream stream.stream (after_draining stream) p.streams }
 
-abbrev pub draining_due : PathState → Held → Option Bool → Outcome
+abbrev pub draining_due : PathState → PlacedStream → Option Bool → Outcome
 draining_due p stream None = only p Nothing
 draining_due p stream (Some false) = only (after_drained p stream) Nothing
 draining_due p stream (Some true) = sending (after_drained p stream) (sendme_body stream.stream)
 
-abbrev pub draining_on : PathState → Option Held → Outcome
+abbrev pub draining_on : PathState → Option PlacedStream → Outcome
 draining_on p None = only p Gone
 draining_on p (Some stream) = draining_due p stream (sendme_due stream)
 

@@ -1,7 +1,7 @@
 -- What has gone on a client's path so far: with each hop, in its windows, on its streams.
 use Rattle.std.specs.Prelude.{ℕ, [], ◌∷◌, ◌==◌, List, Bool, false, if◌then◌else◌, Option, Some, find}
 use Rattle.tor_spec.specs.CircuitWindow.{CircuitWindow, fresh_window}
-use Rattle.stream_edge.specs.declared.held.Held.{Held}
+use Rattle.stream_edge.specs.declared.placed_stream.PlacedStream.{PlacedStream}
 use Rattle.circuit_model.specs.PathLayers.{PathHop}
 use Rattle.onion_client.specs.Calls.{Start, Answer}
 
@@ -17,7 +17,7 @@ pub record PathState : Type 0 where
   -- the windows between the client and the last hop
   pub window : CircuitWindow
   -- the live streams: those that were begun and have neither ended nor been finished
-  pub streams : List Held
+  pub streams : List PlacedStream
   pub is_closed : Bool
 
 -- At first the answer to CREATE_FAST is awaited.
@@ -40,20 +40,20 @@ pub record Outcome : Type 0 where
 
 -- ---- streams
 
-abbrev pub has_id : ℕ → Held → Bool
+abbrev pub has_id : ℕ → PlacedStream → Bool
 has_id id stream = stream.stream == id
 
 -- The live stream with this StreamID.
-abbrev pub stream_of : ℕ → List Held → Option Held
+abbrev pub stream_of : ℕ → List PlacedStream → Option PlacedStream
 stream_of id streams = find (has_id id) streams
 
 -- It has become this one.
-abbrev pub with_stream : ℕ → Held → List Held → List Held
+abbrev pub with_stream : ℕ → PlacedStream → List PlacedStream → List PlacedStream
 with_stream id successor [] = []
 with_stream id successor (stream ∷ streams) =
     if has_id id stream then successor ∷ streams else stream ∷ with_stream id successor streams
 
 -- It is no longer live.
-abbrev pub without : ℕ → List Held → List Held
+abbrev pub without : ℕ → List PlacedStream → List PlacedStream
 without id [] = []
 without id (stream ∷ streams) = if has_id id stream then streams else stream ∷ without id streams

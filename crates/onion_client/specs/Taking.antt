@@ -14,9 +14,9 @@ use Rattle.tor_spec.specs.Ends.{end_reason, truncated_reason}
 use Rattle.tor_spec.specs.Extend.{handshake_reply}
 use Rattle.tor_spec.specs.RelayCell.{relay_head, fits_length, payload_of, relay_body, data_command, connected_command, end_command, sendme_command, truncated_command, extended2_command}
 use Rattle.tor_spec.specs.Sendme.{sendme_payload}
-use Rattle.stream_edge.specs.declared.held.Held.{Held}
-use Rattle.stream_edge.specs.declared.held.Phase.{Phase}
-use Rattle.stream_edge.specs.declared.held.Phase.TheVariants.{Reaching, Joined}
+use Rattle.stream_edge.specs.declared.placed_stream.PlacedStream.{PlacedStream}
+use Rattle.stream_edge.specs.declared.placed_stream.Phase.{Phase}
+use Rattle.stream_edge.specs.declared.placed_stream.Phase.TheVariants.{Reaching, Joined}
 use Rattle.stream_edge.specs.Streams.{may_accept, after_accepting, may_credit, after_credit}
 use Rattle.sendme_windows.specs.declared.proof_answer.ProofAnswer.{ProofAnswer}
 use Rattle.sendme_windows.specs.declared.proof_answer.ProofAnswer.TheVariants.{Good}
@@ -74,7 +74,7 @@ carrying p stream bytes digest =
     else record { answer = Carried stream bytes None; state = q }
 
 -- DATA on no live stream is carried with no bytes.
-abbrev pub data_on : PathState → ℕ → List ℕ → List ℕ → Option Held → Outcome
+abbrev pub data_on : PathState → ℕ → List ℕ → List ℕ → Option PlacedStream → Outcome
 data_on p id payload digest None = carrying p id [] digest
 data_on p id payload digest (Some stream) =
     if may_accept stream
@@ -83,7 +83,7 @@ data_on p id payload digest (Some stream) =
 
 -- ---- streams
 
-abbrev pub connecting : PathState → Held → List ℕ → Outcome
+abbrev pub connecting : PathState → PlacedStream → List ℕ → Outcome
 connecting p stream payload =
     if is_some (connected_address payload)
     then record {
@@ -93,15 +93,15 @@ connecting p stream payload =
     else closing p BadForm
 
 -- A begun stream is one for which CONNECTED has not come.
-abbrev pub connected_in : PathState → Held → List ℕ → Phase → Outcome
+abbrev pub connected_in : PathState → PlacedStream → List ℕ → Phase → Outcome
 connected_in p stream payload Reaching = connecting p stream payload
 connected_in p stream payload phase = only p PassedOver
 
-abbrev pub connected_on : PathState → List ℕ → Option Held → Outcome
+abbrev pub connected_on : PathState → List ℕ → Option PlacedStream → Outcome
 connected_on p payload None = only p PassedOver
 connected_on p payload (Some stream) = connected_in p stream payload stream.phase
 
-abbrev pub ended_on : PathState → List ℕ → Option Held → Outcome
+abbrev pub ended_on : PathState → List ℕ → Option PlacedStream → Outcome
 ended_on p payload None = only p PassedOver
 ended_on p payload (Some stream) = record {
   answer = Ended stream.stream (end_reason payload);
@@ -115,7 +115,7 @@ abbrev pub proved : PathState → ProofAnswer → Outcome
 proved p Good = record { answer = Credit; state = record p { window = window_after Good p.window } }
 proved p answer = closing p (Proof answer)
 
-abbrev pub credit_on : PathState → Option Held → Outcome
+abbrev pub credit_on : PathState → Option PlacedStream → Outcome
 credit_on p None = only p PassedOver
 credit_on p (Some stream) =
     if may_credit stream

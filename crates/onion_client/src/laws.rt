@@ -7,7 +7,7 @@ ghost use Rattle.tor_spec.specs.CellCommands.{relay_command, created_fast_comman
 ghost use Rattle.tor_spec.specs.CircuitWindow.{circuit_start, may_package as circuit_may_package};
 ghost use Rattle.circuit_model.specs.PathLayers.{PathHop, sealed_for};
 ghost use Rattle.hop_handshake.specs.Opening.{cell_with};
-ghost use Rattle.stream_edge.specs.declared.held.Held.{Held};
+ghost use Rattle.stream_edge.specs.declared.placed_stream.PlacedStream.{PlacedStream};
 ghost use Rattle.stream_edge.specs.Streams.{may_package};
 ghost use Rattle.tr_io.specs.declared.answers.ShutWhy.TheVariants.{Stream, Circuit};
 ghost use Rattle.onion_client.specs.declared.close_cause.CloseCause.TheVariants.{BadKeys, Unrecognised};
@@ -50,10 +50,10 @@ pub fn a_relay_cell_before_the_first_hop_closes()
 /// No DATA goes past a window: the stream's is named first, then the circuit's, with what was packaged.
 #[tactic(auto, using(crate::proofs::Paths::stream_shut, crate::proofs::Paths::circuit_shut))]
 pub fn no_data_passes_a_window()
-    ensures stream { (start : Start) (h : List Call) (id : ℕ) (bytes : List ℕ) (stream : Held) →
+    ensures stream { (start : Start) (h : List Call) (id : ℕ) (bytes : List ℕ) (stream : PlacedStream) →
         (path start h).is_closed ≡ false → stream_of id (path start h).streams ≡ Some stream → may_package stream ≡ false →
         answer start h (Send id bytes) ≡ Shut Stream stream.packed }
-    ensures circuit { (start : Start) (h : List Call) (id : ℕ) (bytes : List ℕ) (stream : Held) →
+    ensures circuit { (start : Start) (h : List Call) (id : ℕ) (bytes : List ℕ) (stream : PlacedStream) →
         (path start h).is_closed ≡ false → stream_of id (path start h).streams ≡ Some stream → may_package stream ≡ true →
         circuit_may_package circuit_start (path start h).window ≡ false →
         answer start h (Send id bytes) ≡ Shut Circuit (length (path start h).window.packaged) }

@@ -7,7 +7,7 @@ ghost use Rattle.plain_circuit.specs.Values.{log_of};
 use crate::log::Entry;
 use crate::packaged::packaging;
 use crate::streams::{TIME_TO_LIVE, ending};
-use crate::windows::{STREAM_STEP, drained};
+use crate::windows::{STREAM_STEP, drained_count};
 use circuit_model::{Effects, Order, Payload, Place};
 use relay_cell::{connected_body, data_body, stream_sendme_body};
 use std::alloc::{AllocError, Global};
@@ -78,7 +78,7 @@ pub fn drained_effects(
     let Some(place) = place else {
         return Ok(Effects::none());
     };
-    if (drained(log, place.key.serial) as u128 + 1) % STREAM_STEP == 0 {
+    if (drained_count(log, place.key.serial) as u128 + 1) % STREAM_STEP == 0 {
         packaging(alloc, log, &stream_sendme_body(place.key.stream))
     } else {
         Ok(Effects::none())

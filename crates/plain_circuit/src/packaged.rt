@@ -3,7 +3,7 @@
 ghost use Rattle.std.specs.Prelude.{◌≡◌, IfOk, IsTrue, Some};
 ghost use Rattle.tor_spec.specs.RelayCell.{fits_length};
 ghost use Rattle.circuit_model.specs.Log.{no_effects};
-ghost use Rattle.circuit_model.specs.Packaged.{packaged_by, own, digested, padded_by, finished};
+ghost use Rattle.circuit_model.specs.Packaged.{packaged_by, own_bodies, digested, padded_by, finished};
 ghost use Rattle.plain_circuit.specs.Values.{log_of};
 
 use crate::log::Entry;
@@ -23,8 +23,8 @@ fn packaged_by(event: &Event, back: &Option<[u8; 509]>) -> Option<[u8; 509]>
 }
 
 /// All bodies that this relay packaged, oldest first.
-pub fn own(alloc: Global, log: &[Entry<'_>]) -> Result<Vec<[u8; 509]>, AllocError>
-    ensures { IfOk result (λ bodies. bodies.items ≡ own (log_of log.now)) }
+pub fn own_bodies(alloc: Global, log: &[Entry<'_>]) -> Result<Vec<[u8; 509]>, AllocError>
+    ensures { IfOk result (λ bodies. bodies.items ≡ own_bodies (log_of log.now)) }
 {
     let mut bodies = Vec::new(alloc);
     for entry in log {
@@ -41,7 +41,7 @@ pub fn own(alloc: Global, log: &[Entry<'_>]) -> Result<Vec<[u8; 509]>, AllocErro
 fn digested(alloc: Global, log: &[Entry<'_>], body: &[u8; 509]) -> Result<[u8; 509], AllocError>
     ensures { IfOk result (λ digested_body. digested_body ≡ digested (log_of log.now) body.now) }
 {
-    let mut bodies = own(alloc, log)?;
+    let mut bodies = own_bodies(alloc, log)?;
     bodies.push(*body)?;
     let [a, b, c, d, ..] = digest_of(&born_keys(log).db, &bodies);
     let mut digested_body = *body;
@@ -66,7 +66,7 @@ fn finished(alloc: Global, log: &[Entry<'_>], body: &[u8; 509]) -> Result<[u8; 5
     requires { IsTrue (fits_length body.now) }
     ensures { IfOk result (λ finished_body. finished_body ≡ finished (log_of log.now) body.now) }
 {
-    let number = own(alloc, log)?.len();
+    let number = own_bodies(alloc, log)?.len();
     digested(alloc, log, &padded_by(&born_pad(log), number, body))
 }
 

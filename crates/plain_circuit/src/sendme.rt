@@ -2,13 +2,13 @@
 
 ghost use Rattle.std.specs.Prelude.{◌≡◌, ◌≤◌, IfOk, length, take};
 ghost use Rattle.tor_spec.specs.Sendme.{needs_no_proof, sendme_proof};
-ghost use Rattle.circuit_model.specs.Packaged.{own, back_digest};
+ghost use Rattle.circuit_model.specs.Packaged.{own_bodies, back_digest};
 ghost use Rattle.circuit_model.specs.SendmeProof.{up_to_data, proves, is_right_sendme};
 ghost use Rattle.plain_circuit.specs.Values.{log_of, rules_of};
 
 use crate::log::Entry;
 use crate::opened::{born_keys, digest_of};
-use crate::packaged::own;
+use crate::packaged::own_bodies;
 use crate::rules::Rules;
 use crate::windows::{CIRCUIT_STEP, good_sendmes, packed};
 use relay_cell::{command, is_version_0, read_proof};
@@ -35,9 +35,9 @@ fn end_of_data(bodies: &[[u8; 509]], n: u128) -> usize
 
 /// The backward running digest after the packaged DATA with this number.
 fn digest_up_to(alloc: Global, log: &[Entry<'_>], n: u128) -> Result<[u8; 20], AllocError>
-    ensures { IfOk result (λ digest. digest ≡ back_digest (log_of log.now) (up_to_data n (own (log_of log.now)))) }
+    ensures { IfOk result (λ digest. digest ≡ back_digest (log_of log.now) (up_to_data n (own_bodies (log_of log.now)))) }
 {
-    let bodies = own(alloc, log)?;
+    let bodies = own_bodies(alloc, log)?;
     let end = end_of_data(&bodies, n);
     Ok(digest_of(&born_keys(log).db, &bodies[..end]))
 }

@@ -14,7 +14,7 @@ use crate::places::{place_count, taken_places};
 use crate::rules::{Rules, allowed_address, resolved_address};
 use crate::sendme::is_right_sendme;
 use crate::windows::{
-    CIRCUIT_STEP, STREAM_START, STREAM_STEP, accept_grant, accepted_data, carried, grant_for,
+    CIRCUIT_STEP, STREAM_START, STREAM_STEP, accept_grant, accepted_data, carried_count, grant_for,
     packed_for,
 };
 use cell_codec::destroy_reason;
@@ -105,7 +105,7 @@ pub fn data_effects(
     let Some(serial) = message.place else {
         return acknowledging(alloc, log, message);
     };
-    if accept_grant(log, serial) <= carried(log, serial) as u128 {
+    if accept_grant(log, serial) <= carried_count(log, serial) as u128 {
         return Ok(Effects::closing(destroy_reason::PROTOCOL));
     }
     let bytes = Payload::of(alloc, message.payload.as_slice())?;

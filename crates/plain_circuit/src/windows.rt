@@ -1,7 +1,7 @@
 //! Flow control: counts over the whole log, and how far they may go.
 
 ghost use Rattle.std.specs.Prelude.{◌≡◌, ◌<◌, ◌^◌, nat_le};
-ghost use Rattle.circuit_model.specs.Windows.{has_command, has_stream, has_place, is_accepted, packs_data, is_data_of, carries, drains, circuit_packaged, good_sendmes, circuit_grant, stream_packaged, stream_sendmes, stream_grant, accepted_data, carried, drained, accept_grant};
+ghost use Rattle.circuit_model.specs.Windows.{has_command, has_stream, has_place, is_accepted, packs_data, is_data_of, carries, drains, circuit_packaged, good_sendmes, circuit_grant, stream_packaged, stream_sendmes, stream_grant, accepted_data, carried_count, drained_count, accept_grant};
 ghost use Rattle.plain_circuit.specs.Values.{rules_of, log_of, entry_of};
 
 use crate::log::Entry;
@@ -174,8 +174,8 @@ pub fn accepted_data(log: &[Entry<'_>]) -> usize
 }
 
 /// How many DATA a place accepted.
-pub fn carried(log: &[Entry<'_>], serial: usize) -> usize
-    ensures { result ≡ carried (log_of log.now) serial }
+pub fn carried_count(log: &[Entry<'_>], serial: usize) -> usize
+    ensures { result ≡ carried_count (log_of log.now) serial }
 {
     let mut count = 0;
     for entry in log {
@@ -187,8 +187,8 @@ pub fn carried(log: &[Entry<'_>], serial: usize) -> usize
 }
 
 /// How many of them were drained.
-pub fn drained(log: &[Entry<'_>], serial: usize) -> usize
-    ensures { result ≡ drained (log_of log.now) serial }
+pub fn drained_count(log: &[Entry<'_>], serial: usize) -> usize
+    ensures { result ≡ drained_count (log_of log.now) serial }
 {
     let mut count = 0;
     for entry in log {
@@ -203,5 +203,5 @@ pub fn drained(log: &[Entry<'_>], serial: usize) -> usize
 pub fn accept_grant(log: &[Entry<'_>], serial: usize) -> u128
     ensures { result ≡ accept_grant (log_of log.now) serial }
 {
-    STREAM_START + STREAM_STEP * (drained(log, serial) as u128 / STREAM_STEP)
+    STREAM_START + STREAM_STEP * (drained_count(log, serial) as u128 / STREAM_STEP)
 }

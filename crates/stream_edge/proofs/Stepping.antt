@@ -5,13 +5,13 @@ use Rattle.std.proofs.lemmas.Bool.{cases_eq, ltb-true}
 use Rattle.std.proofs.lemmas.List.{length-set}
 use Rattle.std.proofs.lemmas.Option.{same_Some}
 use Rattle.std.proofs.Math.Seq.{get_or-set_same, get_or-set_other}
-use Rattle.stream_edge.specs.declared.held.Held.{Held}
+use Rattle.stream_edge.specs.declared.placed_stream.PlacedStream.{PlacedStream}
 use Rattle.stream_edge.specs.Streams.{after_packaging, begun, is_live_as, may_package, pack_grant}
 use Rattle.stream_edge.specs.PlacesState.{PlacesState, IsCounted, IsInStep, held_at, with_held}
 use Rattle.stream_edge.proofs.Living.{LivesOnce-set, LivesOnce-begun}
 
 -- One call more.
-counted_more : (h : Held) (calls : ℕ) → IsCounted h calls → IsCounted h (calls + 1)
+counted_more : (h : PlacedStream) (calls : ℕ) → IsCounted h calls → IsCounted h (calls + 1)
 counted_more h calls is = record {
   packed = is.packed;
   window = is.window;
@@ -23,10 +23,10 @@ counted_more h calls is = record {
 }
 
 -- What the places hold behind a change of one of them is counted, where what is put there is.
-counted_put : (s : PlacesState) (place : ℕ) (content : Option Held) → place < length s.streams
-    → ((h : Held) → content ≡ Some h → IsCounted h (s.calls + 1))
-    → ((k : ℕ) (h : Held) → held_at s k ≡ Some h → IsCounted h s.calls)
-    → (k : ℕ) (h : Held) → get_or (set s.streams place content) k None ≡ Some h → IsCounted h (s.calls + 1)
+counted_put : (s : PlacesState) (place : ℕ) (content : Option PlacedStream) → place < length s.streams
+    → ((h : PlacedStream) → content ≡ Some h → IsCounted h (s.calls + 1))
+    → ((k : ℕ) (h : PlacedStream) → held_at s k ≡ Some h → IsCounted h s.calls)
+    → (k : ℕ) (h : PlacedStream) → get_or (set s.streams place content) k None ≡ Some h → IsCounted h (s.calls + 1)
 counted_put s place content within put rest k h is = elim (cases_eq k place) [
   | inl same ↦
       let there : get_or (set s.streams place content) k None ≡ content =
@@ -36,8 +36,8 @@ counted_put s place content within put rest k h is = elim (cases_eq k place) [
 ]
 
 -- A call that changes one place.
-pub IsInStep-put : (s : PlacesState) (place : ℕ) (content : Option Held) → IsInStep s → s.calls < 2 ^ 63 → place < 32
-    → ((h : Held) → content ≡ Some h → IsCounted h (s.calls + 1))
+pub IsInStep-put : (s : PlacesState) (place : ℕ) (content : Option PlacedStream) → IsInStep s → s.calls < 2 ^ 63 → place < 32
+    → ((h : PlacedStream) → content ≡ Some h → IsCounted h (s.calls + 1))
     → ((id : ℕ) → IsTrue (is_live_as id content) → IsTrue (is_live_as id (held_at s place)))
     → IsInStep (with_held s place content)
 IsInStep-put s place content is fewer within put lives =
@@ -77,7 +77,7 @@ pub IsInStep-begun : (s : PlacesState) (place id : ℕ) → IsInStep s → s.cal
     → IsInStep (record (with_held s place (Some (begun id s.next_serial))) { next_serial = s.next_serial + 1 })
 IsInStep-begun s place id is fewer within new =
     let there : place < length s.streams = omega (arith, is.places) in
-    let content : Option Held = Some (begun id s.next_serial) in
+    let content : Option PlacedStream = Some (begun id s.next_serial) in
     record {
       places = length-set s.streams place content ∙ is.places;
       next_serial = omega (arith, is.next_serial);
@@ -89,7 +89,7 @@ IsInStep-begun s place id is fewer within new =
     }
 
 -- A DATA cell that is packaged, where the window allows it.
-pub packaged_counted : (h : Held) (calls : ℕ) → IsCounted h calls → IsTrue (may_package h)
+pub packaged_counted : (h : PlacedStream) (calls : ℕ) → IsCounted h calls → IsTrue (may_package h)
     → IsCounted (after_packaging h) (calls + 1)
 packaged_counted h calls is room =
     let below : h.packed < pack_grant h = ltb-true h.packed (pack_grant h) room in

@@ -5,10 +5,10 @@
 //! memory.
 #![tactic(auto)]
 
-mod held;
+mod placed_stream;
 mod places;
 
-pub use held::{Held, Phase};
+pub use placed_stream::{Phase, PlacedStream};
 pub use places::{AcceptAnswer, CreditAnswer, PlaceNo, Places};
 
 #[cfg(test)]

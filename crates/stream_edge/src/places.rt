@@ -3,12 +3,12 @@
 ghost use Rattle.std.specs.Prelude.{◌≡◌, ℕ, ◌+◌, ◌^◌, ◌<◌, ◌≤◌, IsTrue, IfSome, IfNone, Option, Some, None, option_map, is_some, length, position, replicate};
 ghost use Rattle.stream_edge.specs.Streams.{begun, is_free, is_live_as, is_stream};
 ghost use Rattle.stream_edge.specs.PlacesState.{IsCounted, IsEnding, IsLive, IsTaken, LivesOnce, held_at, with_held};
-ghost use Rattle.stream_edge.specs.declared.held.Held.{Held};
+ghost use Rattle.stream_edge.specs.declared.placed_stream.PlacedStream.{PlacedStream};
 
 mod finding;
 mod windows;
 
-use crate::held::{Held, Phase};
+use crate::placed_stream::{Phase, PlacedStream};
 use finding::{begun, free_place, live_place, stream_place};
 use std::marker::Model;
 
@@ -39,7 +39,7 @@ pub enum CreditAnswer {
 /// stream passes its grant, and that no window opens past its start.
 #[derive(Drop)]
 pub struct Places {
-    streams: [Option<Held>; 32],
+    streams: [Option<PlacedStream>; 32],
     next_serial: u64,
     calls: u64,
 }
@@ -122,7 +122,7 @@ impl Places {
     /// Which of the circuit's accepted BEGINs the stream is, counted from 0.
     pub fn serial(&self, place: PlaceNo) -> u64
         requires { IsTaken self.now place.0 }
-        ensures { (h : Held) → held_at self.now place.0 ≡ Some h → result ≡ h.serial }
+        ensures { (h : PlacedStream) → held_at self.now place.0 ≡ Some h → result ≡ h.serial }
     {
         self.stream_at(place).serial
     }
@@ -131,14 +131,14 @@ impl Places {
     pub fn joined(&mut self, place: PlaceNo)
         requires calls { self.old.calls < 2 ^ 63 }
         requires live { IsLive self.old place.0 }
-        ensures stream { (h : Held) → held_at self.old place.0 ≡ Some h →
+        ensures stream { (h : PlacedStream) → held_at self.old place.0 ≡ Some h →
             self.new ≡ with_held self.old place.0 (Some (record h { phase = Phase.Joined })) }
         ensures calls { self.new.calls ≡ self.old.calls + 1 }
     {
         let stream = self.stream_at(place);
         self.put(
             place,
-            Some(Held {
+            Some(PlacedStream {
                 phase: Phase::Joined,
                 ..stream
             }),
@@ -149,14 +149,14 @@ impl Places {
     pub fn ending(&mut self, place: PlaceNo)
         requires calls { self.old.calls < 2 ^ 63 }
         requires taken { IsTaken self.old place.0 }
-        ensures stream { (h : Held) → held_at self.old place.0 ≡ Some h →
+        ensures stream { (h : PlacedStream) → held_at self.old place.0 ≡ Some h →
             self.new ≡ with_held self.old place.0 (Some (record h { phase = Phase.Ending })) }
         ensures calls { self.new.calls ≡ self.old.calls + 1 }
     {
         let stream = self.stream_at(place);
         self.put(
             place,
-            Some(Held {
+            Some(PlacedStream {
                 phase: Phase::Ending,
                 ..stream
             }),
@@ -175,7 +175,7 @@ impl Places {
         self.put(place, None);
     }
 
-    fn get(&self, place: PlaceNo) -> Option<Held>
+    fn get(&self, place: PlaceNo) -> Option<PlacedStream>
         ensures { result ≡ held_at self.now place.0 }
     {
         match self.streams.get(place.0 as usize) {
@@ -184,7 +184,7 @@ impl Places {
         }
     }
 
-    fn stream_at(&self, place: PlaceNo) -> Held
+    fn stream_at(&self, place: PlaceNo) -> PlacedStream
         requires { IsTaken self.now place.0 }
         ensures held { held_at self.now place.0 ≡ Some result }
         ensures within { place.0 < 32 }
@@ -197,10 +197,10 @@ impl Places {
         }
     }
 
-    fn put(&mut self, place: PlaceNo, stream: Option<Held>)
+    fn put(&mut self, place: PlaceNo, stream: Option<PlacedStream>)
         requires calls { self.old.calls < 2 ^ 63 }
         requires within { place.0 < 32 }
-        requires counted { (h : Held) → stream ≡ Some h → IsCounted h (self.old.calls + 1) }
+        requires counted { (h : PlacedStream) → stream ≡ Some h → IsCounted h (self.old.calls + 1) }
         requires lives { (id : ℕ) → IsTrue (is_live_as id stream) → IsTrue (is_live_as id (held_at self.old place.0)) }
         ensures { self.new ≡ with_held self.old place.0 stream }
     {

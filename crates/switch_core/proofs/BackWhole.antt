@@ -5,7 +5,7 @@ use Rattle.std.proofs.lemmas.List.{length-map, length-take-le}
 use Rattle.circuit_model.specs.Batches.{body_of}
 use Rattle.circuit_model.specs.Events.{CircuitCell, Event}
 use Rattle.circuit_model.specs.Opened.{born_keys}
-use Rattle.circuit_model.specs.Packaged.{behind}
+use Rattle.circuit_model.specs.Packaged.{back_bodies}
 use Rattle.circuit_model.specs.Rules.{Rules}
 use Rattle.circuit_model.specs.Sent.{all_sealed, sealed}
 use Rattle.circ_relay.specs.CircuitOfLog.{IsCircuit}
@@ -99,17 +99,17 @@ each-cell : (key : List ℕ) (n : ℕ) (bodies : List (List ℕ)) → sealed_cel
 each-cell key n [] = refl
 each-cell key n (body ∷ bodies) = ap (λ l. sealed key n body ∷ l) (each-cell key (n + 1) bodies)
 
-worked-by : (key : List ℕ) (n : ℕ) (start : Cipher) (input : List (List ℕ)) (output : List Opened) (end : Cipher) → IsWorked start input output end → start ≡ back_cipher (sealer_of (record { key = key; sealed = n })) →
+worked-by : (key : List ℕ) (n : ℕ) (start : Cipher) (input : List (List ℕ)) (output : List Opened) (end : Cipher) → IsWorked start input output end → start ≡ back_cipher (sealer_of (record { key = key; sealed_count = n })) →
     (output ≡ map sealed_from (sealed_all key (509 * n) input)) × (end ≡ back_cipher (record { key = key; position = 509 * n + 509 * length input }))
 worked-by key n start input output end worked is = subst (λ s. IsWorked s input output end) is worked
 
-cells-are : (key : List ℕ) (n : ℕ) (cells : List CircuitCell) (done : DoneParts) → IsDoneJob done → done.start ≡ back_cipher (sealer_of (record { key = key; sealed = n })) → done.input.items ≡ map body_of cells →
+cells-are : (key : List ℕ) (n : ℕ) (cells : List CircuitCell) (done : DoneParts) → IsDoneJob done → done.start ≡ back_cipher (sealer_of (record { key = key; sealed_count = n })) → done.input.items ≡ map body_of cells →
     sealed_cells_of done.output.items ≡ all_sealed key n (map body_of cells)
 cells-are key n cells done is start input =
     ap sealed_cells_of ((worked-by key n done.start done.input.items done.output.items done.end is.worked start).0 ∙ ap (λ l. map sealed_from (sealed_all key (509 * n) l)) input ∙ ap (map sealed_from) (batch_sealed key n (map body_of cells)))
     ∙ each-cell key n (map body_of cells)
 
-end-is : (key : List ℕ) (n count : ℕ) (done : DoneParts) → IsDoneJob done → done.start ≡ back_cipher (sealer_of (record { key = key; sealed = n })) → done.note.count ≡ count → done.end ≡ back_cipher (sealer_of (record { key = key; sealed = n + count }))
+end-is : (key : List ℕ) (n count : ℕ) (done : DoneParts) → IsDoneJob done → done.start ≡ back_cipher (sealer_of (record { key = key; sealed_count = n })) → done.note.count ≡ count → done.end ≡ back_cipher (sealer_of (record { key = key; sealed_count = n + count }))
 end-is key n count done is start its =
     let place : 509 * n + 509 * length done.input.items ≡ 509 * (n + count) = omega (arith, is.job.count, its) in
     (worked-by key n done.start done.input.items done.output.items done.end is.worked start).1 ∙ ap (λ m. back_cipher (record { key = key; position = m })) place
@@ -123,8 +123,8 @@ first-by c sealed l (Some other) k noted is few =
 
 sealed-first : (rules : Rules) (closes : List Ordered) (x : CircuitState) (c : ℕ) (p : Past) (has_id : ℕ → Bool) (e : EdgePast) (k : KeptClaim) → CircuitStands rules closes x c p has_id e → x.back.claim_out ≡ Some k → k.note.first ≡ p.sealed_count
 sealed-first rules closes x c p has_id e k own out =
-    let few : p.sealed_count ≤ length (relay_cells (behind (log rules p.events))) = omega (arith, own.sealed, length-map {B = CircuitCell} (behind (log rules p.events)) (λ body. record { command = 3; body = body })) in
-    first-by c p.sealed_count (relay_cells (behind (log rules p.events))) x.back.claim_out k own.back.noted out few
+    let few : p.sealed_count ≤ length (relay_cells (back_bodies (log rules p.events))) = omega (arith, own.sealed, length-map {B = CircuitCell} (back_bodies (log rules p.events)) (λ body. record { command = 3; body = body })) in
+    first-by c p.sealed_count (relay_cells (back_bodies (log rules p.events))) x.back.claim_out k own.back.noted out few
 
 -- what the history says of the circuit
 

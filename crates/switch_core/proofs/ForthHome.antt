@@ -6,7 +6,7 @@ use Rattle.circ_relay.specs.declared.circuit.Circuit.{Circuit as RelayCircuit}
 use Rattle.circuit_model.specs.Batches.{body_of, events_behind, next_layer}
 use Rattle.circuit_model.specs.Events.{CircuitCell, Event}
 use Rattle.circuit_model.specs.Log.{Log}
-use Rattle.circuit_model.specs.Packaged.{behind}
+use Rattle.circuit_model.specs.Packaged.{back_bodies}
 use Rattle.circuit_model.specs.Rules.{Rules}
 use Rattle.circuit_model.specs.Words.{log}
 use Rattle.circuit_model.proofs.Ciphers.{batch_opened, batch_layer}
@@ -81,11 +81,11 @@ calls_fit rules closes x c p has_id e relay own stands =
 
 pub relay_is : (rules : Rules) (closes : List Ordered) (x : CircuitState) (c : ℕ) (p : Past) (has_id : ℕ → Bool) (e : EdgePast) (relay : Relay) → CircuitStands rules closes x c p has_id e → p.hops ≡ 0 → RelayStands relay rules p.events p.sealed_count → RelayIs relay.circuit rules p.events x.back
 relay_is rules closes x c p has_id e relay own none stands =
-    let given = given-count c Back x.back (take p.sealed_count (relay_cells (behind (log rules p.events)))) (relay_cells (behind (log rules p.events))) (p.claimed_count Back) (p.claim_out Back) (e.numbers Back) own.back in
+    let given = given-count c Back x.back (take p.sealed_count (relay_cells (back_bodies (log rules p.events)))) (relay_cells (back_bodies (log rules p.events))) (p.claimed_count Back) (p.claim_out Back) (e.numbers Back) own.back in
     record {
       circuit = stands.circuit;
       unlinked = own.linked ∙ none;
-      behind_is = omega (arith, given, length-map {B = CircuitCell} (behind (log rules p.events)) (λ body. record { command = 3; body = body }));
+      behind_is = omega (arith, given, length-map {B = CircuitCell} (back_bodies (log rules p.events)) (λ body. record { command = 3; body = body }));
       out = omega (arith, own.back.out, kept-count x.back.claim_out);
     }
 

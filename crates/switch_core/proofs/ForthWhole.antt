@@ -103,7 +103,7 @@ relay-behind rules ev sealed relay next done cells stands circuit forth back gro
     record {
       circuit = circuit;
       forth = forth;
-      back = back ∙ stands.back ∙ ap (λ keys. back_cipher (sealer_of (record { key = keys.kb; sealed = sealed }))) (sym (keys-behind rules ev cells));
+      back = back ∙ stands.back ∙ ap (λ keys. back_cipher (sealer_of (record { key = keys.kb; sealed_count = sealed }))) (sym (keys-behind rules ev cells));
       calls = record {
         windows = omega (arith, stands.calls.windows, grown.windows, count);
         packager = omega (arith, stands.calls.packager, grown.packager, count);

@@ -2,7 +2,7 @@
 use Rattle.std.proofs.Common.{◌≡◌, ℕ, ◌+◌, ◌*◌, ◌<◌, ◌≤◌, ◌^◌, Bool, true, List, length, take, Option, Some, None, refl, sym, ap, subst, ◌∙◌, arith}
 use Rattle.std.proofs.lemmas.List.{length-take-le, length-map}
 use Rattle.circuit_model.specs.Opened.{forward_count}
-use Rattle.circuit_model.specs.Packaged.{behind}
+use Rattle.circuit_model.specs.Packaged.{back_bodies}
 use Rattle.circuit_model.specs.Rules.{Rules}
 use Rattle.circuit_model.specs.Words.{log}
 use Rattle.std.specs.Prelude.{IsSome}
@@ -48,7 +48,7 @@ serves rules closes x c p has_id e relay st rel Forth = record {
 serves rules closes x c p has_id e relay st rel Back = record {
   direction = ap direction_of rel.back;
   position =
-      let home : home_count x.back ≡ p.sealed_count = omega (arith, st.back.out, kept-count x.back.claim_out, back-home p.sealed_count (behind (log rules p.events)) st.sealed) in
+      let home : home_count x.back ≡ p.sealed_count = omega (arith, st.back.out, kept-count x.back.claim_out, back-home p.sealed_count (back_bodies (log rules p.events)) st.sealed) in
       ap position_of rel.back ∙ ap (λ n. 509 * n) (sym home);
 }
 

@@ -10,7 +10,7 @@ use Rattle.circuit_model.specs.Events.{CircuitCell, Event}
 use Rattle.circuit_model.specs.Log.{Effects, Log, pushed}
 use Rattle.crypto_spec.specs.HopLayer.{opened}
 use Rattle.circuit_model.specs.NextHop.{leg_count}
-use Rattle.circuit_model.specs.Packaged.{behind}
+use Rattle.circuit_model.specs.Packaged.{back_bodies}
 use Rattle.circuit_model.specs.Rules.{Rules}
 use Rattle.circuit_model.specs.Words.{log, effects}
 use Rattle.hop_crypto.specs.Ciphers.{opened_from}
@@ -45,7 +45,7 @@ closing-is : (rules : Rules) (events : List Event) (relay : RelayCircuit) (leg :
     ≡ closing_with (is_packed (length leg.queue) back (effects rules events (forward_of cell))) (effects rules events (forward_of cell))
 closing-is rules events relay leg forth back orders cell queued is =
     ap (λ n. closing_with (is_some (effects rules events (forward_of cell)).back && nat_le 1500 n) (effects rules events (forward_of cell)))
-    (held-back leg forth back orders (length (behind (log rules events))) queued is.out is.behind_is)
+    (held-back leg forth back orders (length (back_bodies (log rules events))) queued is.out is.behind_is)
 
 -- the circuit behind a body that goes, or closes
 one-is : (rules : Rules) (events : List Event) (leg : LegState) (forth back : WayState) (orders : OrdersState) (k : Counters) (cell : CircuitCell) → leg_count (log rules events) ≡ 0 →
@@ -179,7 +179,7 @@ relay-goes : (rules : Rules) (before : List Event) (relay relay' : RelayCircuit)
 relay-goes rules before relay relay' back number cell is circuit = record {
   circuit = circuit;
   unlinked = is.unlinked;
-  behind_is = more-behind (behind (log rules before)) (effects rules before (forward_of cell)).back number back is.behind_is;
+  behind_is = more-behind (back_bodies (log rules before)) (effects rules before (forward_of cell)).back number back is.behind_is;
   out = same-out (effects rules before (forward_of cell)).back number back is.out;
 }
 

@@ -20,7 +20,7 @@ use Rattle.switch_core.specs.declared.relay.Relay.{Relay}
 pub record RelayStands (relay : Relay) (rules : Rules) (events : List Event) (sealed : ℕ) : Type 0 where
   pub circuit : IsCircuit relay.circuit rules events
   pub forth : relay.forth ≡ Forth (opener_of (next_layer (log rules events)))
-  pub back : relay.back ≡ Back (sealer_of (record { key = (born_keys (log rules events)).kb; sealed = sealed }))
+  pub back : relay.back ≡ Back (sealer_of (record { key = (born_keys (log rules events)).kb; sealed_count = sealed }))
   -- it counted no more than the forward bodies
   pub calls : CallsFit (length (settled_forth (log rules events))) relay.circuit
 

@@ -6,7 +6,7 @@ use Rattle.circuit_model.specs.Batches.{events_behind, opened_each}
 use Rattle.circuit_model.specs.Events.{CircuitCell, Event}
 use Rattle.circuit_model.specs.Log.{Effects}
 use Rattle.circuit_model.specs.NextHop.{leg_count}
-use Rattle.circuit_model.specs.Packaged.{behind}
+use Rattle.circuit_model.specs.Packaged.{back_bodies}
 use Rattle.circuit_model.specs.Rules.{Rules}
 use Rattle.circuit_model.specs.Words.{log}
 use Rattle.hop_crypto.specs.Ciphers.{opened_from}
@@ -48,7 +48,7 @@ counts_by is_full effects k =
 pub record RelayIs (relay : RelayCircuit) (rules : Rules) (events : List Event) (back : WayState) : Type 0 where
   pub circuit : IsCircuit relay rules events
   pub unlinked : leg_count (log rules events) ≡ 0
-  pub behind_is : length (behind (log rules events)) ≡ back.claimed_count + length back.waiting_bodies
+  pub behind_is : length (back_bodies (log rules events)) ≡ back.claimed_count + length back.waiting_bodies
   pub out : kept_length back.claim_out ≤ back.claimed_count
 
 -- The relay has room to count so many more events.

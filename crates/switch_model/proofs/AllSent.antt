@@ -6,9 +6,9 @@ use Rattle.std.proofs.lemmas.List.{append-nil, length-append, take_all}
 use Rattle.circuit_model.specs.Events.{CircuitCell}
 use Rattle.circuit_model.specs.Log.{Log}
 use Rattle.circuit_model.specs.Opened.{born_keys, born_reply}
-use Rattle.circuit_model.specs.Packaged.{behind}
+use Rattle.circuit_model.specs.Packaged.{back_bodies}
 use Rattle.circuit_model.specs.Rules.{Rules}
-use Rattle.circuit_model.specs.Sent.{one, all_sealed, sent_to_client}
+use Rattle.circuit_model.specs.Sent.{leg_cells, all_sealed, sent_to_client}
 use Rattle.tr_io.specs.declared.names.ClaimNote.{ClaimNote}
 use Rattle.tr_io.specs.declared.names.Dir.TheVariants.{Back}
 use Rattle.tr_io.specs.declared.step.Step.{Step}
@@ -100,29 +100,29 @@ one-most : (o : Option CircuitCell) → length (option_to_list o) ≤ 1
 one-most None = omega arith
 one-most (Some cell) = omega arith
 
-client-whole : (l : Log) (n : ℕ) → length (behind l) ≤ n → sendable l n 0 ≡ one l 0
+client-whole : (l : Log) (n : ℕ) → length (back_bodies l) ≤ n → sendable l n 0 ≡ leg_cells l 0
 client-whole l n most =
-    let size : length (sent_to_client l) ≤ 1 + n = let a = one-most (born_reply l) in let b = sealed-all (born_keys l).kb 0 (behind l) in
-    let c = length-append (option_to_list (born_reply l)) (all_sealed (born_keys l).kb 0 (behind l)) in omega (arith, a, b, c, most) in
+    let size : length (sent_to_client l) ≤ 1 + n = let a = one-most (born_reply l) in let b = sealed-all (born_keys l).kb 0 (back_bodies l) in
+    let c = length-append (option_to_list (born_reply l)) (all_sealed (born_keys l).kb 0 (back_bodies l)) in omega (arith, a, b, c, most) in
     take_all (1 + n) (sent_to_client l) size
 
-leg-whole : (l : Log) (n k : ℕ) → length (behind l) ≤ n → sendable l n k ≡ one l k
+leg-whole : (l : Log) (n k : ℕ) → length (back_bodies l) ≤ n → sendable l n k ≡ leg_cells l k
 leg-whole l n zero most = client-whole l n most
 leg-whole l n (suc k) most = refl
 
 idle-by : (live : Bool) (o : Option ClaimNote) (given count : ℕ) → live ≡ true → o ≡ None → (live && (is_none o && nat_lt 0 (given - count))) ≡ false → given ≤ count
 idle-by live o given count alive none idle = let no : nat_lt 0 (given - count) ≡ false = rw (alive, none) at idle in grind (arith, nat_tests)
 
-back-home : (start : SwitchStart) (h : List Step) (c : ℕ) → IsLegal start h → IsAtRest start.rules h c → length (behind (circuit_log start.rules h c)) ≤ sealed_count h c
+back-home : (start : SwitchStart) (h : List Step) (c : ℕ) → IsLegal start h → IsAtRest start.rules h c → length (back_bodies (circuit_log start.rules h c)) ≤ sealed_count h c
 back-home start h c legal rest =
     let has : WayHas start.rules h c Back = ways start h legal c Back in
     let home = rest.home Back in
-    let most = idle-by (is_live_circuit start.rules h c) (claim_out h (record { circ = c; dir = Back })) (length (behind (circuit_log start.rules h c))) (claimed_count h (record { circ = c; dir = Back })) rest.live home (rest.idle (record { circ = c; dir = Back })) in
+    let most = idle-by (is_live_circuit start.rules h c) (claim_out h (record { circ = c; dir = Back })) (length (back_bodies (circuit_log start.rules h c))) (claimed_count h (record { circ = c; dir = Back })) rest.live home (rest.idle (record { circ = c; dir = Back })) in
     let came : claimed_count h (record { circ = c; dir = Back }) ≡ sealed_count h c + 0 = subst (λ o. claimed_count h (record { circ = c; dir = Back }) ≡ sealed_count h c + bodies_with_room o) home (has.home rest.live) in
     omega (arith, most, came)
 
 -- a leg that has its CircID
-leg-with-id : (start : SwitchStart) (h : List Step) (c k : ℕ) (place : Port) → IsLegal start h → IsAtRest start.rules h c → port h c k ≡ Some place → is_leg c k (at h place.chan place.id) ≡ true → sent start.rules h c k ≡ one (circuit_log start.rules h c) k
+leg-with-id : (start : SwitchStart) (h : List Step) (c k : ℕ) (place : Port) → IsLegal start h → IsAtRest start.rules h c → port h c k ≡ Some place → is_leg c k (at h place.chan place.id) ≡ true → sent start.rules h c k ≡ leg_cells (circuit_log start.rules h c) k
 leg-with-id start h c k place legal rest lies named =
     let holds : holds_id h c k ≡ true = rw lies named in
     all_sent start h c k legal rest.live holds (empty-at start h c k place legal rest lies named) ∙ leg-whole (circuit_log start.rules h c) (sealed_count h c) k (back-home start h c legal rest)
@@ -131,7 +131,7 @@ leg-with-id start h c k place legal rest lies named =
 all-by : (xs rest ys : List CircuitCell) → xs ++ rest ≡ ys → rest ≡ [] → xs ≡ ys
 all-by xs rest ys is none = sym (append-nil xs) ∙ ap (λ l. xs ++ l) (sym none) ∙ is
 
-ended-leg : (start : SwitchStart) (h : List Step) (c k : ℕ) → IsLegal start h → is_live_circuit start.rules h c ≡ true → is_ended_by_us h c k ≡ true → sent start.rules h c k ≡ one (circuit_log start.rules h c) k
+ended-leg : (start : SwitchStart) (h : List Step) (c k : ℕ) → IsLegal start h → is_live_circuit start.rules h c ≡ true → is_ended_by_us h c k ≡ true → sent start.rules h c k ≡ leg_cells (circuit_log start.rules h c) k
 ended-leg start h c zero legal alive ended =
     let begins = sent_is_prefix start h legal c 0 in
     absurd (client_without_destroy start.rules (events start.rules h c) (sent start.rules h c 0) begins.0 (events_fit start h legal c) begins.1 (destroy_was_sent start h legal c 0 alive ended))
@@ -149,7 +149,7 @@ unmade-above : (h : List Step) (c k : ℕ) (b : Bool) → nat_le (suc k) (hops h
 unmade-above h c k true is none = absurd (no-port (port h c (suc k)) (hop_port h c (suc k) (omega arith) (grind (arith, nat_tests))) none)
 unmade-above h c k false is none = grind (arith, nat_tests)
 
-unmade-leg : (start : SwitchStart) (h : List Step) (c k : ℕ) → IsLegal start h → is_live_circuit start.rules h c ≡ true → port h c k ≡ None → sent start.rules h c k ≡ one (circuit_log start.rules h c) k
+unmade-leg : (start : SwitchStart) (h : List Step) (c k : ℕ) → IsLegal start h → is_live_circuit start.rules h c ≡ true → port h c k ≡ None → sent start.rules h c k ≡ leg_cells (circuit_log start.rules h c) k
 unmade-leg start h c zero legal alive none = absurd (no-port (port h c 0) (client_port start.rules h c alive) none)
 unmade-leg start h c (suc k) legal alive none =
     let count = hops_are_counted start.rules h c in
@@ -158,13 +158,13 @@ unmade-leg start h c (suc k) legal alive none =
     let begins = sent_is_prefix start h legal c (suc k) in
     none-first (sent start.rules h c (suc k)) begins.0 (begins.1 ∙ nothing) ∙ sym nothing
 
-ends-by : (start : SwitchStart) (h : List Step) (c k : ℕ) (place : Port) (b : Bool) → is_ended_by_us h c k ≡ b → IsLegal start h → IsAtRest start.rules h c → port h c k ≡ Some place → is_ended_outside h c k ≡ false → sent start.rules h c k ≡ one (circuit_log start.rules h c) k
+ends-by : (start : SwitchStart) (h : List Step) (c k : ℕ) (place : Port) (b : Bool) → is_ended_by_us h c k ≡ b → IsLegal start h → IsAtRest start.rules h c → port h c k ≡ Some place → is_ended_outside h c k ≡ false → sent start.rules h c k ≡ leg_cells (circuit_log start.rules h c) k
 ends-by start h c k place true is legal rest lies outside = ended-leg start h c k legal rest.live is
 ends-by start h c k place false is legal rest lies outside = leg-with-id start h c k place legal rest lies (has_its_id start h legal c k place lies is outside)
 
-port-by : (start : SwitchStart) (h : List Step) (c k : ℕ) (p : Option Port) → port h c k ≡ p → IsLegal start h → IsAtRest start.rules h c → is_ended_outside h c k ≡ false → sent start.rules h c k ≡ one (circuit_log start.rules h c) k
+port-by : (start : SwitchStart) (h : List Step) (c k : ℕ) (p : Option Port) → port h c k ≡ p → IsLegal start h → IsAtRest start.rules h c → is_ended_outside h c k ≡ false → sent start.rules h c k ≡ leg_cells (circuit_log start.rules h c) k
 port-by start h c k (Some place) lies legal rest outside = ends-by start h c k place _ refl legal rest lies outside
 port-by start h c k None none legal rest outside = unmade-leg start h c k legal rest.live none
 
-pub at_rest_all_sent : (start : SwitchStart) (h : List Step) (c k : ℕ) → IsLegal start h → IsAtRest start.rules h c → is_ended_outside h c k ≡ false → sent start.rules h c k ≡ one (circuit_log start.rules h c) k
+pub at_rest_all_sent : (start : SwitchStart) (h : List Step) (c k : ℕ) → IsLegal start h → IsAtRest start.rules h c → is_ended_outside h c k ≡ false → sent start.rules h c k ≡ leg_cells (circuit_log start.rules h c) k
 at_rest_all_sent start h c k legal rest outside = port-by start h c k _ refl legal rest outside

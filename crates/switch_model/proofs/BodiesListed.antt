@@ -8,7 +8,7 @@ use Rattle.kdf_tor.specs.declared.LayerKeys.{LayerKeys}
 use Rattle.circuit_model.specs.Events.{CircuitCell, Event}
 use Rattle.circuit_model.specs.declared.event.Event.TheVariants.{Born, Backward, Answered, Linked, Failed, Freed, Drained as DrainedEvent}
 use Rattle.circuit_model.specs.Log.{Effects, no_effects, pushed, is_closed, newest}
-use Rattle.circuit_model.specs.Packaged.{behind}
+use Rattle.circuit_model.specs.Packaged.{back_bodies}
 use Rattle.circuit_model.specs.Rules.{Rules}
 use Rattle.circuit_model.specs.Words.{log, effects, closes}
 use Rattle.tr_io.specs.declared.answers.DialAnswer.{DialAnswer}
@@ -31,14 +31,14 @@ use Rattle.switch_model.proofs.Common.{same-number}
 
 -- how many bodies went back behind some events
 abbrev back_count : Rules → List Event → ℕ
-back_count rules ev = length (behind (log rules ev))
+back_count rules ev = length (back_bodies (log rules ev))
 
 pushed-up : (xs : List (List ℕ)) (o : Option (List ℕ)) → length xs ≤ length (pushed xs o)
 pushed-up xs None = omega arith
 pushed-up xs (Some x) = let more = length-append xs (x ∷ []) in omega (arith, more)
 
 back-up : (rules : Rules) (e : Event) (ev : List Event) → back_count rules ev ≤ back_count rules (e ∷ ev)
-back-up rules e ev = pushed-up (behind (log rules ev)) (effects rules ev e).back
+back-up rules e ev = pushed-up (back_bodies (log rules ev)) (effects rules ev e).back
 
 closed-none : (closed : Bool) (x : Effects) → x.back ≡ None → (if closed then no_effects else x).back ≡ None
 closed-none true x none = refl

@@ -2,7 +2,7 @@
 use Rattle.std.proofs.Common.{◌≡◌, ℕ, ◌+◌, ◌≤◌, Bool, true, false, if◌then◌else◌, List, [], ◌∷◌, ◌++◌, length, take, drop, map, Option, Some, None, refl, sym, ◌∙◌, ap, subst, arith, zero, suc}
 use Rattle.circuit_model.specs.Events.{CircuitCell, Event}
 use Rattle.circuit_model.specs.Log.{pushed}
-use Rattle.circuit_model.specs.Packaged.{behind}
+use Rattle.circuit_model.specs.Packaged.{back_bodies}
 use Rattle.circuit_model.specs.Rules.{Rules}
 use Rattle.circuit_model.specs.Words.{log, effects}
 use Rattle.tr_io.specs.declared.answers.TakeAnswer.{TakeAnswer}
@@ -42,13 +42,13 @@ taken-begins h s c = same-list (taken_forth h c)
 
 -- back
 abbrev More : Rules → List Event → List Event → Type 0
-More rules ev x = Begins (behind (log rules ev)) (behind (log rules x))
+More rules ev x = Begins (back_bodies (log rules ev)) (back_bodies (log rules x))
 
 more-one : (rules : Rules) (e : Event) (ev : List Event) → More rules ev (e ∷ ev)
-more-one rules e ev = pushed-begins (behind (log rules ev)) (effects rules ev e).back
+more-one rules e ev = pushed-begins (back_bodies (log rules ev)) (effects rules ev e).back
 
 more-none : (rules : Rules) (ev : List Event) → More rules ev ev
-more-none rules ev = same-list (behind (log rules ev))
+more-none rules ev = same-list (back_bodies (log rules ev))
 
 more-over : (rules : Rules) (new ev : List Event) → More rules ev (new ++ ev)
 more-over rules [] ev = more-none rules ev
@@ -96,7 +96,7 @@ stay-by : (start : SwitchStart) (newer older : List Step) (worker : ℕ) (note :
 stay-by start newer older worker note Forth is within =
     ap (λ l. map body_of l) (part-begins note.first note.count (taken_forth older note.circ.0) _ (taken-later newer (Claim worker (Some note) ∷ older) note.circ.0) within)
 stay-by start newer older worker note Back is within =
-    part-begins note.first note.count (behind (circuit_log start.rules older note.circ.0)) _ (back-later start.rules newer (Claim worker (Some note) ∷ older) note.circ.0) within
+    part-begins note.first note.count (back_bodies (circuit_log start.rules older note.circ.0)) _ (back-later start.rules newer (Claim worker (Some note) ∷ older) note.circ.0) within
 
 pub claimed_bodies_stay : (start : SwitchStart) (newer older : List Step) (worker : ℕ) (note : ClaimNote) → IsLegal start (newer ++ Claim worker (Some note) ∷ older) →
     claimed_bodies start.rules (newer ++ Claim worker (Some note) ∷ older) note ≡ claimed_bodies start.rules (Claim worker (Some note) ∷ older) note

@@ -10,7 +10,7 @@ use Rattle.circuit_model.specs.declared.event.Event.TheVariants.{Born, Linked}
 use Rattle.circuit_model.specs.Log.{Log}
 use Rattle.circuit_model.specs.NextHop.{next_hop, has_leg, is_linked, leg_count}
 use Rattle.circuit_model.specs.Opened.{reply_in, born_keys, born_reply}
-use Rattle.circuit_model.specs.Packaged.{behind}
+use Rattle.circuit_model.specs.Packaged.{back_bodies}
 use Rattle.circuit_model.specs.Rules.{Rules}
 use Rattle.circuit_model.specs.Sent.{destroy, given_forth, sent_to_hop, sent_to_client, all_sealed}
 use Rattle.circuit_model.specs.Words.{log, effects, entry_after}
@@ -151,4 +151,4 @@ reply-none rules (e ∷ ev) fits = reply-or e (born_reply (log rules ev)) (reply
 
 pub client_without_destroy : (rules : Rules) (ev : List Event) (xs rest : List CircuitCell) → AllFit rules ev → xs ++ rest ≡ sent_to_client (log rules ev) → list_any (λ cell. cell.command == 4) xs ≡ true → ⊥
 client_without_destroy rules ev xs rest fits all some =
-    none-of xs rest (subst (AllByRecursion IsNoDestroy) (sym all) (all-append IsNoDestroy (option_to_list (born_reply (log rules ev))) _ (reply-none rules ev fits) (sealed-none (born_keys (log rules ev)).kb 0 (behind (log rules ev))))) some
+    none-of xs rest (subst (AllByRecursion IsNoDestroy) (sym all) (all-append IsNoDestroy (option_to_list (born_reply (log rules ev))) _ (reply-none rules ev fits) (sealed-none (born_keys (log rules ev)).kb 0 (back_bodies (log rules ev))))) some

@@ -4,7 +4,7 @@ use Rattle.std.proofs.Common.{◌≡◌, ℕ, ◌+◌, ◌≤◌, ◌==◌, Bool
 use Rattle.std.proofs.lemmas.List.{append-nil, take-append-drop}
 use Rattle.std.proofs.lemmas.Grind.{common_steps}
 use Rattle.circuit_model.specs.Events.{CircuitCell}
-use Rattle.circuit_model.specs.Packaged.{behind}
+use Rattle.circuit_model.specs.Packaged.{back_bodies}
 use Rattle.circuit_model.specs.Rules.{Rules}
 use Rattle.circuit_model.specs.Words.{log}
 use Rattle.tr_io.specs.declared.answers.BackAnswer.{BackAnswer}
@@ -142,7 +142,7 @@ part-count xs first count within = grind (arith, common_steps)
 pub return_seals_next : (start : SwitchStart) (h : List Step) (note : ClaimNote) (place : Option ℕ) → IsLegal start (GiveBack note place Settled ∷ h) → note.dir ≡ Back → SealsNext start.rules h note place
 return_seals_next start h note place legal is =
     let inside = all-there start h note place Settled Back is legal refl (ways start h legal.1 note.circ.0 Back) in
-    let all = behind (circuit_log start.rules h note.circ.0) in
+    let all = back_bodies (circuit_log start.rules h note.circ.0) in
     let bodies_are : claimed_bodies start.rules h note ≡ take note.count (drop note.first all) = ap (λ d. bodies_in start.rules h note d) is in
     record {
       count = ap (λ (l : List (List ℕ)). length l) bodies_are ∙ part-count all note.first note.count inside.1;

@@ -8,7 +8,7 @@ use Rattle.circuit_model.specs.declared.event.Event.TheVariants.{Born, Backward,
 use Rattle.circuit_model.specs.Log.{Log}
 use Rattle.circuit_model.specs.Opened.{keys_in}
 use Rattle.circuit_model.specs.Rules.{Rules}
-use Rattle.circuit_model.specs.Sent.{one, sent_to_hop}
+use Rattle.circuit_model.specs.Sent.{leg_cells, sent_to_hop}
 use Rattle.circuit_model.specs.Words.{log, closes}
 use Rattle.circuit_model.proofs.Legs.{client_leg_grows, hop_leg_grows}
 use Rattle.tr_io.specs.declared.answers.BackAnswer.{BackAnswer}
@@ -101,23 +101,23 @@ events-longer rules h (DialDone order outcome (DialAnswer.Full n)) c = longer-wi
 events-longer rules h s c = longer-none (opens c s) (events rules h c)
 
 -- what is sent on a leg
-pub hop-one : (l : Log) (k : ℕ) → one l (suc k) ≡ sent_to_hop l (suc k)
+pub hop-one : (l : Log) (k : ℕ) → leg_cells l (suc k) ≡ sent_to_hop l (suc k)
 hop-one l k = let positive : (suc k == 0) ≡ false = grind (arith, nat_tests) in rw positive refl
 
-one-more : (rules : Rules) (ev : List Event) (e : Event) → keys_in e ≡ None → (k : ℕ) → Begins (one (log rules ev) k) (one (log rules (e ∷ ev)) k)
+one-more : (rules : Rules) (ev : List Event) (e : Event) → keys_in e ≡ None → (k : ℕ) → Begins (leg_cells (log rules ev) k) (leg_cells (log rules (e ∷ ev)) k)
 one-more rules ev e none zero = record { rest = _; all = sym (client_leg_grows rules ev e none) }
 one-more rules ev e none (suc k) =
     let grows = hop_leg_grows rules ev e (suc k) in
     record { rest = grows.0; all = ap (λ l. l ++ grows.0) (hop-one (log rules ev) k) ∙ sym grows.1 ∙ sym (hop-one (log rules (e ∷ ev)) k) }
 
-one-over : (rules : Rules) (new ev : List Event) → AllByRecursion (λ e. keys_in e ≡ None) new → (k : ℕ) → Begins (one (log rules ev) k) (one (log rules (new ++ ev)) k)
-one-over rules [] ev none k = same-list (one (log rules ev) k)
+one-over : (rules : Rules) (new ev : List Event) → AllByRecursion (λ e. keys_in e ≡ None) new → (k : ℕ) → Begins (leg_cells (log rules ev) k) (leg_cells (log rules (new ++ ev)) k)
+one-over rules [] ev none k = same-list (leg_cells (log rules ev) k)
 one-over rules (e ∷ new) ev none k = both-begin _ _ _ (one-over rules new ev none.1 k) (one-more rules (new ++ ev) e none.0 k)
 
-pub one-grows : (rules : Rules) (h : List Step) (s : Step) (c k : ℕ) → opens c s ≡ false → Begins (one (circuit_log rules h c) k) (one (circuit_log rules (s ∷ h) c) k)
+pub one-grows : (rules : Rules) (h : List Step) (s : Step) (c k : ℕ) → opens c s ≡ false → Begins (leg_cells (circuit_log rules h c) k) (leg_cells (circuit_log rules (s ∷ h) c) k)
 one-grows rules h s c k other =
     let longer = events-longer rules h s c in
-    subst (λ ev. Begins (one (circuit_log rules h c) k) (one (log rules ev) k)) longer.all (one-over rules longer.new (events rules h c) (longer.unborn other) k)
+    subst (λ ev. Begins (leg_cells (circuit_log rules h c) k) (leg_cells (log rules ev) k)) longer.all (one-over rules longer.new (events rules h c) (longer.unborn other) k)
 
 -- and as far as it may leave
 sealed-up : (b : Bool) (n count : ℕ) → n ≤ (if b then n + count else n)

@@ -1,7 +1,7 @@
 -- Circuits with the same events are sent cells of which one list begins the other.
 use Rattle.std.proofs.Common.{◌≡◌, ℕ, List, [], ◌∷◌, ◌++◌, refl, sym, ◌∙◌, ap, inl, inr}
 use Rattle.circuit_model.specs.Events.{CircuitCell}
-use Rattle.circuit_model.specs.Sent.{one}
+use Rattle.circuit_model.specs.Sent.{leg_cells}
 use Rattle.circuit_model.specs.Words.{log}
 use Rattle.tr_io.specs.declared.step.Step.{Step}
 use Rattle.switch_model.specs.Start.{SwitchStart}
@@ -30,4 +30,4 @@ pub comparable_cells : (start : SwitchStart) (h g : List Step) (c d k : ℕ) →
 comparable_cells start h g c d k legal other same =
     let one_h = sent_is_prefix start h legal c k in
     let one_g = sent_is_prefix start g other d k in
-    comparable (sent start.rules h c k) (sent start.rules g d k) one_h.0 one_g.0 (one_h.1 ∙ ap (λ ev. one (log start.rules ev) k) same ∙ sym one_g.1)
+    comparable (sent start.rules h c k) (sent start.rules g d k) one_h.0 one_g.0 (one_h.1 ∙ ap (λ ev. leg_cells (log start.rules ev) k) same ∙ sym one_g.1)

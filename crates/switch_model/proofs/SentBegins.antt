@@ -7,7 +7,7 @@ use Rattle.cell_codec.specs.declared.cell.Cell.{Cell}
 use Rattle.circuit_model.specs.Events.{CircuitCell}
 use Rattle.circuit_model.specs.Log.{Log}
 use Rattle.circuit_model.specs.Rules.{Rules}
-use Rattle.circuit_model.specs.Sent.{one}
+use Rattle.circuit_model.specs.Sent.{leg_cells}
 use Rattle.tr_io.specs.declared.answers.OpenAnswer.TheVariants.{Opened}
 use Rattle.tr_io.specs.declared.names.ChanNo.{ChanNo}
 use Rattle.tr_io.specs.declared.names.Dir.TheVariants.{Forth}
@@ -139,11 +139,11 @@ sent-begins start (OpenCircuit chan id reply keys pad (Opened n) ∷ h) legal c 
 sent-begins start (s ∷ h) legal c k = both-begin _ _ _ (sent-begins start h legal.1 c k) (sendable-grows start.rules h s c k refl)
 
 -- and so what the one-thread relay sends
-pub sendable-one : (l : Log) (bodies k : ℕ) → Begins (sendable l bodies k) (one l k)
-sendable-one l bodies zero = record { rest = drop (1 + bodies) (one l 0); all = take-append-drop (1 + bodies) (one l 0) }
-sendable-one l bodies (suc k) = same-list (one l (suc k))
+pub sendable-one : (l : Log) (bodies k : ℕ) → Begins (sendable l bodies k) (leg_cells l k)
+sendable-one l bodies zero = record { rest = drop (1 + bodies) (leg_cells l 0); all = take-append-drop (1 + bodies) (leg_cells l 0) }
+sendable-one l bodies (suc k) = same-list (leg_cells l (suc k))
 
-pub sent_is_prefix : (start : SwitchStart) (h : List Step) → IsLegal start h → (c k : ℕ) → (rest : List CircuitCell) × (sent start.rules h c k ++ rest ≡ one (circuit_log start.rules h c) k)
+pub sent_is_prefix : (start : SwitchStart) (h : List Step) → IsLegal start h → (c k : ℕ) → (rest : List CircuitCell) × (sent start.rules h c k ++ rest ≡ leg_cells (circuit_log start.rules h c) k)
 sent_is_prefix start h legal c k =
     let begins = both-begin _ _ _ (sent-begins start h legal c k) (sendable-one (circuit_log start.rules h c) (sealed_count h c) k) in
     (begins.rest, begins.all)
@@ -158,7 +158,7 @@ next-of xs more ys zs y is begins =
     subst (λ l. slice_get l (length xs) ≡ Some y) all (get-seam xs (more ++ begins.rest) y)
 
 pub next_leaves : (start : SwitchStart) (h : List Step) (chan : ChanNo) (tick : ℕ) (cell : Cell) (c k : ℕ) → IsLegal start (NextCell chan tick (Some cell) ∷ h) → is_leg c k (at h chan.0 cell.circ) ≡ true → is_live_circuit start.rules h c ≡ true →
-    slice_get (one (circuit_log start.rules h c) k) (length (sent start.rules h c k)) ≡ Some (circuit_cell cell)
+    slice_get (leg_cells (circuit_log start.rules h c) k) (length (sent start.rules h c k)) ≡ Some (circuit_cell cell)
 next_leaves start h chan tick cell c k legal of_leg alive =
     let next = queued-next start.rules h c k cell alive (first-leaves start h chan tick cell c k legal of_leg alive) (sent-begins start h legal.1 c k) in
     next-of (sent start.rules h c k) next.0 _ _ (circuit_cell cell) next.1 (sendable-one (circuit_log start.rules h c) (sealed_count h c) k)

@@ -5,7 +5,7 @@ use Rattle.circuit_model.specs.Effects.{open_effects}
 use Rattle.circuit_model.specs.Events.{CircuitCell}
 use Rattle.circuit_model.specs.declared.event.Event.TheVariants.{Backward}
 use Rattle.circuit_model.specs.Log.{is_closed}
-use Rattle.circuit_model.specs.Packaged.{behind}
+use Rattle.circuit_model.specs.Packaged.{back_bodies}
 use Rattle.circuit_model.specs.Rules.{Rules}
 use Rattle.circuit_model.specs.Words.{effects, log}
 use Rattle.tr_io.specs.declared.answers.TakeAnswer.TheVariants.{Queued}
@@ -39,7 +39,7 @@ events_then rules h note chan from_hop cell on_leg relay forth claimed goes = rw
 
 behind_then : (rules : Rules) (history : List _) (body answer : List ℕ) (cell : CircuitCell) → is_closed (log rules history) ≡ false →
     (effects rules (Backward body ∷ history) (forward_of cell)).back ≡ Some answer →
-    behind (log rules (forward_of cell ∷ Backward body ∷ history)) ≡ behind (log rules history) ++ body ∷ answer ∷ []
+    back_bodies (log rules (forward_of cell ∷ Backward body ∷ history)) ≡ back_bodies (log rules history) ++ body ∷ answer ∷ []
 unfolding open_effects
 behind_then rules history body answer cell opened packaged = rw (packaged, opened) (append_assoc _ (body ∷ []) (answer ∷ []))
 
@@ -49,7 +49,7 @@ pub next_hops_body_first : (rules : Rules) (h : List Step) (note : ClaimNote) (c
     claimed_cells (Take chan from_hop Queued ∷ h) note ≡ cell ∷ [] →
     closing_at rules (length (sent rules h note.circ.0 0)) (Backward (circuit_cell from_hop).body ∷ events rules h note.circ.0) cell ≡ Goes →
     (effects rules (Backward (circuit_cell from_hop).body ∷ events rules h note.circ.0) (forward_of cell)).back ≡ Some answer →
-    behind (circuit_log rules (hop_cell_then_return note chan from_hop h) note.circ.0) ≡ behind (circuit_log rules h note.circ.0) ++ (circuit_cell from_hop).body ∷ answer ∷ []
+    back_bodies (circuit_log rules (hop_cell_then_return note chan from_hop h) note.circ.0) ≡ back_bodies (circuit_log rules h note.circ.0) ++ (circuit_cell from_hop).body ∷ answer ∷ []
 next_hops_body_first rules h note chan from_hop cell answer opened on_leg relay forth claimed goes packaged =
     rw (events_then rules h note chan from_hop cell on_leg relay forth claimed goes)
     (behind_then rules (events rules h note.circ.0) (circuit_cell from_hop).body answer cell opened packaged)

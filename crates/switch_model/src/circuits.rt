@@ -4,7 +4,7 @@ ghost use Rattle.cell_codec.specs.declared.cell.Cell.{Cell};
 ghost use Rattle.circuit_model.specs.Events.{CircuitCell};
 ghost use Rattle.circuit_model.specs.Log.{closing};
 ghost use Rattle.circuit_model.specs.Rules.{Rules};
-ghost use Rattle.circuit_model.specs.Sent.{one};
+ghost use Rattle.circuit_model.specs.Sent.{leg_cells};
 ghost use Rattle.circuit_model.specs.Words.{effects};
 ghost use Rattle.tr_io.specs.declared.answers.BackAnswer.{BackAnswer};
 ghost use Rattle.tr_io.specs.declared.answers.BackAnswer.TheVariants.{Down};

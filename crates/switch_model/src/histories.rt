@@ -9,7 +9,7 @@ ghost use Rattle.circuit_model.specs.declared.event.Event.TheVariants.{Backward}
 ghost use Rattle.circuit_model.specs.Extending.{truncate_effects};
 ghost use Rattle.circuit_model.specs.Log.{is_closed, closing};
 ghost use Rattle.circuit_model.specs.NextHop.{next_hop, is_absent};
-ghost use Rattle.circuit_model.specs.Packaged.{behind};
+ghost use Rattle.circuit_model.specs.Packaged.{back_bodies};
 ghost use Rattle.circuit_model.specs.Rules.{Rules};
 ghost use Rattle.circuit_model.specs.Words.{effects};
 ghost use Rattle.tor_spec.specs.CellCommands.{relay_command};
@@ -65,8 +65,8 @@ pub fn next_hops_body_goes_first()
         (Backward (circuit_cell from_hop).body ∷ events rules h note.circ.0) cell ≡ Goes →
         (effects rules (Backward (circuit_cell from_hop).body ∷ events rules h note.circ.0) (forward_of cell)).back
         ≡ Some answer →
-        behind (circuit_log rules (hop_cell_then_return note chan from_hop h) note.circ.0)
-        ≡ behind (circuit_log rules h note.circ.0) ++ (circuit_cell from_hop).body ∷ answer ∷ [] }
+        back_bodies (circuit_log rules (hop_cell_then_return note chan from_hop h) note.circ.0)
+        ≡ back_bodies (circuit_log rules h note.circ.0) ++ (circuit_cell from_hop).body ∷ answer ∷ [] }
 {}
 
 /// A TRUNCATE and then a body that closes come home in one claim, of a circuit with one next hop, on another

@@ -2,7 +2,7 @@
 ghost use Rattle.std.specs.Prelude.{◌≡◌, ℕ, ◌++◌, List, [], ◌∷◌, length, Some, true, false, slice_get, Contains};
 ghost use Rattle.cell_codec.specs.declared.cell.Cell.{Cell};
 ghost use Rattle.circuit_model.specs.Events.{CircuitCell};
-ghost use Rattle.circuit_model.specs.Sent.{one};
+ghost use Rattle.circuit_model.specs.Sent.{leg_cells};
 ghost use Rattle.tr_io.specs.declared.names.ChanNo.{ChanNo};
 ghost use Rattle.tr_io.specs.declared.step.Step.{Step};
 ghost use Rattle.tr_io.specs.declared.step.Step.TheVariants.{NextCell};
@@ -22,7 +22,7 @@ ghost use Rattle.switch_model.specs.Legal.{IsLegal};
 #[tactic(auto, using(crate::proofs::SentBegins::sent_is_prefix))]
 pub fn each_leg_sends_a_prefix()
     ensures { (start : SwitchStart) (h : List Step) → IsLegal start h → (c k : ℕ) →
-        (rest : List CircuitCell) × (sent start.rules h c k ++ rest ≡ one (circuit_log start.rules h c) k) }
+        (rest : List CircuitCell) × (sent start.rules h c k ++ rest ≡ leg_cells (circuit_log start.rules h c) k) }
 {}
 
 /// A cell that leaves on leg k of a live circuit is the next one that the one-thread relay sends there.
@@ -31,7 +31,7 @@ pub fn each_leg_sends_the_next_cell()
     ensures { (start : SwitchStart) (h : List Step) (chan : ChanNo) (tick : ℕ) (cell : Cell) (c k : ℕ) →
         IsLegal start (NextCell chan tick (Some cell) ∷ h) →
         is_leg c k (at h chan.0 cell.circ) ≡ true → is_live_circuit start.rules h c ≡ true →
-        slice_get (one (circuit_log start.rules h c) k) (length (sent start.rules h c k)) ≡ Some (circuit_cell cell) }
+        slice_get (leg_cells (circuit_log start.rules h c) k) (length (sent start.rules h c k)) ≡ Some (circuit_cell cell) }
 {}
 
 /// A DESTROY that waits in a channel's lane is for no leg of a live circuit, so none passes cells of its leg.
@@ -61,5 +61,5 @@ pub fn at_rest_a_leg_has_sent_all()
 #[tactic(auto, using(crate::proofs::AllSent::at_rest_all_sent))]
 pub fn at_rest_all_is_sent()
     ensures { (start : SwitchStart) (h : List Step) (c k : ℕ) → IsLegal start h → IsAtRest start.rules h c → is_ended_outside h c k ≡ false →
-        sent start.rules h c k ≡ one (circuit_log start.rules h c) k }
+        sent start.rules h c k ≡ leg_cells (circuit_log start.rules h c) k }
 {}

@@ -81,6 +81,6 @@ cipher_stays rules h s c Back unopened away =
     let keys : born_keys (circuit_log rules (s ∷ h) c) ≡ born_keys (circuit_log rules h c) =
     subst (λ ev. born_keys (log rules ev) ≡ born_keys (circuit_log rules h c)) longer.all
     (keys-over rules longer.new (events rules h c) (longer.unborn unopened)) in
-    ap (λ k. Cipher.Back (sealer_of (record { key = k.kb; sealed = sealed_count (s ∷ h) c }))) keys
-    ∙ ap (λ n. Cipher.Back (sealer_of (record { key = (born_keys (circuit_log rules h c)).kb; sealed = n })))
+    ap (λ k. Cipher.Back (sealer_of (record { key = k.kb; sealed_count = sealed_count (s ∷ h) c }))) keys
+    ∙ ap (λ n. Cipher.Back (sealer_of (record { key = (born_keys (circuit_log rules h c)).kb; sealed_count = n })))
     (came-same rules h s c Back away)

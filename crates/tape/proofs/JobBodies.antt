@@ -3,7 +3,7 @@ use Rattle.std.proofs.Common.{◌≡◌, ℕ, ◌+◌, List, [], ◌∷◌, ◌+
 use Rattle.std.proofs.lemmas.List.{append-nil, take-map, drop-map}
 use Rattle.circuit_model.specs.Batches.{body_of}
 use Rattle.circuit_model.specs.Events.{CircuitCell}
-use Rattle.circuit_model.specs.Packaged.{behind}
+use Rattle.circuit_model.specs.Packaged.{back_bodies}
 use Rattle.circuit_model.specs.Rules.{Rules}
 use Rattle.tr_io.specs.declared.names.ClaimNote.{ClaimNote}
 use Rattle.tr_io.specs.declared.names.Dir.{Dir}
@@ -80,7 +80,7 @@ bodies_taken start s h note x Forth st live none is =
 bodies_taken start s h note x Back st live none is =
     let own = circuit_stands start s h note.circ.0 x st live in
     ap (map body_of) (sym (first-waiting note.circ.0 Back x.back _ _ _ _ _ note own.back none is))
-    ∙ part-back (behind (circuit_log start.rules h note.circ.0)) note.first note.count
+    ∙ part-back (back_bodies (circuit_log start.rules h note.circ.0)) note.first note.count
 
 -- A claim leaves the bodies of each direction.
 pub bodies_left : (rules : Rules) (h : List Step) (worker : ℕ) (claim note : ClaimNote) (dir : Dir) →
@@ -119,4 +119,4 @@ bodies_stay_out start s h note x Forth st live out =
 bodies_stay_out start s h note x Back st live out =
     let own = circuit_stands start s h note.circ.0 x st live in
     ap (map body_of) (out-cells note.circ.0 Back x.back _ _ _ _ _ note own.back out)
-    ∙ part-back (behind (circuit_log start.rules h note.circ.0)) note.first note.count
+    ∙ part-back (back_bodies (circuit_log start.rules h note.circ.0)) note.first note.count

@@ -10,7 +10,7 @@ use Rattle.tape.specs.declared.record.Record.{Record}
 use Rattle.tape.specs.Fronts.{FrontOf, record_and, less, no_record, unbuilt}
 use Rattle.tape.specs.Records.{front_of}
 use Rattle.circuit_model.specs.Events.{CircuitCell}
-use Rattle.circuit_model.specs.Sent.{one}
+use Rattle.circuit_model.specs.Sent.{leg_cells}
 use Rattle.tr_io.specs.declared.step.Step.{Step}
 use Rattle.switch_model.specs.History.Circuit.{sent}
 use Rattle.switch_model.specs.Waiting.Queues.{circuit_log}
@@ -96,7 +96,7 @@ IsFrontOfOutput rules first answers =
 -- What was sent on leg k of circuit c begins what the one-thread relay sends there.
 abbrev pub BeginsOnLeg : SwitchStart → List Step → ℕ → ℕ → Type 0
 BeginsOnLeg start h c k =
-    (rest : List CircuitCell) × (sent start.rules h c k ++ rest ≡ one (circuit_log start.rules h c) k)
+    (rest : List CircuitCell) × (sent start.rules h c k ++ rest ≡ leg_cells (circuit_log start.rules h c) k)
 
 -- A switch with these rules that stands for the steps of these records, its relays and ciphers among it. None of
 -- the returns is refused as one of a job that the switch didn't give out.

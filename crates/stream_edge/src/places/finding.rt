@@ -3,16 +3,20 @@
 ghost use Rattle.std.specs.Prelude.{◌≡◌, ◌<◌, IfSome, position};
 ghost use Rattle.stream_edge.specs.Streams.{begun, is_free, is_live_as, is_stream};
 
-use crate::held::{Held, Phase};
+use crate::placed_stream::{Phase, PlacedStream};
 
-pub(super) fn live_place(streams: &[Option<Held>; 32], id: u16) -> Option<usize>
+pub(super) fn live_place(streams: &[Option<PlacedStream>; 32], id: u16) -> Option<usize>
     ensures first { result ≡ position (is_live_as id) streams.now }
     ensures within { IfSome result (λ place. place < 32) }
 {
     streams.iter().position(|stream| is_live_as(stream, id))
 }
 
-pub(super) fn stream_place(streams: &[Option<Held>; 32], id: u16, serial: u64) -> Option<usize>
+pub(super) fn stream_place(
+    streams: &[Option<PlacedStream>; 32],
+    id: u16,
+    serial: u64,
+) -> Option<usize>
     ensures first { result ≡ position (is_stream id serial) streams.now }
     ensures within { IfSome result (λ place. place < 32) }
 {
@@ -21,14 +25,14 @@ pub(super) fn stream_place(streams: &[Option<Held>; 32], id: u16, serial: u64) -
         .position(|stream| is_stream(stream, id, serial))
 }
 
-pub(super) fn free_place(streams: &[Option<Held>; 32]) -> Option<usize>
+pub(super) fn free_place(streams: &[Option<PlacedStream>; 32]) -> Option<usize>
     ensures first { result ≡ position is_free streams.now }
     ensures within { IfSome result (λ place. place < 32) }
 {
     streams.iter().position(|stream| stream.is_none())
 }
 
-fn is_live_as(stream: &Option<Held>, id: u16) -> bool
+fn is_live_as(stream: &Option<PlacedStream>, id: u16) -> bool
     ensures { result ≡ is_live_as id stream.now }
 {
     match stream {
@@ -37,7 +41,7 @@ fn is_live_as(stream: &Option<Held>, id: u16) -> bool
     }
 }
 
-fn is_stream(stream: &Option<Held>, id: u16, serial: u64) -> bool
+fn is_stream(stream: &Option<PlacedStream>, id: u16, serial: u64) -> bool
     ensures { result ≡ is_stream id serial stream.now }
 {
     match stream {
@@ -46,10 +50,10 @@ fn is_stream(stream: &Option<Held>, id: u16, serial: u64) -> bool
     }
 }
 
-pub(super) fn begun(id: u16, serial: u64) -> Held
+pub(super) fn begun(id: u16, serial: u64) -> PlacedStream
     ensures { result ≡ begun id serial }
 {
-    Held {
+    PlacedStream {
         stream: id,
         serial,
         phase: Phase::Reaching,

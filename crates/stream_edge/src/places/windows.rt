@@ -3,10 +3,10 @@
 ghost use Rattle.std.specs.Prelude.{◌≡◌, ◌+◌, ◌^◌, ◌<◌, IsTrue, if◌then◌else◌, Some};
 ghost use Rattle.stream_edge.specs.Streams.{after_accepting, after_credit, after_draining, after_packaging, may_accept, may_credit, may_drain, may_package, sendme_due};
 ghost use Rattle.stream_edge.specs.PlacesState.{IsLive, IsTaken, held_at, with_held};
-ghost use Rattle.stream_edge.specs.declared.held.Held.{Held};
+ghost use Rattle.stream_edge.specs.declared.placed_stream.PlacedStream.{PlacedStream};
 
 use super::{AcceptAnswer, CreditAnswer, PlaceNo, Places};
-use crate::held::Held;
+use crate::placed_stream::PlacedStream;
 
 /// The cells that a stream's window begins with (tor-spec, "Stream-level flow control").
 const START: u64 = 500;
@@ -19,9 +19,9 @@ impl Places {
     pub fn accepted(&mut self, place: PlaceNo) -> AcceptAnswer
         requires calls { self.old.calls < 2 ^ 63 }
         requires live { IsLive self.old place.0 }
-        ensures answer { (h : Held) → held_at self.old place.0 ≡ Some h →
+        ensures answer { (h : PlacedStream) → held_at self.old place.0 ≡ Some h →
             result ≡ (if may_accept h then AcceptAnswer.Accepted else AcceptAnswer.Overrun) }
-        ensures counted { (h : Held) → held_at self.old place.0 ≡ Some h →
+        ensures counted { (h : PlacedStream) → held_at self.old place.0 ≡ Some h →
             self.new ≡ with_held self.old place.0 (Some (after_accepting h)) }
         ensures calls { self.new.calls ≡ self.old.calls + 1 }
     {
@@ -29,7 +29,7 @@ impl Places {
         if stream.accepted < START + STEP * (stream.drained / STEP) {
             self.put(
                 place,
-                Some(Held {
+                Some(PlacedStream {
                     accepted: stream.accepted + 1,
                     ..stream
                 }),
@@ -46,8 +46,8 @@ impl Places {
     pub fn drained(&mut self, place: PlaceNo) -> Option<bool>
         requires calls { self.old.calls < 2 ^ 63 }
         requires live { IsLive self.old place.0 }
-        ensures answer { (h : Held) → held_at self.old place.0 ≡ Some h → result ≡ sendme_due h }
-        ensures counted { (h : Held) → held_at self.old place.0 ≡ Some h →
+        ensures answer { (h : PlacedStream) → held_at self.old place.0 ≡ Some h → result ≡ sendme_due h }
+        ensures counted { (h : PlacedStream) → held_at self.old place.0 ≡ Some h →
             self.new ≡ with_held self.old place.0 (Some (after_draining h)) }
         ensures calls { self.new.calls ≡ self.old.calls + 1 }
     {
@@ -56,7 +56,7 @@ impl Places {
             let count = stream.drained + 1;
             self.put(
                 place,
-                Some(Held {
+                Some(PlacedStream {
                     drained: count,
                     ..stream
                 }),
@@ -71,7 +71,7 @@ impl Places {
     /// Whether one more DATA cell may be packaged for the stream.
     pub fn may_pack(&self, place: PlaceNo) -> bool
         requires { IsLive self.now place.0 }
-        ensures { (h : Held) → held_at self.now place.0 ≡ Some h → result ≡ may_package h }
+        ensures { (h : PlacedStream) → held_at self.now place.0 ≡ Some h → result ≡ may_package h }
     {
         let stream = self.stream_at(place);
         stream.packed < START + STEP * stream.credits
@@ -81,15 +81,15 @@ impl Places {
     pub fn packed(&mut self, place: PlaceNo)
         requires calls { self.old.calls < 2 ^ 63 }
         requires live { IsLive self.old place.0 }
-        requires room { (h : Held) → held_at self.old place.0 ≡ Some h → IsTrue (may_package h) }
-        ensures stream { (h : Held) → held_at self.old place.0 ≡ Some h →
+        requires room { (h : PlacedStream) → held_at self.old place.0 ≡ Some h → IsTrue (may_package h) }
+        ensures stream { (h : PlacedStream) → held_at self.old place.0 ≡ Some h →
             self.new ≡ with_held self.old place.0 (Some (after_packaging h)) }
         ensures calls { self.new.calls ≡ self.old.calls + 1 }
     {
         let stream = self.stream_at(place);
         self.put(
             place,
-            Some(Held {
+            Some(PlacedStream {
                 packed: stream.packed + 1,
                 ..stream
             }),
@@ -100,9 +100,9 @@ impl Places {
     pub fn credit(&mut self, place: PlaceNo) -> CreditAnswer
         requires calls { self.old.calls < 2 ^ 63 }
         requires live { IsLive self.old place.0 }
-        ensures answer { (h : Held) → held_at self.old place.0 ≡ Some h →
+        ensures answer { (h : PlacedStream) → held_at self.old place.0 ≡ Some h →
             result ≡ (if may_credit h then CreditAnswer.Raised else CreditAnswer.TooMuch) }
-        ensures counted { (h : Held) → held_at self.old place.0 ≡ Some h →
+        ensures counted { (h : PlacedStream) → held_at self.old place.0 ≡ Some h →
             self.new ≡ with_held self.old place.0 (Some (after_credit h)) }
         ensures calls { self.new.calls ≡ self.old.calls + 1 }
     {
@@ -110,7 +110,7 @@ impl Places {
         if START + STEP * stream.credits + STEP <= START + stream.packed {
             self.put(
                 place,
-                Some(Held {
+                Some(PlacedStream {
                     credits: stream.credits + 1,
                     ..stream
                 }),
@@ -125,7 +125,7 @@ impl Places {
     /// How many DATA cells were packaged for the stream.
     pub fn count(&self, place: PlaceNo) -> u64
         requires { IsTaken self.now place.0 }
-        ensures { (h : Held) → held_at self.now place.0 ≡ Some h → result ≡ h.packed }
+        ensures { (h : PlacedStream) → held_at self.now place.0 ≡ Some h → result ≡ h.packed }
     {
         self.stream_at(place).packed
     }
@@ -133,7 +133,7 @@ impl Places {
     /// Whether a DATA cell that was accepted for the stream is undrained.
     pub fn has_undrained(&self, place: PlaceNo) -> bool
         requires { IsTaken self.now place.0 }
-        ensures { (h : Held) → held_at self.now place.0 ≡ Some h → result ≡ may_drain h }
+        ensures { (h : PlacedStream) → held_at self.now place.0 ≡ Some h → result ≡ may_drain h }
     {
         let stream = self.stream_at(place);
         stream.drained < stream.accepted

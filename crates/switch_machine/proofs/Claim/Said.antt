@@ -3,7 +3,7 @@ use Rattle.std.proofs.Common.{◌&&◌, ◌++◌, ◌-◌, ◌<◌, ◌∙◌, �
 use Rattle.std.proofs.lemmas.Bool.Decides.{nat_tests}
 use Rattle.std.proofs.lemmas.List.{length-map}
 use Rattle.circuit_model.specs.Events.{CircuitCell}
-use Rattle.circuit_model.specs.Packaged.{behind}
+use Rattle.circuit_model.specs.Packaged.{back_bodies}
 use Rattle.tr_io.specs.declared.names.ClaimNote.{ClaimNote}
 use Rattle.tr_io.specs.declared.names.Dir.{Dir}
 use Rattle.tr_io.specs.declared.names.Dir.TheVariants.{Back, Forth}
@@ -55,7 +55,7 @@ circuit-offers start s h c d None gone = rw gone.live refl
 circuit-offers start s h c Forth (Some x) own =
     way-offers c Forth x.forth _ _ _ (length (taken_forth h c)) _ _ (past start.rules h c).live own.forth own.live refl
 circuit-offers start s h c Back (Some x) own =
-    way-offers c Back x.back _ _ _ (length (behind (circuit_log start.rules h c))) _ _ (past start.rules h c).live own.back own.live (length-map (behind (circuit_log start.rules h c)) _)
+    way-offers c Back x.back _ _ _ (length (back_bodies (circuit_log start.rules h c))) _ _ (past start.rules h c).live own.back own.live (length-map (back_bodies (circuit_log start.rules h c)) _)
 
 offers-said : (start : SwitchStart) (s : State) (h : List Step) → Stands start s h → (w : Way) → offered s w ≡ offers_on start.rules h (born_bodies start.rules h) w
 offers-said start s h st w = circuit-offers start s h w.circ w.dir (slot_at s.circuits w.circ) (st.circuits.circuit w.circ)
@@ -116,7 +116,7 @@ way-known start s h worker c Back (Some x) w st found own =
     let it : w ≡ x.back = cc in
     let waits = way-waits c Back x.back _ _ _ _ _ own.back in
     rw it (same-note start.name s.claims (claims h) worker c Back x.back.claimed_count _ (length x.back.waiting_bodies) _ st.numbers.claims own.back.claimed_count
-    (sym (ap (λ n. n - claimed_count h (record { circ = c; dir = Back })) (sym (length-map (behind (circuit_log start.rules h c)) _)) ∙ waits)))
+    (sym (ap (λ n. n - claimed_count h (record { circ = c; dir = Back })) (sym (length-map (back_bodies (circuit_log start.rules h c)) _)) ∙ waits)))
 
 found-way : (s : State) (w : Way) (n : ℕ) (x : Option WayState) → way_in s w ≡ x → offered s w ≡ Some n → (y : WayState) × (way_in s w ≡ Some y)
 found-way s w n None found has = let none : offered s w ≡ None = rw found refl in absurd (some-none (offered s w) n none has)

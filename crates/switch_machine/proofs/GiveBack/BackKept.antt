@@ -5,7 +5,7 @@ use Rattle.std.proofs.lemmas.Bool.Decides.{eqb_tells}
 use Rattle.std.proofs.lemmas.List.{append-nil}
 use Rattle.circuit_model.specs.Events.{CircuitCell}
 use Rattle.circuit_model.specs.Opened.{born_keys}
-use Rattle.circuit_model.specs.Packaged.{behind}
+use Rattle.circuit_model.specs.Packaged.{back_bodies}
 use Rattle.circuit_model.specs.Rules.{Rules}
 use Rattle.circuit_model.specs.Words.{log}
 use Rattle.switch_machine.proofs.Dials.{again-kept}
@@ -53,7 +53,7 @@ events-back rules h n back = rw (back, self_eq n.circ.0) refl
 
 born-back : (rules : Rules) (h : List Step) (n : ClaimNote) → n.dir ≡ Back → born_bodies rules (settling n ∷ h) ≡ born_bodies rules h
 born-back rules h n back =
-    all-new _ _ (born_bodies rules h) [] (new-none (back_of n.circ.0) _ _ (ap (λ e. length (behind (log rules e))) (events-back rules h n back))) (new-none (record { circ = n.circ.0; dir = Forth }) _ _ refl)
+    all-new _ _ (born_bodies rules h) [] (new-none (back_of n.circ.0) _ _ (ap (λ e. length (back_bodies (log rules e))) (events-back rules h n back))) (new-none (record { circ = n.circ.0; dir = Forth }) _ _ refl)
 
 dials-back : (rules : Rules) (h : List Step) (n : ClaimNote) → n.dir ≡ Back → dials_made rules (settling n ∷ h) ≡ dials_made rules h
 dials-back rules h n back = rw (events-back rules h n back, drop-length (asked (log rules (events rules h n.circ.0)))) (append-nil (dials_made rules h))

@@ -4,7 +4,7 @@ use Rattle.std.proofs.lemmas.List.{append-nil, length-append}
 use Rattle.circuit_model.specs.Events.{CircuitCell, Event}
 use Rattle.circuit_model.specs.Log.{Log, pushed}
 use Rattle.circuit_model.specs.NextHop.{leg_count}
-use Rattle.circuit_model.specs.Packaged.{behind}
+use Rattle.circuit_model.specs.Packaged.{back_bodies}
 use Rattle.circuit_model.specs.Rules.{Rules}
 use Rattle.circuit_model.specs.Words.{entry_after, log}
 use Rattle.switch_machine.proofs.Settling.Core.{CoreStands, core-step, numbers_with}
@@ -63,16 +63,16 @@ pub record Grown (y z : Settling) (c : ℕ) (l m : Log) (p : Past) (has_id : ℕ
   pub count : ℕ
   pub core : CoreStands z c m p has_id (all ++ counted_from y.bodies count)
   pub bodies : z.bodies ≡ y.bodies + count
-  pub behind_is : length (behind m) ≡ length (behind l) + count
+  pub behind_is : length (back_bodies m) ≡ length (back_bodies l) + count
 
 grown-none : (y : Settling) (c : ℕ) (l : Log) (p : Past) (has_id : ℕ → Bool) (all : List ℕ) → CoreStands y c l p has_id all → Grown y y c l l p has_id all
 grown-none y c l p has_id all own = record { count = 0; core = subst (CoreStands y c l p has_id) (sym (append-nil all)) own; bodies = omega arith; behind_is = omega arith }
 
 grown-by : (y z : Settling) (c : ℕ) (l m : Log) (p : Past) (has_id : ℕ → Bool) (all : List ℕ) (body : Option (List ℕ)) → CoreStands z c m p has_id (numbers_with all y.bodies body) → z.bodies ≡ bodies_with y.bodies body →
-    length (behind m) ≡ length (pushed (behind l) body) → Grown y z c l m p has_id all
+    length (back_bodies m) ≡ length (pushed (back_bodies l) body) → Grown y z c l m p has_id all
 grown-by y z c l m p has_id all None own bodies more =
     record { count = 0; core = subst (CoreStands z c m p has_id) (sym (append-nil all)) own; bodies = omega (arith, bodies); behind_is = omega (arith, more) }
-grown-by y z c l m p has_id all (Some body) own bodies more = record { count = 1; core = own; bodies = bodies; behind_is = more ∙ length-append (behind l) (body ∷ []) }
+grown-by y z c l m p has_id all (Some body) own bodies more = record { count = 1; core = own; bodies = bodies; behind_is = more ∙ length-append (back_bodies l) (body ∷ []) }
 
 grown-both : (y z u : Settling) (c : ℕ) (l m o : Log) (p : Past) (has_id : ℕ → Bool) (all : List ℕ) → (g : Grown y z c l m p has_id all) → Grown z u c m o p has_id (all ++ counted_from y.bodies g.count) → Grown y u c l o p has_id all
 grown-both y z u c l m o p has_id all g f = record {

@@ -3,7 +3,7 @@ use Rattle.std.proofs.Common.{◌≡◌, ℕ, ◌==◌, ◌≤◌, false, List, 
 use Rattle.std.proofs.Math.Path.{fun_ext}
 use Rattle.std.proofs.Math.Seq.{drop-length}
 use Rattle.std.proofs.lemmas.List.{append-nil}
-use Rattle.circuit_model.specs.Packaged.{behind}
+use Rattle.circuit_model.specs.Packaged.{back_bodies}
 use Rattle.circuit_model.specs.Rules.{Rules}
 use Rattle.circuit_model.specs.Words.{log}
 use Rattle.switch_machine.proofs.GiveBack.Returned.{back_of}
@@ -39,7 +39,7 @@ kept-refused h n place a d refused = fun_ext (λ dir. rw (refused, and-false (sa
 
 born-refused : (rules : Rules) (h : List Step) (n : ClaimNote) (place : Option ℕ) (a : BackAnswer) → is_accepted_return a ≡ false → born_bodies rules (GiveBack n place a ∷ h) ≡ born_bodies rules h
 born-refused rules h n place a refused =
-    all-new _ _ (born_bodies rules h) [] (new-none (back_of n.circ.0) _ _ (ap (λ e. length (behind (log rules e))) (events-refused rules h n place a n.circ.0 refused))) (new-none (record { circ = n.circ.0; dir = Forth }) _ _ refl)
+    all-new _ _ (born_bodies rules h) [] (new-none (back_of n.circ.0) _ _ (ap (λ e. length (back_bodies (log rules e))) (events-refused rules h n place a n.circ.0 refused))) (new-none (record { circ = n.circ.0; dir = Forth }) _ _ refl)
 
 dials-refused : (rules : Rules) (h : List Step) (n : ClaimNote) (place : Option ℕ) (a : BackAnswer) → is_accepted_return a ≡ false → dials_made rules (GiveBack n place a ∷ h) ≡ dials_made rules h
 dials-refused rules h n place a refused = rw (events-refused rules h n place a n.circ.0 refused, drop-length (asked (log rules (events rules h n.circ.0)))) (append-nil (dials_made rules h))

@@ -4,7 +4,7 @@ use Rattle.std.proofs.Common.{◌≡◌, ℕ, ◌+◌, ◌≤◌, true, false, L
 use Rattle.std.specs.List.{filter}
 use Rattle.circuit_model.specs.Events.{Event}
 use Rattle.circuit_model.specs.NextHop.{leg_count, next_hop}
-use Rattle.circuit_model.specs.Packaged.{behind}
+use Rattle.circuit_model.specs.Packaged.{back_bodies}
 use Rattle.circuit_model.specs.Rules.{Rules}
 use Rattle.circuit_model.specs.Words.{log}
 use Rattle.switch_machine.proofs.GiveBack.Batch.{HasOrders, batch, batch-events, counted_from, dial-batch, orders-batch, sent_count-settled}
@@ -65,7 +65,7 @@ events-returned : (rules : Rules) (h : List Step) (n : ClaimNote) (a : BackAnswe
 events-returned rules h n a forth accepted = rw (forth, accepted, self_eq n.circ.0) refl
 
 born-returned : (rules : Rules) (h : List Step) (n : ClaimNote) (a : BackAnswer) (count : ℕ) →
-    length (behind (log rules (events rules (returning n a ∷ h) n.circ.0))) ≡ length (behind (log rules (events rules h n.circ.0))) + count →
+    length (back_bodies (log rules (events rules (returning n a ∷ h) n.circ.0))) ≡ length (back_bodies (log rules (events rules h n.circ.0))) + count →
     born_bodies rules (returning n a ∷ h) ≡ replicate count (back_of n.circ.0) ++ born_bodies rules h
 born-returned rules h n a count more =
     all-new _ _ (born_bodies rules h) (replicate count (back_of n.circ.0)) (new-many (back_of n.circ.0) _ _ count more) (new-none (record { circ = n.circ.0; dir = Forth }) _ _ refl)
@@ -86,9 +86,9 @@ batch-returned rules closes h n a y k forth accepted out its before body_count d
     let cells : claimed_cells h n ≡ k.cells = cells-said rules closes h n y.circuit k out its own in
     let told : settled rules y.circuit.sent_count y.events k.cells ≡ events rules (returning n a ∷ h) c = rw (own.sent_count, before, ← cells) (sym (events-returned rules h n a forth accepted)) in
     let all_events : (settle_all rules y k.cells).events ≡ events rules (returning n a ∷ h) c = batch-events rules k.cells y ∙ told in
-    let more : length (behind (log rules (events rules (returning n a ∷ h) c))) ≡ length (behind (log rules (events rules h c))) + grown.count =
-    subst (λ e. length (behind (log rules (events rules (returning n a ∷ h) c))) ≡ length (behind (log rules e)) + grown.count) before
-    (subst (λ e. length (behind (log rules e)) ≡ length (behind (log rules y.events)) + grown.count) told grown.behind_is) in
+    let more : length (back_bodies (log rules (events rules (returning n a ∷ h) c))) ≡ length (back_bodies (log rules (events rules h c))) + grown.count =
+    subst (λ e. length (back_bodies (log rules (events rules (returning n a ∷ h) c))) ≡ length (back_bodies (log rules e)) + grown.count) before
+    (subst (λ e. length (back_bodies (log rules e)) ≡ length (back_bodies (log rules y.events)) + grown.count) told grown.behind_is) in
     let born_now = born-returned rules h n a grown.count more in
     let dial_before : y.circuit.dial ≡ open_by (next_hop (log rules y.events)) (was_handed_out h) (filter (is_from c) made) = rw before own.dial in
     let dial_behind = dial-batch rules c (length made) (length (asked (log rules y.events))) (filter (is_from c) made) (was_handed_out h) k.cells y never (dial-before rules c made (was_handed_out h) y dial_count dial_before) in

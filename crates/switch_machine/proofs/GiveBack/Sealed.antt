@@ -6,7 +6,7 @@ use Rattle.std.proofs.lemmas.List.{length-append, length-map, length-take-le, ta
 use Rattle.circuit_model.specs.Events.{CircuitCell}
 use Rattle.circuit_model.specs.Log.{Log}
 use Rattle.circuit_model.specs.Opened.{born_keys, born_reply}
-use Rattle.circuit_model.specs.Packaged.{behind}
+use Rattle.circuit_model.specs.Packaged.{back_bodies}
 use Rattle.circuit_model.specs.Rules.{Rules}
 use Rattle.circuit_model.specs.Sent.{all_sealed, sealed}
 use Rattle.circuit_model.specs.Words.{log}
@@ -98,10 +98,10 @@ length-relay (x ∷ xs) = ap suc (length-relay xs)
 
 -- leg 0 with the sealed cells, and the other legs
 legs-sealed : (legs : List (Option LegState)) (l : Log) (n m : ℕ) (bodies : List (List ℕ)) (sent : ℕ → List CircuitCell) (lies : ℕ → Option Port) (has_id : ℕ → Bool) → 0 < length legs → is_some (born_reply l) ≡ true →
-    n ≤ length (behind l) → m ≡ length bodies → bodies ≡ take m (drop n (behind l)) → ((k : ℕ) → LegBy (slot_at legs k) (sent k) (sendable l n k) (lies k) (has_id k)) →
+    n ≤ length (back_bodies l) → m ≡ length bodies → bodies ≡ take m (drop n (back_bodies l)) → ((k : ℕ) → LegBy (slot_at legs k) (sent k) (sendable l n k) (lies k) (has_id k)) →
     (k : ℕ) → LegBy (slot_at (queued_on legs 0 (all_sealed (born_keys l).kb n bodies)) k) (sent k) (sendable l (n + m) k) (lies k) (has_id k)
 legs-sealed legs l n m bodies sent lies has_id inside born few count which own zero =
-    let xs = behind l in
+    let xs = back_bodies l in
     let put = all_sealed (born_keys l).kb n bodies in
     let whole : take n xs ++ bodies ++ drop m (drop n xs) ≡ xs = subst (λ b. take n xs ++ b ++ drop m (drop n xs) ≡ xs) (sym which) (pieces xs n m) in
     let more = more-sealed (born_reply l) (born_keys l).kb (take n xs) bodies (drop m (drop n xs)) n m born (sym (length-take-le n xs few)) count in
@@ -124,14 +124,14 @@ room-for n m xs bodies which count few =
 -- the bodies that come home are those behind the ones that were sealed before
 pub record SealsBodies (l : Log) (n : ℕ) (k : KeptClaim) : Type 0 where
   pub first : k.note.first ≡ n
-  pub bodies : map body_of k.cells ≡ take k.note.count (drop n (behind l))
+  pub bodies : map body_of k.cells ≡ take k.note.count (drop n (back_bodies l))
   pub count : k.note.count ≡ length (map body_of k.cells)
-  pub home : take n (relay_cells (behind l)) ++ k.cells ≡ take (n + k.note.count) (relay_cells (behind l))
+  pub home : take n (relay_cells (back_bodies l)) ++ k.cells ≡ take (n + k.note.count) (relay_cells (back_bodies l))
 
-seals-bodies : (c : ℕ) (way : WayState) (l : Log) (n count : ℕ) (known : Option ClaimNote) (all : List ℕ) (k : KeptClaim) → n ≤ length (behind l) → way.claim_out ≡ Some k →
-    WayStands c Back way (take n (relay_cells (behind l))) (relay_cells (behind l)) count known all → SealsBodies l n k
+seals-bodies : (c : ℕ) (way : WayState) (l : Log) (n count : ℕ) (known : Option ClaimNote) (all : List ℕ) (k : KeptClaim) → n ≤ length (back_bodies l) → way.claim_out ≡ Some k →
+    WayStands c Back way (take n (relay_cells (back_bodies l))) (relay_cells (back_bodies l)) count known all → SealsBodies l n k
 seals-bodies c way l n count known all k few out own =
-    let xs = behind l in
+    let xs = back_bodies l in
     let noted : IsNoteOf c Back (length (take n (relay_cells xs))) k = subst (IsNoted c Back (length (take n (relay_cells xs)))) out own.noted in
     let few_cells : n ≤ length (relay_cells xs) = omega (arith, few, length-relay xs) in
     let first : k.note.first ≡ n = noted.first ∙ length-take-le n (relay_cells xs) few_cells in
@@ -166,14 +166,14 @@ circuit-sealed rules closes h n x k back out its own edge_same events_same =
     let put : sealed_cells key (first_kept x.back.claim_out) (kept_cells x.back.claim_out) ≡ all_sealed key p.sealed_count (map body_of k.cells) =
     rw out (ap (λ i. all_sealed key i (map body_of k.cells)) seals.first) in
     let inside : 0 < length x.legs = omega (arith, own.hops) in
-    let which : map body_of k.cells ≡ take n.count (drop p.sealed_count (behind l)) = seals.bodies ∙ ap (λ m. take m (drop p.sealed_count (behind l))) count in
+    let which : map body_of k.cells ≡ take n.count (drop p.sealed_count (back_bodies l)) = seals.bodies ∙ ap (λ m. take m (drop p.sealed_count (back_bodies l))) count in
     let many : n.count ≡ length (map body_of k.cells) = sym count ∙ seals.count in
     let legs = legs-sealed x.legs l p.sealed_count n.count (map body_of k.cells) p.sent p.port (λ j. holds_id h c j) inside own.born own.sealed many which own.legs in
     rw (past-sealed rules h n back, edge_same, events_same) (record {
       live = own.live;
       sent_count = own.sent_count;
       born = own.born;
-      sealed = room-for p.sealed_count n.count (behind l) (map body_of k.cells) which many own.sealed;
+      sealed = room-for p.sealed_count n.count (back_bodies l) (map body_of k.cells) which many own.sealed;
       linked = own.linked;
       hops = length-with x.legs 0 _ ∙ own.hops;
       legs = λ j. subst (λ cs. LegBy (slot_at (queued_on x.legs 0 cs) j) (p.sent j) (sendable l (p.sealed_count + n.count) j) (p.port j) (holds_id h c j)) (sym put) (legs j);

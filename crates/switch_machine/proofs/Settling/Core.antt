@@ -7,7 +7,7 @@ use Rattle.circuit_model.specs.Events.{CircuitCell}
 use Rattle.circuit_model.specs.Log.{Effects, Entry, Log, Message, pushed}
 use Rattle.circuit_model.specs.NextHop.{leg_count}
 use Rattle.circuit_model.specs.Opened.{born_keys, born_reply}
-use Rattle.circuit_model.specs.Packaged.{behind}
+use Rattle.circuit_model.specs.Packaged.{back_bodies}
 use Rattle.circuit_model.specs.Sent.{all_sealed, given_forth, sealed, sent_to_hop}
 use Rattle.circuit_model.specs.declared.event.Event.TheVariants.{Forward}
 use Rattle.switch_machine.proofs.Slots.{length-with, slot_at-with}
@@ -30,11 +30,11 @@ use Rattle.tr_io.specs.declared.names.Dir.TheVariants.{Back}
 -- direction back. What was sent, sealed and claimed stays.
 pub record CoreStands (y : Settling) (c : ℕ) (l : Log) (p : Past) (has_id : ℕ → Bool) (all : List ℕ) : Type 0 where
   pub born : is_some (born_reply l) ≡ true
-  pub sealed : p.sealed_count ≤ length (behind l)
+  pub sealed : p.sealed_count ≤ length (back_bodies l)
   pub hops : length y.circuit.legs ≡ p.hops + 1
   pub linked : leg_count l ≡ p.hops
   pub legs : (k : ℕ) → LegBy (slot_at y.circuit.legs k) (p.sent k) (sendable l p.sealed_count k) (p.port k) (has_id k)
-  pub back : WayStands c Back y.circuit.back (take p.sealed_count (relay_cells (behind l))) (relay_cells (behind l)) (p.claimed_count Back) (p.claim_out Back) all
+  pub back : WayStands c Back y.circuit.back (take p.sealed_count (relay_cells (back_bodies l))) (relay_cells (back_bodies l)) (p.claimed_count Back) (p.claim_out Back) all
 
 abbrev pub numbers_with : List ℕ → ℕ → Option (List ℕ) → List ℕ
 numbers_with all n None = all
@@ -115,10 +115,10 @@ length-queued legs zero cells = refl
 length-queued legs (suc n) cells = length-with legs (suc n) (option_map (more_queued cells) (slot_at legs (suc n)))
 
 legs-more : (legs : List (Option LegState)) (l : Log) (p : Past) (has_id : ℕ → Bool) (entry : Entry) → leg_count l < length legs → born_reply (entry ∷ l) ≡ born_reply l → born_keys (entry ∷ l) ≡ born_keys l → leg_count (entry ∷ l) ≡ leg_count l →
-    is_some (born_reply l) ≡ true → p.sealed_count ≤ length (behind l) → ((k : ℕ) → LegBy (slot_at legs k) (p.sent k) (sendable l p.sealed_count k) (p.port k) (has_id k)) →
+    is_some (born_reply l) ≡ true → p.sealed_count ≤ length (back_bodies l) → ((k : ℕ) → LegBy (slot_at legs k) (p.sent k) (sendable l p.sealed_count k) (p.port k) (has_id k)) →
     (k : ℕ) → LegBy (slot_at (hop_queued legs (leg_count l) (given_forth l entry)) k) (p.sent k) (sendable (entry ∷ l) p.sealed_count k) (p.port k) (has_id k)
 legs-more legs l p has_id entry inside reply keys count born few own zero =
-    rw (client-kept legs (leg_count l) (given_forth l entry) inside, reply, keys, client-same (born_reply l) (born_keys l).kb (behind l) entry.effects.back p.sealed_count born few) (own zero)
+    rw (client-kept legs (leg_count l) (given_forth l entry) inside, reply, keys, client-same (born_reply l) (born_keys l).kb (back_bodies l) entry.effects.back p.sealed_count born few) (own zero)
 legs-more legs l p has_id entry inside reply keys count born few own (suc k) =
     rw (eqb-suc-zero k, count) (hop-by legs (leg_count l) k (p.sent (suc k)) (sent_to_hop l (suc k)) (given_forth l entry) (p.port (suc k)) (has_id (suc k)) inside
     (rw (eqb-suc-zero k) at (own (suc k))))
@@ -135,9 +135,9 @@ core-step y c l p has_id all command body m fx own =
     let inside : leg_count l < length y.circuit.legs = omega (arith, own.hops, own.linked) in
     record {
       born = own.born;
-      sealed = within-pushed (behind l) fx.back p.sealed_count own.sealed;
+      sealed = within-pushed (back_bodies l) fx.back p.sealed_count own.sealed;
       hops = length-queued y.circuit.legs (leg_count l) (given_forth l entry) ∙ own.hops;
       linked = own.linked;
       legs = legs-more y.circuit.legs l p has_id entry inside refl refl refl own.born own.sealed own.legs;
-      back = back-more c y.bodies y.circuit.back p.sealed_count (behind l) (p.claimed_count Back) (p.claim_out Back) all fx.back own.sealed own.back;
+      back = back-more c y.bodies y.circuit.back p.sealed_count (back_bodies l) (p.claimed_count Back) (p.claim_out Back) all fx.back own.sealed own.back;
     }

@@ -2,7 +2,7 @@
 use Rattle.std.proofs.Common.{◌++◌, ◌==◌, ◌∙◌, ◌∷◌, ◌≡◌, Bool, List, None, Option, Some, [], ap, false, if◌then◌else◌, length, refl, true, ℕ}
 use Rattle.cell_codec.specs.declared.cell.Cell.{Cell}
 use Rattle.circuit_model.specs.Events.{CircuitCell, Event}
-use Rattle.circuit_model.specs.Packaged.{behind}
+use Rattle.circuit_model.specs.Packaged.{back_bodies}
 use Rattle.circuit_model.specs.Rules.{Rules}
 use Rattle.circuit_model.specs.Words.{log}
 use Rattle.tr_io.specs.declared.answers.TakeAnswer.{TakeAnswer}
@@ -41,7 +41,7 @@ new-at : (rules : Rules) (h after : List Step) (o : Option ℕ) (all : List Way)
     new_at rules h after o ++ all ≡ all
 new-at rules h after None all same_events same_forth = refl
 new-at rules h after (Some c) all same_events same_forth =
-    all-new _ _ all [] (new-none (record { circ = c; dir = Back }) _ _ (ap (λ ev. length (behind (log rules ev))) (same_events c)))
+    all-new _ _ all [] (new-none (record { circ = c; dir = Back }) _ _ (ap (λ ev. length (back_bodies (log rules ev))) (same_events c)))
     (new-none (record { circ = c; dir = Forth }) _ _ (ap (λ (l : List CircuitCell). length l) (same_forth c)))
 
 pub born-same : (rules : Rules) (h : List Step) (chan : ℕ) (cell : Cell) (a : TakeAnswer) → ((c : ℕ) → events rules (Take (chan_no chan) cell a ∷ h) c ≡ events rules h c) →

@@ -3,7 +3,7 @@ use Rattle.std.proofs.Common.{◌++◌, ◌==◌, ◌∙◌, ◌∷◌, ◌≡�
 use Rattle.std.proofs.lemmas.List.{length-append}
 use Rattle.std.specs.List.{filter}
 use Rattle.cell_codec.specs.declared.cell.Cell.{Cell}
-use Rattle.circuit_model.specs.Packaged.{behind}
+use Rattle.circuit_model.specs.Packaged.{back_bodies}
 use Rattle.circuit_model.specs.Rules.{Rules}
 use Rattle.circuit_model.specs.Words.{log}
 use Rattle.tr_io.specs.declared.answers.TakeAnswer.TheVariants.{Queued}
@@ -54,7 +54,7 @@ born-queued : (rules : Rules) (h : List Step) (chan c : ℕ) (cell : Cell) → a
 born-queued rules h chan c cell here =
     let own = past-queued rules h chan c cell here in
     rw here (both-new _ _ (born_bodies rules h) (record { circ = c; dir = Forth })
-    (new-none (record { circ = c; dir = Back }) _ _ (ap (λ (p : Past). length (behind (log rules p.events))) own))
+    (new-none (record { circ = c; dir = Back }) _ _ (ap (λ (p : Past). length (back_bodies (log rules p.events))) own))
     (new-many (record { circ = c; dir = Forth }) _ _ 1 (ap (λ (p : Past). length p.taken_forth) own ∙ length-append (taken_forth h c) (circuit_cell cell ∷ []))))
 
 edge-queued : (rules : Rules) (h : List Step) (chan c : ℕ) (cell : Cell) → at h chan cell.circ ≡ Some (record { circ = c; number = 0 }) → (d : ℕ) → (c == d) ≡ false →

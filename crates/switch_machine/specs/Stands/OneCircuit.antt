@@ -5,7 +5,7 @@ use Rattle.circuit_model.specs.Events.{CircuitCell}
 use Rattle.circuit_model.specs.Log.{Log, Order}
 use Rattle.circuit_model.specs.NextHop.{next_hop, leg_count}
 use Rattle.circuit_model.specs.Opened.{born_reply}
-use Rattle.circuit_model.specs.Packaged.{behind}
+use Rattle.circuit_model.specs.Packaged.{back_bodies}
 use Rattle.circuit_model.specs.Rules.{Rules}
 use Rattle.circuit_model.specs.Words.{log, serial_of, orders_of}
 use Rattle.tor_spec.specs.CellCommands.{relay_command}
@@ -60,15 +60,15 @@ pub record CircuitStands (rules : Rules) (closes : List Ordered) (x : CircuitSta
   pub sent_count : x.sent_count ≡ length (p.sent 0)
   -- the relay: it was opened, no more bodies are sealed than went back, and its legs are those of the switch
   pub born : is_some (born_reply (log rules p.events)) ≡ true
-  pub sealed : p.sealed_count ≤ length (behind (log rules p.events))
+  pub sealed : p.sealed_count ≤ length (back_bodies (log rules p.events))
   pub linked : leg_count (log rules p.events) ≡ p.hops
   pub hops : length x.legs ≡ p.hops + 1
   pub legs : (k : ℕ) → LegAt rules (slot_at x.legs k) k p (has_id k)
   pub forth :
       WayStands c Forth x.forth (settled_forth (log rules p.events)) p.taken_forth (p.claimed_count Forth) (p.claim_out Forth) (e.numbers Forth)
   pub back :
-      WayStands c Back x.back (take p.sealed_count (relay_cells (behind (log rules p.events))))
-      (relay_cells (behind (log rules p.events))) (p.claimed_count Back) (p.claim_out Back) (e.numbers Back)
+      WayStands c Back x.back (take p.sealed_count (relay_cells (back_bodies (log rules p.events))))
+      (relay_cells (back_bodies (log rules p.events))) (p.claimed_count Back) (p.claim_out Back) (e.numbers Back)
   pub orders : OrdersStand x.reach_orders x.carry_orders x.close_orders (log rules p.events)
   pub no_left : (serial : ℕ) → left_at closes c serial ≡ []
   pub dial : x.dial ≡ open_dial (log rules p.events) e

@@ -3,7 +3,7 @@ use Rattle.std.specs.Prelude.{nat_le, not, List, if◌then◌else◌}
 use Rattle.circuit_model.specs.declared.event.Event.TheVariants.{Drained}
 use Rattle.circuit_model.specs.Places.{is_live_phase}
 use Rattle.circuit_model.specs.Rules.{Rules}
-use Rattle.circuit_model.specs.Windows.{drained}
+use Rattle.circuit_model.specs.Windows.{drained_count}
 use Rattle.circuit_model.specs.Words.{packages_back}
 use Rattle.tr_io.specs.declared.answers.EdgeAnswer.{EdgeAnswer}
 use Rattle.tr_io.specs.declared.answers.EdgeAnswer.TheVariants.{Counted, Gone}
@@ -19,6 +19,6 @@ abbrev pub drained_answer : Rules → List Step → StreamKey → EdgeAnswer
 drained_answer rules h key =
     if not (is_live_circuit rules h key.circ.0) then Gone
     else if not (is_live_phase (phase_of (circuit_log rules h key.circ.0) key)) then Gone
-    else if nat_le (carried_out h key.circ.0 key.serial) (drained (circuit_log rules h key.circ.0) key.serial) then Gone
+    else if nat_le (carried_out h key.circ.0 key.serial) (drained_count (circuit_log rules h key.circ.0) key.serial) then Gone
     else if packages_back rules (events rules h key.circ.0) (Drained key.serial) then packed rules h key.circ.0
     else Counted

@@ -2,7 +2,7 @@
 -- are the next of their direction.
 use Rattle.std.specs.Prelude.{ℕ, ◌≡◌, ◌+◌, List, [], ◌∷◌, ◌++◌, length, take, Option}
 use Rattle.circuit_model.specs.Events.{CircuitCell}
-use Rattle.circuit_model.specs.Packaged.{behind}
+use Rattle.circuit_model.specs.Packaged.{back_bodies}
 use Rattle.circuit_model.specs.Rules.{Rules}
 use Rattle.tr_io.specs.declared.answers.BackAnswer.{BackAnswer}
 use Rattle.tr_io.specs.declared.answers.BackAnswer.TheVariants.{Settled}
@@ -32,5 +32,5 @@ pub record AddsNext (rules : Rules) (h : List Step) (note : ClaimNote) (place : 
 pub record SealsNext (rules : Rules) (h : List Step) (note : ClaimNote) (place : Option ℕ) : Type 0 where
   pub count : length (claimed_bodies rules h note) ≡ note.count
   pub sealed : sealed_count (GiveBack note place Settled ∷ h) note.circ.0 ≡ sealed_count h note.circ.0 + note.count
-  pub next : take (sealed_count h note.circ.0) (behind (circuit_log rules h note.circ.0)) ++ claimed_bodies rules h note
-      ≡ take (sealed_count h note.circ.0 + note.count) (behind (circuit_log rules h note.circ.0))
+  pub next : take (sealed_count h note.circ.0) (back_bodies (circuit_log rules h note.circ.0)) ++ claimed_bodies rules h note
+      ≡ take (sealed_count h note.circ.0 + note.count) (back_bodies (circuit_log rules h note.circ.0))

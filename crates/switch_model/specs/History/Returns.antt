@@ -5,7 +5,7 @@ use Rattle.std.specs.Prelude.{ℕ, ◌≡◌, ⊤, ◌+◌, ◌-◌, ◌&&◌, n
 use Rattle.circuit_model.specs.Events.{CircuitCell, Event}
 use Rattle.circuit_model.specs.Batches.{forward_of}
 use Rattle.circuit_model.specs.Rules.{Rules}
-use Rattle.circuit_model.specs.Packaged.{behind}
+use Rattle.circuit_model.specs.Packaged.{back_bodies}
 use Rattle.circuit_model.specs.Words.{log, closes, packages_back}
 use Rattle.tor_spec.specs.Reasons.{destroy_resource_limit}
 use Rattle.switch_model.specs.Limits.{held_limit}
@@ -13,7 +13,7 @@ use Rattle.switch_model.specs.Limits.{held_limit}
 -- The cells that the backward direction holds after these events, of which so many have left: the
 -- answer to the opening and all bodies that went back.
 abbrev pub held_back_after : Rules → List Event → ℕ → ℕ
-held_back_after rules events left = 1 + length (behind (log rules events)) - left
+held_back_after rules events left = 1 + length (back_bodies (log rules events)) - left
 
 -- Whether the direction takes no more.
 abbrev pub is_full_after : Rules → List Event → ℕ → Bool

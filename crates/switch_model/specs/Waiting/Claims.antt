@@ -1,7 +1,7 @@
 -- Claims: which directions are out, which bodies wait, and which direction a worker gets.
 use Rattle.std.specs.Prelude.{ℕ, ◌+◌, ◌-◌, ◌&&◌, nat_lt, nat_le, is_none, min, List, [], ◌∷◌, ◌++◌, length, Bool, if◌then◌else◌, Option, Some, None, replicate}
 use Rattle.std.specs.Option.{option_or}
-use Rattle.circuit_model.specs.Packaged.{behind}
+use Rattle.circuit_model.specs.Packaged.{back_bodies}
 use Rattle.circuit_model.specs.Rules.{Rules}
 use Rattle.tr_io.specs.declared.names.ClaimNote.{ClaimNote}
 use Rattle.tr_io.specs.declared.names.Dir.{Dir}
@@ -40,7 +40,7 @@ claim_out (s ∷ h) way = claim_out h way
 -- packaged and those of the next hop.
 abbrev pub bodies : Rules → List Step → Way → Dir → ℕ
 bodies rules h way Forth = length (taken_forth h way.circ)
-bodies rules h way Back = length (behind (circuit_log rules h way.circ))
+bodies rules h way Back = length (back_bodies (circuit_log rules h way.circ))
 
 -- The same for the direction itself.
 abbrev pub given_bodies : Rules → List Step → Way → ℕ

@@ -5,7 +5,7 @@ use Rattle.crypto_spec.specs.HopLayer.{OpeningLayer}
 use Rattle.circuit_model.specs.Events.{CircuitCell}
 use Rattle.circuit_model.specs.Log.{Log}
 use Rattle.circuit_model.specs.Opened.{born_keys, recognised_bodies}
-use Rattle.circuit_model.specs.Packaged.{behind}
+use Rattle.circuit_model.specs.Packaged.{back_bodies}
 use Rattle.circuit_model.specs.Rules.{Rules}
 use Rattle.tr_io.specs.declared.names.ClaimNote.{ClaimNote}
 use Rattle.tr_io.specs.declared.names.Dir.{Dir}
@@ -39,7 +39,7 @@ body_of cell = cell.body
 -- came from the next hop.
 abbrev pub bodies_in : Rules → List Step → ClaimNote → Dir → List (List ℕ)
 bodies_in rules h note Forth = map body_of (claimed_cells h note)
-bodies_in rules h note Back = take note.count (drop note.first (behind (circuit_log rules h note.circ.0)))
+bodies_in rules h note Back = take note.count (drop note.first (back_bodies (circuit_log rules h note.circ.0)))
 
 abbrev pub claimed_bodies : Rules → List Step → ClaimNote → List (List ℕ)
 claimed_bodies rules h note = bodies_in rules h note note.dir

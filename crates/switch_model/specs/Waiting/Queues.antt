@@ -4,7 +4,7 @@ use Rattle.circuit_model.specs.Events.{CircuitCell}
 use Rattle.circuit_model.specs.Log.{Log}
 use Rattle.circuit_model.specs.Opened.{forward_count}
 use Rattle.circuit_model.specs.Rules.{Rules}
-use Rattle.circuit_model.specs.Sent.{one}
+use Rattle.circuit_model.specs.Sent.{leg_cells}
 use Rattle.circuit_model.specs.Words.{log}
 use Rattle.tr_io.specs.declared.answers.BackAnswer.{BackAnswer}
 use Rattle.tr_io.specs.declared.names.Dir.{Dir}
@@ -32,8 +32,8 @@ sealed_count (s ∷ h) c = sealed_count h c
 -- What the one-thread relay sends on leg k, as far as it may leave where so many backward bodies are
 -- sealed: on leg 0 the answer to the opening and those bodies, on every other leg all.
 abbrev pub sendable : Log → ℕ → ℕ → List CircuitCell
-sendable relayed bodies zero = take (1 + bodies) (one relayed 0)
-sendable relayed bodies (suc k) = one relayed (suc k)
+sendable relayed bodies zero = take (1 + bodies) (leg_cells relayed 0)
+sendable relayed bodies (suc k) = leg_cells relayed (suc k)
 
 -- The cells that wait on leg k: those that may leave and weren't sent. None wait once the circuit is torn down
 -- or the leg has lost its CircID, by the peer's DESTROY or by the end of its channel.

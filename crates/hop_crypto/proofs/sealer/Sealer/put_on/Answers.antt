@@ -17,8 +17,8 @@ invariant_of-self c =
     let layer = c.self.invariant.layer in
     let place = c.self.invariant.state_is in
     record {
-      layer = record { key = layer.key; sealed = layer.sealed + 1 };
-      state_is = place_by_parts c.apply.new.self layer.key (layer.sealed + 1)
+      layer = record { key = layer.key; sealed_count = layer.sealed_count + 1 };
+      state_is = place_by_parts c.apply.new.self layer.key (layer.sealed_count + 1)
           (c.apply.ensures.key ∙ ap (λ (s : StreamPlace). s.key) place)
           (omega (arith, c.apply.ensures.position, ap (λ (s : StreamPlace). s.position) place));
     }

@@ -1,5 +1,5 @@
 use Rattle.std.proofs.Common.{◌≡◌, ◌+◌, ◌^◌, ◌<◌, Some, None, position, sym, subst}
-use Rattle.stream_edge.specs.declared.held.Held.{Held}
+use Rattle.stream_edge.specs.declared.placed_stream.PlacedStream.{PlacedStream}
 use Rattle.stream_edge.specs.Streams.{is_live_as}
 use Rattle.stream_edge.specs.PlacesState.{PlacesState, IsInStep, with_held}
 use Rattle.stream_edge.proofs.Stepping.{IsInStep-called, IsInStep-begun}
@@ -17,8 +17,8 @@ invariant_of-self-2 c =
     record { streams = c.self.inside.streams; next_serial = c.self.inside.next_serial; calls = c.self.inside.calls } in
     let id = c.args.id in
     let place = c.in_ok-place.place in
-    let next : Held → PlacesState = λ h. record (with_held here place (Some h)) { next_serial = here.next_serial + 1 } in
-    subst (λ (h : Held). IsInStep (next h)) (sym c.begun.ensures)
+    let next : PlacedStream → PlacesState = λ h. record (with_held here place (Some h)) { next_serial = here.next_serial + 1 } in
+    subst (λ (h : PlacedStream). IsInStep (next h)) (sym c.begun.ensures)
     (IsInStep-begun here place id c.self.invariant
     (subst (λ (s : PlacesState). s.calls < 2 ^ 63) (sym c.self.view_is) c.requires.calls)
     c.in_ok-place.ensures.within

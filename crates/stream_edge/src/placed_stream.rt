@@ -13,7 +13,7 @@ pub enum Phase {
 
 /// A stream that holds a place, with its counts of DATA cells and SENDMEs.
 #[derive(Clone, Copy, PartialEq, Eq, Debug)]
-pub struct Held {
+pub struct PlacedStream {
     pub stream: u16,
     /// Which of the circuit's accepted BEGINs it is, counted from 0.
     pub serial: u64,

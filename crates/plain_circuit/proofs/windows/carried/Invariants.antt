@@ -1,7 +1,0 @@
-use Rattle.std.proofs.Common.{◌≡◌, ◌≤◌, take}
-use Rattle.circuit_model.specs.Windows.{carried}
-use Rattle.plain_circuit.specs.Values.{log_of}
-use Rattle.plain_circuit.proofs.windows.carried.Given as goal
-
-abbrev pub invariant-loop-entry : goal.invariant-loop-entry
-invariant-loop-entry l = (l.count ≡ carried (log_of (take l.entry-index l.log)) l.serial) × (l.count ≤ l.entry-index)
