@@ -13,7 +13,8 @@ unfolding times_bits times inverse_from inverse sub_byte
 all_substituted = refl
 
 pub substituted : (b : ℕ) → b < 256 → get_or SUB_BYTES b 0 ≡ sub_byte b
-substituted b h = ap (λ (t : List ℕ). get_or t b 0) all_substituted ∙ get_or-map-range_with_len sub_byte 0 256 b b 0 h (omega arith)
+substituted b h =
+    ap (λ (t : List ℕ). get_or t b 0) all_substituted ∙ get_or-map-range_with_len sub_byte 0 256 b b 0 h (omega arith)
 
 all_powers : ROUND_CONSTANTS ≡ map power_of_x (range_with_len 0 10)
 unfolding power_of_x

@@ -21,12 +21,14 @@ to_le_bytes-xor x y =
 pub same_two : {A B C : Type 0} (f : A → B → C) (x p : A) (y q : B) → x ≡ p → y ≡ q → f x y ≡ f p q
 same_two f x p y q a b = cc
 
-pub same_four : {A B : Type 0} (f : A → A → A → A → B) (x y z w p q r s : A) → x ≡ p → y ≡ q → z ≡ r → w ≡ s → f x y z w ≡ f p q r s
+pub same_four : {A B : Type 0} (f : A → A → A → A → B) (x y z w p q r s : A) → x ≡ p → y ≡ q → z ≡ r → w ≡ s
+    → f x y z w ≡ f p q r s
 same_four f x y z w p q r s a b c d = cc
 
 -- four columns, each the sum of two words
 pub columns-xor : (a b c d p q r s : ℕ) →
-    to_le_bytes w32 (bit_xor a p) ++ to_le_bytes w32 (bit_xor b q) ++ to_le_bytes w32 (bit_xor c r) ++ to_le_bytes w32 (bit_xor d s)
+    to_le_bytes w32 (bit_xor a p) ++ to_le_bytes w32 (bit_xor b q) ++ to_le_bytes w32 (bit_xor c r)
+    ++ to_le_bytes w32 (bit_xor d s)
     ≡ add (to_le_bytes w32 a ++ to_le_bytes w32 b ++ to_le_bytes w32 c ++ to_le_bytes w32 d)
     (to_le_bytes w32 p ++ to_le_bytes w32 q ++ to_le_bytes w32 r ++ to_le_bytes w32 s)
 columns-xor a b c d p q r s =

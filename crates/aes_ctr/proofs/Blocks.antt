@@ -11,11 +11,13 @@ use Rattle.crypto_spec.specs.Keystream.{keystream, keystream_part}
 pub length-keystream_part : (key : List ℕ) (i n : ℕ) → length (keystream_part key i n) ≡ n
 length-keystream_part key i n = length-map-range_with_len (λ k. keystream key k) i n
 
-pub get_or-keystream_part : (key : List ℕ) (i n k j : ℕ) → k < n → i + k ≡ j → get_or (keystream_part key i n) k 0 ≡ keystream key j
+pub get_or-keystream_part : (key : List ℕ) (i n k j : ℕ) → k < n → i + k ≡ j
+    → get_or (keystream_part key i n) k 0 ≡ keystream key j
 get_or-keystream_part key i n k j h e = get_or-map-range_with_len (λ k. keystream key k) i n k j 0 h e
 
 -- byte k of block n
-keystream_in_block : (key : List ℕ) (n k i : ℕ) → k < 16 → 16 * n + k ≡ i → get_or (aes key (to_be_bytes w128 n)) k 0 ≡ keystream key i
+keystream_in_block : (key : List ℕ) (n k i : ℕ) → k < 16 → 16 * n + k ≡ i
+    → get_or (aes key (to_be_bytes w128 n)) k 0 ≡ keystream key i
 unfolding keystream
 keystream_in_block key n k i h e =
     let block : n ≡ i / 16 = omega arith in
@@ -58,7 +60,8 @@ between-keystream_part key i m k n j h e =
 pub take-keystream_part : (key : List ℕ) (i m n : ℕ) → n ≤ m → take n (keystream_part key i m) ≡ keystream_part key i n
 take-keystream_part key i m n h = take-map-range_with_len (λ k. keystream key k) i m n h
 
-pub drop-keystream_part : (key : List ℕ) (i m k n j : ℕ) → k + n ≡ m → i + k ≡ j → drop k (keystream_part key i m) ≡ keystream_part key j n
+pub drop-keystream_part : (key : List ℕ) (i m k n j : ℕ) → k + n ≡ m → i + k ≡ j
+    → drop k (keystream_part key i m) ≡ keystream_part key j n
 drop-keystream_part key i m k n j h e =
     let rest : length (drop k (keystream_part key i m)) ≤ n = simp (length-drop, length-keystream_part key i m) (omega arith) in
     sym (take_all n (drop k (keystream_part key i m)) rest) ∙ between-keystream_part key i m k n j (omega arith) e

@@ -40,7 +40,8 @@ xored old pad new long same each =
     (λ j h. each j h ∙ sym (get_or-zip2 bit_xor old pad j 0 0 0 (omega (arith, h)) (omega (arith, h))))
 
 -- a group that is moved to the front by so many bytes
-pub moved_group : (old store group : List ℕ) (n by k : ℕ) → k ≡ 128 → length store ≡ 1152 → 128 * n + 128 + by ≤ 1152 → length group ≡ 128 →
+pub moved_group : (old store group : List ℕ) (n by k : ℕ) → k ≡ 128 → length store ≡ 1152 → 128 * n + 128 + by ≤ 1152
+    → length group ≡ 128 →
     take (128 * n) store ≡ take (128 * n) (drop by old) → drop (128 * n) store ≡ drop (128 * n) old →
     group ≡ take 128 (drop (128 * n + by) store) →
     take (128 * (n + 1)) (put_mid (128 * n) k store group) ≡ take (128 * (n + 1)) (drop by old)
@@ -58,12 +59,14 @@ moved_group old store group n by k whole long fits group_long moved rest taken =
     ∙ ap (λ (m : ℕ). take m (drop by old)) next
 
 -- and what lies behind it stays
-pub behind_group : (old store group : List ℕ) (n k : ℕ) → k ≡ 128 → length store ≡ 1152 → 128 * n + 128 ≤ 1152 → length group ≡ 128 →
+pub behind_group : (old store group : List ℕ) (n k : ℕ) → k ≡ 128 → length store ≡ 1152 → 128 * n + 128 ≤ 1152
+    → length group ≡ 128 →
     drop (128 * n) store ≡ drop (128 * n) old →
     drop (128 * (n + 1)) (put_mid (128 * n) k store group) ≡ drop (128 * (n + 1)) old
 behind_group old store group n k whole long fits group_long rest =
     let next : 128 * n + 128 ≡ 128 * (n + 1) = omega arith in
-    drop-put_mid (128 * n) k store group (128 * (n + 1)) (omega (arith, whole)) (omega (arith, long, fits)) (group_long ∙ sym whole)
+    drop-put_mid (128 * n) k store group (128 * (n + 1)) (omega (arith, whole)) (omega (arith, long, fits))
+    (group_long ∙ sym whole)
     ∙ ap (λ (m : ℕ). drop m store) (sym next) ∙ sym (drop-drop 128 (128 * n) store) ∙ ap (drop 128) rest
     ∙ drop-drop 128 (128 * n) old ∙ ap (λ (m : ℕ). drop m old) next
 

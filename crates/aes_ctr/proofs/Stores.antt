@@ -7,14 +7,16 @@ use Rattle.aes_ctr.specs.StreamState.{IsStore}
 use Rattle.aes_ctr.proofs.Blocks.{take-keystream_part, drop-keystream_part, append-keystream_part}
 
 -- the first bytes of those that are made
-made : (key : List ℕ) (position : ℕ) (store : List ℕ) (used ready n k : ℕ) → IsStore key position store used ready → k ≡ n → used + n ≤ 1152 →
+made : (key : List ℕ) (position : ℕ) (store : List ℕ) (used ready n k : ℕ) → IsStore key position store used ready → k ≡ n
+    → used + n ≤ 1152 →
     take k (drop used store) ≡ keystream_part key position n
 made key position store used ready n k s e h =
     ap (λ (m : ℕ). take m (drop used store)) e ∙ ap (take n) s.next
     ∙ take-keystream_part key position (1152 - used) n (omega arith)
 
 -- a body's keystream is the first 509 bytes that are ready
-pub taken : (key : List ℕ) (position : ℕ) (store : List ℕ) (used ready : ℕ) → IsStore key position store used ready → 509 ≤ ready →
+pub taken : (key : List ℕ) (position : ℕ) (store : List ℕ) (used ready : ℕ) → IsStore key position store used ready → 509 ≤ ready
+    →
     take (used + 509 - used) (drop used store) ≡ keystream_part key position 509
 taken key position store used ready s h =
     let within = s.within in made key position store used ready 509 (used + 509 - used) s (omega arith) (omega (arith, within, h))
@@ -30,7 +32,8 @@ left key position store used ready s h =
       within = omega (arith, within, h);
       most = omega (arith, most);
       next = sym (drop-drop 509 used store) ∙ ap (drop 509) s.next
-          ∙ drop-keystream_part key position (1152 - used) 509 (1152 - (used + 509)) (position + 509) (omega (arith, within, h)) refl;
+          ∙ drop-keystream_part key position (1152 - used) 509 (1152 - (used + 509)) (position + 509) (omega (arith, within, h))
+          refl;
       whole = ap (λ (n : ℕ). n % 128) (omega (arith, within, h)) ∙ whole;
     }
 
@@ -41,12 +44,14 @@ all_ready key position store used ready s =
     made key position store used ready ready (used + ready - used) s (omega arith) s.within
 
 -- 1,024 bytes count as ready where as many are made
-pub counted : (key : List ℕ) (position : ℕ) (store : List ℕ) (used ready : ℕ) → IsStore key position store used ready → used + 1024 ≤ 1152 →
+pub counted : (key : List ℕ) (position : ℕ) (store : List ℕ) (used ready : ℕ) → IsStore key position store used ready
+    → used + 1024 ≤ 1152 →
     IsStore key position store used 1024
 counted key position store used ready s h = record { within = h; most = omega arith; next = s.next; whole = s.whole }
 
 -- a store whose bytes have moved to the front, with so many more behind them
-pub filled_up : (key : List ℕ) (position : ℕ) (old moved more : List ℕ) (used ready n k : ℕ) → IsStore key position old used ready →
+pub filled_up : (key : List ℕ) (position : ℕ) (old moved more : List ℕ) (used ready n k : ℕ) → IsStore key position old used ready
+    →
     length moved ≡ 1152 → n ≤ used → n % 128 ≡ 0 → used ≤ n + 128 → k ≡ n → take (1152 - n) moved ≡ drop n old →
     length old ≡ 1152 →
     more ≡ keystream_part key (16 * ((position + (1152 - used)) / 16)) n →
@@ -55,8 +60,10 @@ filled_up key position old moved more used ready n k s long fits groups enough e
     let within = s.within in
     let whole = s.whole in
     let place : 16 * ((position + (1152 - used)) / 16) ≡ position + (1152 - used) = omega (arith, whole) in
-    let end : drop k (drop (1152 - n) moved) ≡ [] = drop-drop k (1152 - n) moved ∙ drop_all (1152 - n + k) moved (omega (arith, long, e, fits, within)) in
-    let behind : drop (used - n) (drop n old) ≡ drop used old = drop-drop (used - n) n old ∙ ap (λ (m : ℕ). drop m old) (omega (arith, fits)) in
+    let end : drop k (drop (1152 - n) moved) ≡ [] =
+    drop-drop k (1152 - n) moved ∙ drop_all (1152 - n + k) moved (omega (arith, long, e, fits, within)) in
+    let behind : drop (used - n) (drop n old) ≡ drop used old =
+    drop-drop (used - n) n old ∙ ap (λ (m : ℕ). drop m old) (omega (arith, fits)) in
     let reach : used - n ≤ length (drop n old) = simp length-drop (omega (arith, old_long, fits, within)) in
     record {
       within = omega (arith, fits, within, enough);

@@ -40,7 +40,8 @@ pub IsRow-turned : (row : List ℕ) → length row ≡ 16 → Each1 (Fits w8) ro
 IsRow-turned row long fits = record {
   long = refl;
   lanes = long;
-  small = λ i h. subst (λ (n : ℕ). n < 256) (sym (turned_row_at row i long h)) (lane-lt row (lane_of i) long fits (lane_of-lt i h));
+  small = λ i h. subst (λ (n : ℕ). n < 256) (sym (turned_row_at row i long h))
+      (lane-lt row (lane_of i) long fits (lane_of-lt i h));
   bytes = λ i h. sym (turned_row_at row i long h);
 }
 
@@ -53,7 +54,8 @@ row_sliced x row s b r turned =
       long = r.long;
       small = r.small;
       bytes = λ i h. let inside = lane_of-lt i h in record {
-        bits = λ p l. turned (lane_of i) p _ inside l (record { within = omega (arith, inside, lanes); bit = ap (λ (n : ℕ). bit_at n p) (r.bytes i h) });
+        bits = λ p l. turned (lane_of i) p _ inside l
+            (record { within = omega (arith, inside, lanes); bit = ap (λ (n : ℕ). bit_at n p) (r.bytes i h) });
       };
     }
 

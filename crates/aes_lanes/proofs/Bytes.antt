@@ -20,4 +20,5 @@ unfolding times_bits times
 doubled_everywhere = refl
 
 pub doubled_bit : (v p : ℕ) → v < 256 → get_or (doubled_bits v) p 0 ≡ get_or (bits_of (times 2 v)) p 0
-doubled_bit v p h = ap (λ (bits : List ℕ). get_or bits p 0) (at_each_byte doubled_bits (λ v. bits_of (times 2 v)) doubled_everywhere v h)
+doubled_bit v p h =
+    ap (λ (bits : List ℕ). get_or bits p 0) (at_each_byte doubled_bits (λ v. bits_of (times 2 v)) doubled_everywhere v h)

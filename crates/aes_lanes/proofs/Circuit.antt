@@ -48,7 +48,8 @@ abbrev xor_bits : ℕ → ℕ → ℕ
 xor_bits m n = (m + n) % 2
 
 -- if vectors and bits agree before, they agree after
-after_run : (i b : ℕ) (gates : List Gate) (xs : List (List ℕ)) (vs : List ℕ) (x : List ℕ) (v : ℕ) → IsBit x i b v → Agree i b xs vs →
+after_run : (i b : ℕ) (gates : List Gate) (xs : List (List ℕ)) (vs : List ℕ) (x : List ℕ) (v : ℕ) → IsBit x i b v
+    → Agree i b xs vs →
     Agree i b (run (zip2 bit_xor) (zip2 bit_and) (zip2 bit_or) x gates xs) (run xor_bits min max v gates vs)
 unfolding run Agree
 after_run i b [] xs vs x v d e = e
@@ -94,14 +95,18 @@ results none wires =
     get_or wires 4 none ∷ get_or wires 9 none ∷ get_or wires 3 none ∷ get_or wires 6 none
     ∷ get_or wires 18 none ∷ get_or wires 0 none ∷ get_or wires 2 none ∷ get_or wires 7 none ∷ []
 
-bits_everywhere : map (λ v. results (bit_at v 0) (run xor_bits min max (bit_at v 0) gates (bits_of v))) (range_with_len 0 256) ≡ map (λ v. bits_of (circuit_byte v)) (range_with_len 0 256)
+bits_everywhere : map (λ v. results (bit_at v 0) (run xor_bits min max (bit_at v 0) gates (bits_of v))) (range_with_len 0 256)
+    ≡ map (λ v. bits_of (circuit_byte v)) (range_with_len 0 256)
 unfolding run times_bits times inverse_from inverse sub_byte
 bits_everywhere = refl
 
-result_bit : (v p : ℕ) → v < 256 → get_or (results (bit_at v 0) (run xor_bits min max (bit_at v 0) gates (bits_of v))) p (bit_at v 0) ≡ get_or (bits_of (circuit_byte v)) p (bit_at v 0)
+result_bit : (v p : ℕ) → v < 256
+    → get_or (results (bit_at v 0) (run xor_bits min max (bit_at v 0) gates (bits_of v))) p (bit_at v 0)
+    ≡ get_or (bits_of (circuit_byte v)) p (bit_at v 0)
 result_bit v p h =
     ap (λ (bits : List ℕ). get_or bits p (bit_at v 0))
-    (at_each_byte (λ v. results (bit_at v 0) (run xor_bits min max (bit_at v 0) gates (bits_of v))) (λ v. bits_of (circuit_byte v)) bits_everywhere v h)
+    (at_each_byte (λ v. results (bit_at v 0) (run xor_bits min max (bit_at v 0) gates (bits_of v)))
+    (λ v. bits_of (circuit_byte v)) bits_everywhere v h)
 
 planes_agree : (x : Planes) (i b v : ℕ) → IsByte x i b v → Agree i b (planes_in x) (bits_of v)
 unfolding Agree
@@ -121,39 +126,49 @@ planes_agree x i b v e = (
 
 -- a wire of the circuit on planes
 wire_out : (x : Planes) (i b v m : ℕ) → IsByte x i b v →
-    IsBit (get_or (run (zip2 bit_xor) (zip2 bit_and) (zip2 bit_or) x.bit0 gates (planes_in x)) m x.bit0) i b (get_or (run xor_bits min max (bit_at v 0) gates (bits_of v)) m (bit_at v 0))
+    IsBit (get_or (run (zip2 bit_xor) (zip2 bit_and) (zip2 bit_or) x.bit0 gates (planes_in x)) m x.bit0) i b
+    (get_or (run xor_bits min max (bit_at v 0) gates (bits_of v)) m (bit_at v 0))
 wire_out x i b v m e =
-    at_wire i b (run (zip2 bit_xor) (zip2 bit_and) (zip2 bit_or) x.bit0 gates (planes_in x)) (run xor_bits min max (bit_at v 0) gates (bits_of v)) x.bit0 (bit_at v 0) m (e.bits 0 (lit< tt))
+    at_wire i b (run (zip2 bit_xor) (zip2 bit_and) (zip2 bit_or) x.bit0 gates (planes_in x))
+    (run xor_bits min max (bit_at v 0) gates (bits_of v)) x.bit0 (bit_at v 0) m (e.bits 0 (lit< tt))
     (after_run i b gates (planes_in x) (bits_of v) x.bit0 (bit_at v 0) (e.bits 0 (lit< tt)) (planes_agree x i b v e))
 
 pub substituted_bit0 : (x : Planes) (i b v : ℕ) → v < 256 → IsByte x i b v →
-    IsBit (get_or (run (zip2 bit_xor) (zip2 bit_and) (zip2 bit_or) x.bit0 gates (planes_in x)) 4 x.bit0) i b (bit_at (circuit_byte v) 0)
+    IsBit (get_or (run (zip2 bit_xor) (zip2 bit_and) (zip2 bit_or) x.bit0 gates (planes_in x)) 4 x.bit0) i b
+    (bit_at (circuit_byte v) 0)
 substituted_bit0 x i b v s e = IsBit-value (wire_out x i b v 4 e) (result_bit v 0 s)
 
 pub substituted_bit1 : (x : Planes) (i b v : ℕ) → v < 256 → IsByte x i b v →
-    IsBit (get_or (run (zip2 bit_xor) (zip2 bit_and) (zip2 bit_or) x.bit0 gates (planes_in x)) 9 x.bit0) i b (bit_at (circuit_byte v) 1)
+    IsBit (get_or (run (zip2 bit_xor) (zip2 bit_and) (zip2 bit_or) x.bit0 gates (planes_in x)) 9 x.bit0) i b
+    (bit_at (circuit_byte v) 1)
 substituted_bit1 x i b v s e = IsBit-value (wire_out x i b v 9 e) (result_bit v 1 s)
 
 pub substituted_bit2 : (x : Planes) (i b v : ℕ) → v < 256 → IsByte x i b v →
-    IsBit (get_or (run (zip2 bit_xor) (zip2 bit_and) (zip2 bit_or) x.bit0 gates (planes_in x)) 3 x.bit0) i b (bit_at (circuit_byte v) 2)
+    IsBit (get_or (run (zip2 bit_xor) (zip2 bit_and) (zip2 bit_or) x.bit0 gates (planes_in x)) 3 x.bit0) i b
+    (bit_at (circuit_byte v) 2)
 substituted_bit2 x i b v s e = IsBit-value (wire_out x i b v 3 e) (result_bit v 2 s)
 
 pub substituted_bit3 : (x : Planes) (i b v : ℕ) → v < 256 → IsByte x i b v →
-    IsBit (get_or (run (zip2 bit_xor) (zip2 bit_and) (zip2 bit_or) x.bit0 gates (planes_in x)) 6 x.bit0) i b (bit_at (circuit_byte v) 3)
+    IsBit (get_or (run (zip2 bit_xor) (zip2 bit_and) (zip2 bit_or) x.bit0 gates (planes_in x)) 6 x.bit0) i b
+    (bit_at (circuit_byte v) 3)
 substituted_bit3 x i b v s e = IsBit-value (wire_out x i b v 6 e) (result_bit v 3 s)
 
 pub substituted_bit4 : (x : Planes) (i b v : ℕ) → v < 256 → IsByte x i b v →
-    IsBit (get_or (run (zip2 bit_xor) (zip2 bit_and) (zip2 bit_or) x.bit0 gates (planes_in x)) 18 x.bit0) i b (bit_at (circuit_byte v) 4)
+    IsBit (get_or (run (zip2 bit_xor) (zip2 bit_and) (zip2 bit_or) x.bit0 gates (planes_in x)) 18 x.bit0) i b
+    (bit_at (circuit_byte v) 4)
 substituted_bit4 x i b v s e = IsBit-value (wire_out x i b v 18 e) (result_bit v 4 s)
 
 pub substituted_bit5 : (x : Planes) (i b v : ℕ) → v < 256 → IsByte x i b v →
-    IsBit (get_or (run (zip2 bit_xor) (zip2 bit_and) (zip2 bit_or) x.bit0 gates (planes_in x)) 0 x.bit0) i b (bit_at (circuit_byte v) 5)
+    IsBit (get_or (run (zip2 bit_xor) (zip2 bit_and) (zip2 bit_or) x.bit0 gates (planes_in x)) 0 x.bit0) i b
+    (bit_at (circuit_byte v) 5)
 substituted_bit5 x i b v s e = IsBit-value (wire_out x i b v 0 e) (result_bit v 5 s)
 
 pub substituted_bit6 : (x : Planes) (i b v : ℕ) → v < 256 → IsByte x i b v →
-    IsBit (get_or (run (zip2 bit_xor) (zip2 bit_and) (zip2 bit_or) x.bit0 gates (planes_in x)) 2 x.bit0) i b (bit_at (circuit_byte v) 6)
+    IsBit (get_or (run (zip2 bit_xor) (zip2 bit_and) (zip2 bit_or) x.bit0 gates (planes_in x)) 2 x.bit0) i b
+    (bit_at (circuit_byte v) 6)
 substituted_bit6 x i b v s e = IsBit-value (wire_out x i b v 2 e) (result_bit v 6 s)
 
 pub substituted_bit7 : (x : Planes) (i b v : ℕ) → v < 256 → IsByte x i b v →
-    IsBit (get_or (run (zip2 bit_xor) (zip2 bit_and) (zip2 bit_or) x.bit0 gates (planes_in x)) 7 x.bit0) i b (bit_at (circuit_byte v) 7)
+    IsBit (get_or (run (zip2 bit_xor) (zip2 bit_and) (zip2 bit_or) x.bit0 gates (planes_in x)) 7 x.bit0) i b
+    (bit_at (circuit_byte v) 7)
 substituted_bit7 x i b v s e = IsBit-value (wire_out x i b v 7 e) (result_bit v 7 s)

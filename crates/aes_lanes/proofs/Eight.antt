@@ -14,7 +14,8 @@ below_eight P a b c d e f g h (suc (suc (suc (suc (suc (suc zero)))))) l = g
 below_eight P a b c d e f g h (suc (suc (suc (suc (suc (suc (suc zero))))))) l = h
 below_eight P a b c d e f g h (suc (suc (suc (suc (suc (suc (suc (suc n)))))))) l = absurd (omega arith)
 
-pub below_sixteen : (P : ℕ → Type 0) → P 0 → P 1 → P 2 → P 3 → P 4 → P 5 → P 6 → P 7 → P 8 → P 9 → P 10 → P 11 → P 12 → P 13 → P 14 → P 15 →
+pub below_sixteen : (P : ℕ → Type 0) → P 0 → P 1 → P 2 → P 3 → P 4 → P 5 → P 6 → P 7 → P 8 → P 9 → P 10 → P 11 → P 12 → P 13
+    → P 14 → P 15 →
     (k : ℕ) → k < 16 → P k
 below_sixteen P a b c d e f g h a' b' c' d' e' f' g' h' zero l = a
 below_sixteen P a b c d e f g h a' b' c' d' e' f' g' h' (suc zero) l = b

@@ -10,7 +10,8 @@ use Rattle.aes_lanes.proofs.Eight.{below_eight}
 use Rattle.aes_lanes.proofs.Lanes.{IsLane, IsLane-zip2, IsLane-splat, IsBit-lane}
 
 -- sums of bits
-twice_added : (r a s t x c b m : ℕ) → r ≡ (a + s) % 2 → s ≡ t → t ≡ min x m → x ≡ (c + b) % 2 → c ≡ a → m ≡ 1 → a < 2 → b < 2 → r ≡ b
+twice_added : (r a s t x c b m : ℕ) → r ≡ (a + s) % 2 → s ≡ t → t ≡ min x m → x ≡ (c + b) % 2 → c ≡ a → m ≡ 1 → a < 2 → b < 2
+    → r ≡ b
 twice_added r a s t x c b m p q e f g h i j = omega arith
 
 nothing_added : (r a s t x m : ℕ) → r ≡ (a + s) % 2 → s ≡ t → t ≡ min x m → m ≡ 0 → a < 2 → r ≡ a
@@ -23,7 +24,8 @@ first_taken a b c s m k j up down mask =
     twice_added _ (bit_at a k) (bit_at s k) _ (bit_at (bit_xor c b) j) (bit_at c j) (bit_at b j) (bit_at m j)
     (bit_at_xor a s k) up (bit_at_and (bit_xor c b) m j) (bit_at_xor c b j) down mask (bit_at-lt a k) (bit_at-lt b j)
 
-first_kept : (a b c s m k j : ℕ) → bit_at s k ≡ bit_at (bit_and (bit_xor c b) m) j → bit_at m j ≡ 0 → bit_at (bit_xor a s) k ≡ bit_at a k
+first_kept : (a b c s m k j : ℕ) → bit_at s k ≡ bit_at (bit_and (bit_xor c b) m) j → bit_at m j ≡ 0
+    → bit_at (bit_xor a s) k ≡ bit_at a k
 first_kept a b c s m k j up mask =
     nothing_added _ (bit_at a k) (bit_at s k) _ (bit_at (bit_xor c b) j) (bit_at m j)
     (bit_at_xor a s k) up (bit_at_and (bit_xor c b) m j) mask (bit_at-lt a k)
@@ -34,10 +36,12 @@ first_lowest a s k none = nothing_added _ (bit_at a k) (bit_at s k) 0 0 0 (bit_a
 turned : (b c k : ℕ) → bit_at (bit_xor c b) k ≡ bit_at (bit_xor b c) k
 turned b c k = ap (λ (n : ℕ). bit_at n k) (xor_comm c b)
 
-second_taken : (a b c m k j : ℕ) → bit_at c k ≡ bit_at a j → bit_at m k ≡ 1 → bit_at (bit_xor b (bit_and (bit_xor c b) m)) k ≡ bit_at a j
+second_taken : (a b c m k j : ℕ) → bit_at c k ≡ bit_at a j → bit_at m k ≡ 1
+    → bit_at (bit_xor b (bit_and (bit_xor c b) m)) k ≡ bit_at a j
 second_taken a b c m k j down mask =
     twice_added _ (bit_at b k) _ _ (bit_at (bit_xor b c) k) (bit_at b k) (bit_at a j) (bit_at m k)
-    (bit_at_xor b (bit_and (bit_xor c b) m) k) refl (bit_at_and (bit_xor c b) m k ∙ ap (λ (n : ℕ). min n (bit_at m k)) (turned b c k))
+    (bit_at_xor b (bit_and (bit_xor c b) m) k) refl
+    (bit_at_and (bit_xor c b) m k ∙ ap (λ (n : ℕ). min n (bit_at m k)) (turned b c k))
     (bit_at_xor b c k ∙ ap (λ (n : ℕ). (bit_at b k + n) % 2) down) refl mask (bit_at-lt b k) (bit_at-lt a j)
 
 second_kept : (b c m k : ℕ) → bit_at m k ≡ 0 → bit_at (bit_xor b (bit_and (bit_xor c b) m)) k ≡ bit_at b k
@@ -56,11 +60,13 @@ first_of_bits x y = zip2 bit_xor x (zip2 (λ a n. a * 2 ^ n % 2 ^ 8) (mixed_bits
 abbrev pub second_of_bits : List ℕ → List ℕ → List ℕ
 second_of_bits x y = zip2 bit_xor y (mixed_bits x y)
 
-mixed_bits_lane : (x y : List ℕ) (i a b : ℕ) → i < 16 → IsLane x i a → IsLane y i b → IsLane (mixed_bits x y) i (bit_and (bit_xor (a / 2) b) 85)
+mixed_bits_lane : (x y : List ℕ) (i a b : ℕ) → i < 16 → IsLane x i a → IsLane y i b
+    → IsLane (mixed_bits x y) i (bit_and (bit_xor (a / 2) b) 85)
 mixed_bits_lane x y i a b h p q =
     IsLane-zip2 bit_and (IsLane-zip2 bit_xor (IsLane-zip2 (λ a n. a / 2 ^ n) p (IsLane-splat i 1 h)) q) (IsLane-splat i 85 h)
 
-first_bits_lane : (x y : List ℕ) (i a b : ℕ) → i < 16 → IsLane x i a → IsLane y i b → IsLane (first_of_bits x y) i (bit_xor a (bit_and (bit_xor (a / 2) b) 85 * 2 % 256))
+first_bits_lane : (x y : List ℕ) (i a b : ℕ) → i < 16 → IsLane x i a → IsLane y i b
+    → IsLane (first_of_bits x y) i (bit_xor a (bit_and (bit_xor (a / 2) b) 85 * 2 % 256))
 first_bits_lane x y i a b h p q =
     IsLane-zip2 bit_xor p (IsLane-zip2 (λ a n. a * 2 ^ n % 2 ^ 8) (mixed_bits_lane x y i a b h p q) (IsLane-splat i 1 h))
 
@@ -113,11 +119,13 @@ first_of_pairs x y = zip2 bit_xor x (zip2 (λ a n. a * 2 ^ n % 2 ^ 8) (mixed_pai
 abbrev pub second_of_pairs : List ℕ → List ℕ → List ℕ
 second_of_pairs x y = zip2 bit_xor y (mixed_pairs x y)
 
-mixed_pairs_lane : (x y : List ℕ) (i a b : ℕ) → i < 16 → IsLane x i a → IsLane y i b → IsLane (mixed_pairs x y) i (bit_and (bit_xor (a / 4) b) 51)
+mixed_pairs_lane : (x y : List ℕ) (i a b : ℕ) → i < 16 → IsLane x i a → IsLane y i b
+    → IsLane (mixed_pairs x y) i (bit_and (bit_xor (a / 4) b) 51)
 mixed_pairs_lane x y i a b h p q =
     IsLane-zip2 bit_and (IsLane-zip2 bit_xor (IsLane-zip2 (λ a n. a / 2 ^ n) p (IsLane-splat i 2 h)) q) (IsLane-splat i 51 h)
 
-first_pairs_lane : (x y : List ℕ) (i a b : ℕ) → i < 16 → IsLane x i a → IsLane y i b → IsLane (first_of_pairs x y) i (bit_xor a (bit_and (bit_xor (a / 4) b) 51 * 4 % 256))
+first_pairs_lane : (x y : List ℕ) (i a b : ℕ) → i < 16 → IsLane x i a → IsLane y i b
+    → IsLane (first_of_pairs x y) i (bit_xor a (bit_and (bit_xor (a / 4) b) 51 * 4 % 256))
 first_pairs_lane x y i a b h p q =
     IsLane-zip2 bit_xor p (IsLane-zip2 (λ a n. a * 2 ^ n % 2 ^ 8) (mixed_pairs_lane x y i a b h p q) (IsLane-splat i 2 h))
 
@@ -170,11 +178,13 @@ first_of_halves x y = zip2 bit_xor x (zip2 (λ a n. a * 2 ^ n % 2 ^ 8) (mixed_ha
 abbrev pub second_of_halves : List ℕ → List ℕ → List ℕ
 second_of_halves x y = zip2 bit_xor y (mixed_halves x y)
 
-mixed_halves_lane : (x y : List ℕ) (i a b : ℕ) → i < 16 → IsLane x i a → IsLane y i b → IsLane (mixed_halves x y) i (bit_and (bit_xor (a / 16) b) 15)
+mixed_halves_lane : (x y : List ℕ) (i a b : ℕ) → i < 16 → IsLane x i a → IsLane y i b
+    → IsLane (mixed_halves x y) i (bit_and (bit_xor (a / 16) b) 15)
 mixed_halves_lane x y i a b h p q =
     IsLane-zip2 bit_and (IsLane-zip2 bit_xor (IsLane-zip2 (λ a n. a / 2 ^ n) p (IsLane-splat i 4 h)) q) (IsLane-splat i 15 h)
 
-first_halves_lane : (x y : List ℕ) (i a b : ℕ) → i < 16 → IsLane x i a → IsLane y i b → IsLane (first_of_halves x y) i (bit_xor a (bit_and (bit_xor (a / 16) b) 15 * 16 % 256))
+first_halves_lane : (x y : List ℕ) (i a b : ℕ) → i < 16 → IsLane x i a → IsLane y i b
+    → IsLane (first_of_halves x y) i (bit_xor a (bit_and (bit_xor (a / 16) b) 15 * 16 % 256))
 first_halves_lane x y i a b h p q =
     IsLane-zip2 bit_xor p (IsLane-zip2 (λ a n. a * 2 ^ n % 2 ^ 8) (mixed_halves_lane x y i a b h p q) (IsLane-splat i 4 h))
 

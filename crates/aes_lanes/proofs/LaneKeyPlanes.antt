@@ -10,7 +10,8 @@ use Rattle.aes_lanes.specs.declared.planes.Planes.{Planes}
 use Rattle.aes_lanes.proofs.LanePlaces.{lane_of-lt}
 use Rattle.aes_lanes.proofs.Masks.{length-masked, masked-lt, masked_at}
 
-pub IsState-of_row : (x : Planes) (row k : List ℕ) (b : ℕ) → IsRow row k → ((l : ℕ) → l < 16 → IsByte x l b (get_or row l 0)) → IsState x b k
+pub IsState-of_row : (x : Planes) (row k : List ℕ) (b : ℕ) → IsRow row k → ((l : ℕ) → l < 16 → IsByte x l b (get_or row l 0))
+    → IsState x b k
 IsState-of_row x row k b r each = record {
   long = r.long;
   small = r.small;

@@ -10,14 +10,16 @@ use Rattle.aes_lanes.proofs.Lanes.{IsBit-at}
 chosen_first : (x : Planes) (n j k s i v : ℕ) → s < 2 → IsBit (plane x (j + n * s - n * 0)) i (k + n * 0 - n * s) v →
     IsBit (one_of s (plane x j) (plane x (j + n))) i (k - n * s) v
 chosen_first x n j k s i v h e =
-    below_two (λ s. IsBit (plane x (j + n * s - n * 0)) i (k + n * 0 - n * s) v → IsBit (one_of s (plane x j) (plane x (j + n))) i (k - n * s) v)
+    below_two (λ s. IsBit (plane x (j + n * s - n * 0)) i (k + n * 0 - n * s) v
+    → IsBit (one_of s (plane x j) (plane x (j + n))) i (k - n * s) v)
     (λ e. IsBit-at (ap (plane x) (omega arith)) (omega arith) e)
     (λ e. IsBit-at (ap (plane x) (omega arith)) (omega arith) e) s h e
 
 chosen_second : (x : Planes) (n j k s i v : ℕ) → s < 2 → IsBit (plane x (j + n + n * s - n * 1)) i (k + n * 1 - n * s) v →
     IsBit (one_of s (plane x j) (plane x (j + n))) i (k + n - n * s) v
 chosen_second x n j k s i v h e =
-    below_two (λ s. IsBit (plane x (j + n + n * s - n * 1)) i (k + n * 1 - n * s) v → IsBit (one_of s (plane x j) (plane x (j + n))) i (k + n - n * s) v)
+    below_two (λ s. IsBit (plane x (j + n + n * s - n * 1)) i (k + n * 1 - n * s) v
+    → IsBit (one_of s (plane x j) (plane x (j + n))) i (k + n - n * s) v)
     (λ e. IsBit-at (ap (plane x) (omega arith)) (omega arith) e)
     (λ e. IsBit-at (ap (plane x) (omega arith)) (omega arith) e) s h e
 
@@ -38,7 +40,8 @@ exchanged_2_below j k h l = omega arith
 
 -- all three bits of j taken from k
 abbrev pub all_exchanged : ℕ → ℕ → ℕ
-all_exchanged j k = exchanged 1 (exchanged 2 (exchanged 4 j k) (exchanged 4 k j)) (exchanged 2 (exchanged 4 k j) (exchanged 4 j k))
+all_exchanged j k =
+    exchanged 1 (exchanged 2 (exchanged 4 j k) (exchanged 4 k j)) (exchanged 2 (exchanged 4 k j) (exchanged 4 j k))
 
 pub all_exchanged_is : (j k : ℕ) → j < 8 → k < 8 → all_exchanged j k ≡ k
 all_exchanged_is j k h l =

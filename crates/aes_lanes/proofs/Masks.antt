@@ -26,7 +26,8 @@ masked_is s i h = sym (get_or-map mask s i 0 0 h)
 pub masked_at : (s : List ℕ) (i : ℕ) {v : ℕ} → i < length s → v ≡ get_or s i 0 → bit_xor v 0x63 ≡ get_or (masked s) i 0
 masked_at s i h e = ap mask e ∙ masked_is s i h
 
-pub masked-lt : (s : List ℕ) (i : ℕ) → length s ≡ 16 → ((i : ℕ) → i < 16 → get_or s i 0 < 256) → i < 16 → get_or (masked s) i 0 < 256
+pub masked-lt : (s : List ℕ) (i : ℕ) → length s ≡ 16 → ((i : ℕ) → i < 16 → get_or s i 0 < 256) → i < 16
+    → get_or (masked s) i 0 < 256
 masked-lt s i long small h =
     subst (λ (n : ℕ). n < 256) (masked_is s i (omega arith)) (xor_of_8 _ 0x63 (small i h) (lit< tt))
 
@@ -64,7 +65,8 @@ kept_byte x y z w =
     ∙ ap (bit_xor (bit_xor twice y)) (xor_comm 0x63 rest)
     ∙ sym (xor_assoc (bit_xor twice y) rest 0x63)
 
-pub mixed_masked : (s : List ℕ) → length s ≡ 16 → ((i : ℕ) → i < 16 → get_or s i 0 < 256) → mix_columns (masked s) ≡ masked (mix_columns s)
+pub mixed_masked : (s : List ℕ) → length s ≡ 16 → ((i : ℕ) → i < 16 → get_or s i 0 < 256)
+    → mix_columns (masked s) ≡ masked (mix_columns s)
 mixed_masked s long small =
     let at = λ (i : ℕ) (h : i < 16). sym (masked_is s i (omega (arith, h, long))) in
     same_number_lists (mix_columns (masked s)) (masked (mix_columns s)) refl

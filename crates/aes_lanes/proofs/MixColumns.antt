@@ -109,11 +109,14 @@ row_three a b c d h l =
 
 -- MixColumns at each place of a state
 pub mixed_at : (s : List ℕ) → ((i : ℕ) → i < 16 → get_or s i 0 < 256) → (i : ℕ) → i < 16 →
-    mixed_byte (get_or s i 0) (get_or s (row_below i) 0) (get_or s (two_rows_below i) 0) (get_or s (row_below (two_rows_below i)) 0)
+    mixed_byte (get_or s i 0) (get_or s (row_below i) 0) (get_or s (two_rows_below i) 0)
+    (get_or s (row_below (two_rows_below i)) 0)
     ≡ get_or (mix_columns s) i 0
 mixed_at s small =
     let at = λ (i : ℕ). get_or s i 0 in
-    below_sixteen (λ i. mixed_byte (get_or s i 0) (get_or s (row_below i) 0) (get_or s (two_rows_below i) 0) (get_or s (row_below (two_rows_below i)) 0)
+    below_sixteen
+    (λ i. mixed_byte (get_or s i 0) (get_or s (row_below i) 0) (get_or s (two_rows_below i) 0)
+    (get_or s (row_below (two_rows_below i)) 0)
     ≡ get_or (mix_columns s) i 0)
     (row_zero (at 0) (at 1) (at 2) (at 3) (small 0 (lit< tt)) (small 1 (lit< tt)))
     (row_one (at 0) (at 1) (at 2) (at 3) (small 1 (lit< tt)) (small 2 (lit< tt)))

@@ -17,7 +17,8 @@ use Rattle.aes_lanes.proofs.Lanes.{IsBit-xor, IsBit-value}
 abbrev pub last_bit : ℕ → ℕ → ℕ → ℕ
 last_bit bits l b = cond (nat_eq l 15) (bit_at bits b) 0
 
-pub last_lane_bit : (bits l b : ℕ) → l < 16 → IsBit (0 ∷ 0 ∷ 0 ∷ 0 ∷ 0 ∷ 0 ∷ 0 ∷ 0 ∷ 0 ∷ 0 ∷ 0 ∷ 0 ∷ 0 ∷ 0 ∷ 0 ∷ bits ∷ []) l b (last_bit bits l b)
+pub last_lane_bit : (bits l b : ℕ) → l < 16
+    → IsBit (0 ∷ 0 ∷ 0 ∷ 0 ∷ 0 ∷ 0 ∷ 0 ∷ 0 ∷ 0 ∷ 0 ∷ 0 ∷ 0 ∷ 0 ∷ 0 ∷ 0 ∷ bits ∷ []) l b (last_bit bits l b)
 last_lane_bit bits l b h =
     below_sixteen (λ l. IsBit (0 ∷ 0 ∷ 0 ∷ 0 ∷ 0 ∷ 0 ∷ 0 ∷ 0 ∷ 0 ∷ 0 ∷ 0 ∷ 0 ∷ 0 ∷ 0 ∷ 0 ∷ bits ∷ []) l b (last_bit bits l b))
     (record { within = lit< tt; bit = bit_at-zero b })
@@ -160,7 +161,8 @@ count_at first b i small eighth h =
 
 small_byte : (n i : ℕ) → i < 16 → get_or (to_be_bytes w128 n) i 0 < 256
 small_byte n = below_sixteen (λ i. get_or (to_be_bytes w128 n) i 0 < 256)
-    (omega arith) (omega arith) (omega arith) (omega arith) (omega arith) (omega arith) (omega arith) (omega arith) (omega arith) (omega arith) (omega arith) (omega arith) (omega arith) (omega arith) (omega arith) (omega arith)
+    (omega arith) (omega arith) (omega arith) (omega arith) (omega arith) (omega arith) (omega arith) (omega arith) (omega arith)
+    (omega arith) (omega arith) (omega arith) (omega arith) (omega arith) (omega arith) (omega arith)
 
 -- a number without its lowest bytes
 unfoldable pub without_bytes : ℕ → ℕ → ℕ
@@ -171,7 +173,8 @@ byte_over : (k n : ℕ) → without_bytes (suc k) n ≡ n / 256 ^ suc k
 unfolding without_bytes
 byte_over zero n = refl
 byte_over (suc k) n =
-    ap (λ (m : ℕ). m / 256) (byte_over k n) ∙ div-div-eq-div-mul n (256 ^ suc k) 256 ∙ ap (λ (m : ℕ). n / m) (sym (pow-suc 256 (suc k)))
+    ap (λ (m : ℕ). m / 256) (byte_over k n) ∙ div-div-eq-div-mul n (256 ^ suc k) 256
+    ∙ ap (λ (m : ℕ). n / m) (sym (pow-suc 256 (suc k)))
 
 byte_at : (x n k : ℕ) → x ≡ n → without_bytes (suc k) x % 256 ≡ n / 256 ^ suc k % 256
 byte_at x n k e = ap (λ (m : ℕ). without_bytes (suc k) m % 256) e ∙ ap (λ (m : ℕ). m % 256) (byte_over k n)

@@ -30,7 +30,8 @@ moved_at s i long h =
     sym (get_or-map-range_with_len (λ k. get_or (sub_bytes s) (moved_to k) 0) 0 16 i i 0 h (omega arith)
     ∙ get_or-map sub_byte s (moved_to i) 0 0 inside)
 
-pub moved-lt : (s : List ℕ) → length s ≡ 16 → ((i : ℕ) → i < 16 → get_or s i 0 < 256) → (i : ℕ) → i < 16 → get_or (moved s) i 0 < 256
+pub moved-lt : (s : List ℕ) → length s ≡ 16 → ((i : ℕ) → i < 16 → get_or s i 0 < 256) → (i : ℕ) → i < 16
+    → get_or (moved s) i 0 < 256
 moved-lt s long small i h =
     subst (λ (n : ℕ). n < 256) (moved_at s i long h) (sub_byte-lt _ (small (moved_to i) (moved_to-lt i h)))
 
@@ -40,7 +41,8 @@ mixed-lt s small i h =
     let two = two_rows_below i in
     let below_two : row_below two < 16 = row_below-lt two (two_rows_below-lt i h) in
     subst (λ (n : ℕ). n < 256) (mixed_at s small i h)
-    (mixed_byte-lt _ _ _ _ (small i h) (small (row_below i) (row_below-lt i h)) (small two (two_rows_below-lt i h)) (small (row_below two) below_two))
+    (mixed_byte-lt _ _ _ _ (small i h) (small (row_below i) (row_below-lt i h)) (small two (two_rows_below-lt i h))
+    (small (row_below two) below_two))
 
 -- the sum with a round key
 pub length-add : (s key : List ℕ) → length s ≡ 16 → length key ≡ 16 → length (add s key) ≡ 16

@@ -26,4 +26,5 @@ IsFirstExchanged n a b r = (i k v : ℕ) → i < 16 → k < 8 → IsBit (one_of 
 
 -- r is b, with the bits that do not count n taken from a, where they do
 abbrev pub IsSecondExchanged : ℕ → List ℕ → List ℕ → List ℕ → Type 0
-IsSecondExchanged n a b r = (i k v : ℕ) → i < 16 → k < 8 → IsBit (one_of (digit n k) a b) i (k + n - n * digit n k) v → IsBit r i k v
+IsSecondExchanged n a b r = (i k v : ℕ) → i < 16 → k < 8 → IsBit (one_of (digit n k) a b) i (k + n - n * digit n k) v
+    → IsBit r i k v

@@ -44,7 +44,8 @@ impl Planes {
     }
 
     fn neighbours_exchanged(self) -> Planes
-        ensures { (i j k v : ℕ) → i < 16 → j < 8 → k < 8 → IsBit (plane self (exchanged 1 j k)) i (exchanged 1 k j) v → IsBit (plane result j) i k v }
+        ensures { (i j k v : ℕ) → i < 16 → j < 8 → k < 8 → IsBit (plane self (exchanged 1 j k)) i (exchanged 1 k j) v
+            → IsBit (plane result j) i k v }
     {
         let (bit0, bit1) = exchange_bits(self.bit0, self.bit1);
         let (bit2, bit3) = exchange_bits(self.bit2, self.bit3);
@@ -63,7 +64,8 @@ impl Planes {
     }
 
     fn pairs_exchanged(self) -> Planes
-        ensures { (i j k v : ℕ) → i < 16 → j < 8 → k < 8 → IsBit (plane self (exchanged 2 j k)) i (exchanged 2 k j) v → IsBit (plane result j) i k v }
+        ensures { (i j k v : ℕ) → i < 16 → j < 8 → k < 8 → IsBit (plane self (exchanged 2 j k)) i (exchanged 2 k j) v
+            → IsBit (plane result j) i k v }
     {
         let (bit0, bit2) = exchange_pairs(self.bit0, self.bit2);
         let (bit1, bit3) = exchange_pairs(self.bit1, self.bit3);
@@ -82,7 +84,8 @@ impl Planes {
     }
 
     fn halves_exchanged(self) -> Planes
-        ensures { (i j k v : ℕ) → i < 16 → j < 8 → k < 8 → IsBit (plane self (exchanged 4 j k)) i (exchanged 4 k j) v → IsBit (plane result j) i k v }
+        ensures { (i j k v : ℕ) → i < 16 → j < 8 → k < 8 → IsBit (plane self (exchanged 4 j k)) i (exchanged 4 k j) v
+            → IsBit (plane result j) i k v }
     {
         let (bit0, bit4) = exchange_halves(self.bit0, self.bit4);
         let (bit1, bit5) = exchange_halves(self.bit1, self.bit5);

@@ -36,13 +36,17 @@ Stands c h = (c ≡ note_after_all None h) × AreRight None h
 
 pub refuses : (c : Option BerthNote) (n : BerthNote) (h : List BoxStep) → is_some c ≡ true → Stands c h
     → Stands c (h ++ Put n false ∷ [])
-refuses c n h full s =
-    (s.0 ∙ sym (note_after_all-snoc None h (Put n false)), AreRight-snoc None h (Put n false) s.1 (subst (λ (x : Option BerthNote). IsPutRight x false) s.0 (full_put c full)))
+refuses c n h full s = (
+  s.0 ∙ sym (note_after_all-snoc None h (Put n false)),
+  AreRight-snoc None h (Put n false) s.1 (subst (λ (x : Option BerthNote). IsPutRight x false) s.0 (full_put c full)),
+)
 
 pub lays : (c : Option BerthNote) (n : BerthNote) (h : List BoxStep) → is_some c ≡ false → Stands c h
     → Stands (Some n) (h ++ Put n true ∷ [])
-lays c n h empty s =
-    (sym (note_after_all-snoc None h (Put n true)), AreRight-snoc None h (Put n true) s.1 (subst (λ (x : Option BerthNote). IsPutRight x true) s.0 (empty_put c empty)))
+lays c n h empty s = (
+  sym (note_after_all-snoc None h (Put n true)),
+  AreRight-snoc None h (Put n true) s.1 (subst (λ (x : Option BerthNote). IsPutRight x true) s.0 (empty_put c empty)),
+)
 
 pub takes_out : (c d r : Option BerthNote) (h : List BoxStep) → r ≡ c → d ≡ None → Stands c h → Stands d (h ++ Take r ∷ [])
 takes_out c d r h same none s = (none ∙ sym (note_after_all-snoc None h (Take r)), AreRight-snoc None h (Take r) s.1 (same ∙ s.0))
@@ -63,7 +67,8 @@ balance : (c : Option BerthNote) (h : List BoxStep) → AreRight c h
     → notes_of c ++ flat_map put_by h ≡ flat_map taken_by h ++ notes_of (note_after_all c h)
 balance c [] a = append-nil (notes_of c)
 balance c (x ∷ xs) a =
-    one_step c x a.0 (flat_map put_by xs) (flat_map taken_by xs) (note_after_all (note_after c x) xs) (balance (note_after c x) xs a.1)
+    one_step c x a.0 (flat_map put_by xs) (flat_map taken_by xs) (note_after_all (note_after c x) xs)
+    (balance (note_after c x) xs a.1)
 
 -- so what was taken begins what was put
 pub taken_begins : (h : List BoxStep) → AreRight None h → IsPrefix (flat_map taken_by h) (flat_map put_by h)

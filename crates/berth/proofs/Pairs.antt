@@ -26,17 +26,21 @@ ends_meet v w j k e f same both met all = let own : own_steps j ≡ k.seen = sym
     let puts : flat_map put_by (own_steps j) ≡ notes_put v =
     flat_map-Interleaves put_by (own_steps v) (own_steps w) (own_steps j) both (f.second refl) in
     let takes : flat_map taken_by (own_steps j) ≡ notes_taken w =
-    flat_map-Interleaves taken_by (own_steps w) (own_steps v) (own_steps j) (Interleaves-swap (own_steps v) (own_steps w) (own_steps j) both) (e.first refl) in
+    flat_map-Interleaves taken_by (own_steps w) (own_steps v) (own_steps j)
+    (Interleaves-swap (own_steps v) (own_steps w) (own_steps j) both) (e.first refl) in
     let right : AreRight None k.seen =
-    met.legal_is tt (subst (λ (o : Option NoteBox). BeginsFrom StandsForSteps AnswersAreRight o tt) (sym (same ∙ e.opening)) (refl, tt)) in
+    met.legal_is tt
+    (subst (λ (o : Option NoteBox). BeginsFrom StandsForSteps AnswersAreRight o tt) (sym (same ∙ e.opening)) (refl, tt)) in
     let r = taken_begins k.seen right in
-    subst (λ (x : List _ × List _). IsPrefix x.0 x.1) (λ i. ((ap (flat_map taken_by) (sym own) ∙ takes) i, (ap (flat_map put_by) (sym own) ∙ puts) i)) r
+    subst (λ (x : List _ × List _). IsPrefix x.0 x.1)
+    (λ i. ((ap (flat_map taken_by) (sym own) ∙ takes) i, (ap (flat_map put_by) (sym own) ∙ puts) i)) r
 
 pub answers_step : (v w : V) (e : BoxStep) → v.opening ≡ Some empty_box → Turned StandsForSteps AnswersAreRight v (Some e) w
     → AnswersStep v e w
 answers_step v w e opening t = let last : w.seen ≡ t.log ++ e ∷ [] = ap (λ (x : V). x.seen) t.after in
     let right : AreRight None w.seen =
-    t.legal_is tt (subst (λ (o : Option NoteBox). BeginsFrom StandsForSteps AnswersAreRight o tt) (sym opening) (refl, tt)) in record {
+    t.legal_is tt (subst (λ (o : Option NoteBox). BeginsFrom StandsForSteps AnswersAreRight o tt) (sym opening) (refl, tt)) in
+    record {
       log = t.log;
       older = t.older;
       room = t.room;

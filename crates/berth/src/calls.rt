@@ -19,7 +19,8 @@ impl<Q: Wait> Berth<Q> {
     pub fn put(&mut self, note: BerthNote) -> Turn<bool>
         requires first { self.old.is_first ≡ true }
         ensures end { IsSameEnd self.old self.new }
-        ensures notes { TurnCase result (put_notes self.new ≡ put_notes self.old) (λ a. put_notes self.new ≡ put_notes self.old ++ put_by (Put note a)) }
+        ensures notes { TurnCase result (put_notes self.new ≡ put_notes self.old)
+            (λ a. put_notes self.new ≡ put_notes self.old ++ put_by (Put note a)) }
         ensures answer { TurnCase result (IsFull self.new) (λ a. HasLastStep self.old (Put note a) self.new) }
     {
         self.lock
@@ -30,7 +31,8 @@ impl<Q: Wait> Berth<Q> {
     pub fn take(&mut self) -> Turn<Option<BerthNote>>
         requires second { self.old.is_first ≡ false }
         ensures end { IsSameEnd self.old self.new }
-        ensures notes { TurnCase result (taken_notes self.new ≡ taken_notes self.old) (λ a. taken_notes self.new ≡ taken_notes self.old ++ taken_by (Take a)) }
+        ensures notes { TurnCase result (taken_notes self.new ≡ taken_notes self.old)
+            (λ a. taken_notes self.new ≡ taken_notes self.old ++ taken_by (Take a)) }
         ensures answer { TurnCase result (IsFull self.new) (λ a. HasLastStep self.old (Take a) self.new) }
     {
         self.lock.turn(&self.permit, &mut self.pass, &mut TakeNote)

@@ -94,7 +94,9 @@ pub fn read_open<'a>(
     piece: &'a [u8],
 ) -> Result<Option<(List<Cell>, &'a [u8])>, AllocError>
     requires { cell_at rest.now ≡ None }
-    ensures { IfOk result (λ found. MatchOption found (cell_at (rest.now ++ piece.now) ≡ None) (λ x. ReadsCells (later_reading (rest.now ++ piece.now)) x.0.items x.1.now)) }
+    ensures { IfOk result
+        (λ found. MatchOption found (cell_at (rest.now ++ piece.now) ≡ None)
+        (λ x. ReadsCells (later_reading (rest.now ++ piece.now)) x.0.items x.1.now)) }
 {
     let Some(size) = size_of_cell(rest, piece) else {
         return Ok(None);
@@ -115,7 +117,9 @@ pub fn read_opening<'a>(
 ) -> Result<Option<(List<Cell>, &'a [u8])>, AllocError>
     requires first { first_at rest.now ≡ None }
     requires start { wrong_start (rest.now ++ piece.now) ≡ None }
-    ensures { IfOk result (λ found. MatchOption found (first_at (rest.now ++ piece.now) ≡ None) (λ x. ReadsCells (first_reading (rest.now ++ piece.now)) x.0.items x.1.now)) }
+    ensures { IfOk result
+        (λ found. MatchOption found (first_at (rest.now ++ piece.now) ≡ None)
+        (λ x. ReadsCells (first_reading (rest.now ++ piece.now)) x.0.items x.1.now)) }
 {
     let Some(size) = size_of_first(rest, piece) else {
         return Ok(None);
@@ -167,7 +171,8 @@ pub fn feed_opening(
 ) -> Result<Option<List<Cell>>, AllocError>
     requires first { first_at rest.old.items ≡ None }
     requires start { wrong_start (rest.old.items ++ piece.now) ≡ None }
-    ensures opened { IfOk result (λ found. IfSome found (λ cells. ReadsCells (first_reading (rest.old.items ++ piece.now)) cells.items rest.new.items)) }
+    ensures opened { IfOk result
+        (λ found. IfSome found (λ cells. ReadsCells (first_reading (rest.old.items ++ piece.now)) cells.items rest.new.items)) }
     ensures opening { IfOk result (λ found. IfNone found ((rest.new.items ≡ rest.old.items ++ piece.now) × (first_at rest.new.items ≡ None))) }
     ensures err { OnErr result (rest.new.items ≡ rest.old.items) }
 {

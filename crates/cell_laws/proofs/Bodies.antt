@@ -31,7 +31,8 @@ head_read-at : (command recognized stream size : ℕ) (digest behind : List ℕ)
 unfolding relay_head
 head_read-at command recognized stream size (a ∷ b ∷ c ∷ d ∷ []) behind four r_fits s_fits n_fits = (
   same_head command (a ∷ b ∷ c ∷ d ∷ []) _ _ _ recognized stream size
-      (from_be_bytes-to_be_bytes_2 recognized r_fits) (from_be_bytes-to_be_bytes_2 stream s_fits) (from_be_bytes-to_be_bytes_2 size n_fits),
+      (from_be_bytes-to_be_bytes_2 recognized r_fits) (from_be_bytes-to_be_bytes_2 stream s_fits)
+      (from_be_bytes-to_be_bytes_2 size n_fits),
   refl,
 )
 head_read-at command recognized stream size _ behind four r_fits s_fits n_fits = absurd (omega arith)
@@ -75,9 +76,13 @@ body_at (a ∷ b ∷ c ∷ d ∷ e ∷ f ∷ g ∷ h ∷ i ∷ j ∷ k ∷ rest)
     record {
       padding = drop n rest;
       spelling = ap (λ t. a ∷ b ∷ c ∷ d ∷ e ∷ f ∷ g ∷ h ∷ i ∷ j ∷ k ∷ t) (sym (take-append-drop n rest))
-          ∙ ap (λ t. a ∷ t ++ (d ∷ e ∷ f ∷ g ∷ h ∷ i ∷ j ∷ k ∷ (take n rest ++ drop n rest))) (sym (two_bytes b c (d ∷ e ∷ f ∷ g ∷ h ∷ i ∷ j ∷ k ∷ rest) recognized))
-          ∙ ap (λ t. a ∷ to_be_bytes w16 (from_be_bytes w16 (b ∷ c ∷ [])) ++ t ++ (f ∷ g ∷ h ∷ i ∷ j ∷ k ∷ (take n rest ++ drop n rest))) (sym (two_bytes d e (f ∷ g ∷ h ∷ i ∷ j ∷ k ∷ rest) stream))
-          ∙ ap (λ t. a ∷ to_be_bytes w16 (from_be_bytes w16 (b ∷ c ∷ [])) ++ to_be_bytes w16 (from_be_bytes w16 (d ∷ e ∷ [])) ++ (f ∷ g ∷ h ∷ i ∷ []) ++ t ++ (take n rest ++ drop n rest)) (sym (two_bytes j k rest size));
+          ∙ ap (λ t. a ∷ t ++ (d ∷ e ∷ f ∷ g ∷ h ∷ i ∷ j ∷ k ∷ (take n rest ++ drop n rest)))
+          (sym (two_bytes b c (d ∷ e ∷ f ∷ g ∷ h ∷ i ∷ j ∷ k ∷ rest) recognized))
+          ∙ ap (λ t. a ∷ to_be_bytes w16 (from_be_bytes w16 (b ∷ c ∷ [])) ++ t
+          ++ (f ∷ g ∷ h ∷ i ∷ j ∷ k ∷ (take n rest ++ drop n rest)))
+          (sym (two_bytes d e (f ∷ g ∷ h ∷ i ∷ j ∷ k ∷ rest) stream))
+          ∙ ap (λ t. a ∷ to_be_bytes w16 (from_be_bytes w16 (b ∷ c ∷ [])) ++ to_be_bytes w16 (from_be_bytes w16 (d ∷ e ∷ []))
+          ++ (f ∷ g ∷ h ∷ i ∷ []) ++ t ++ (take n rest ++ drop n rest)) (sym (two_bytes j k rest size));
       recognized_fits = two_fit b c (d ∷ e ∷ f ∷ g ∷ h ∷ i ∷ j ∷ k ∷ rest) recognized;
       stream_fits = two_fit d e (f ∷ g ∷ h ∷ i ∷ j ∷ k ∷ rest) stream;
       four = refl;

@@ -23,12 +23,15 @@ right_length s is =
     let n = length s.value in
     cond_both (nat_eq s.kind 0) (nat_eq n 6) _ (λ b. b ≡ true) (λ e. eq-eqb n 6 (is.ipv4 (eqb-true s.kind 0 e)))
     (λ _. cond_both (nat_eq s.kind 1) (nat_eq n 18) _ (λ b. b ≡ true) (λ e. eq-eqb n 18 (is.ipv6 (eqb-true s.kind 1 e)))
-    (λ _. cond_both (nat_eq s.kind 2) (nat_eq n 20) _ (λ b. b ≡ true) (λ e. eq-eqb n 20 (is.legacy_identity (eqb-true s.kind 2 e)))
-    (λ _. cond_both (nat_eq s.kind 3) (nat_eq n 32) true (λ b. b ≡ true) (λ e. eq-eqb n 32 (is.ed25519_identity (eqb-true s.kind 3 e)))
+    (λ _. cond_both (nat_eq s.kind 2) (nat_eq n 20) _ (λ b. b ≡ true)
+    (λ e. eq-eqb n 20 (is.legacy_identity (eqb-true s.kind 2 e)))
+    (λ _. cond_both (nat_eq s.kind 3) (nat_eq n 32) true (λ b. b ≡ true)
+    (λ e. eq-eqb n 32 (is.ed25519_identity (eqb-true s.kind 3 e)))
     (λ _. refl))))
 
 found_there : (kind : ℕ) (v w x y : List ℕ) → v ≡ w → x ≡ y
-    → ◌≡◌ {A = Option (Specifier × List ℕ)} (Some (record { kind = kind; value = v }, x)) (Some (record { kind = kind; value = w }, y))
+    → ◌≡◌ {A = Option (Specifier × List ℕ)} (Some (record { kind = kind; value = v }, x))
+    (Some (record { kind = kind; value = w }, y))
 found_there kind v w x y e f = cc
 
 specifier_read : (s : Specifier) (more : List ℕ) → IsSpecifier s → specifier (specifier_bytes s ++ more) ≡ Some (s, more)
@@ -70,7 +73,8 @@ found_behind (other ∷ before) s behind none kind =
     ∙ found_behind before s behind none.1 kind
 
 address_at : (ip : List ℕ) (port : ℕ) → length ip ≡ 4 → port < 2 ^ 16
-    → ◌≡◌ {A = Address} (record { ip = take 4 (ip ++ to_be_bytes w16 port); port = from_be_bytes w16 (drop 4 (ip ++ to_be_bytes w16 port)) })
+    → ◌≡◌ {A = Address}
+    (record { ip = take 4 (ip ++ to_be_bytes w16 port); port = from_be_bytes w16 (drop 4 (ip ++ to_be_bytes w16 port)) })
     (record { ip = ip; port = port })
 address_at (a ∷ b ∷ c ∷ d ∷ []) port four fits =
     ap (λ (n : ℕ). record { ip = a ∷ b ∷ c ∷ d ∷ []; port = n }) (from_be_bytes-to_be_bytes_2 port fits)
@@ -88,10 +92,12 @@ leads_read found (Some to) first =
 extend_read-at : (found : List Specifier) (rest : List ℕ) (to : Option Address) (t : ℕ) (h : List ℕ)
     → AllByRecursion IsSpecifier found
     → LeadsTo found to → SpellsRequest rest t h
-    → extend_request (length found ∷ flat_map specifier_bytes found ++ rest) ≡ Some (record { to = to; handshake_type = t; handshake = h })
+    → extend_request (length found ∷ flat_map specifier_bytes found ++ rest)
+    ≡ Some (record { to = to; handshake_type = t; handshake = h })
 unfolding extend_request destination request_behind
 extend_read-at found rest to t h each leads spells =
-    ap (λ read. option_and_then request_behind (option_map (λ read. (first_address read.0, read.1)) read)) (specifiers_read found rest each)
+    ap (λ read. option_and_then request_behind (option_map (λ read. (first_address read.0, read.1)) read))
+    (specifiers_read found rest each)
     ∙ ap (λ a. option_map (make_extend a) (handshake_request rest)) (leads_read found to leads)
     ∙ ap (option_map (make_extend to)) (request_read rest t h spells)
 
@@ -242,6 +248,7 @@ pub extend_law : (payload : List ℕ) (request : Extend) → IsBytes payload
     → SpellsExtend payload request ↔ (extend_request payload ≡ Some request)
 extend_law payload request fits = (
   λ spells. ap extend_request spells.spelling
-      ∙ extend_read-at spells.found spells.rest request.to request.handshake_type request.handshake spells.specifiers spells.leads spells.handshake,
+      ∙ extend_read-at spells.found spells.rest request.to request.handshake_type request.handshake spells.specifiers spells.leads
+      spells.handshake,
   extend_spelled payload request fits,
 )

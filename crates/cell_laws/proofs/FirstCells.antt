@@ -34,7 +34,8 @@ opening_at payload more fits =
     let n = length (opening payload) in
     let all : length (opening payload ++ more) ≡ n + length more = length-append (opening payload) more in
     first_ended (opening payload ++ more) n
-    (first_size_is (opening payload ++ more) n (omega arith) (ap (λ k. 5 + k) (from_be_bytes-to_be_bytes_2 (length payload) fits) ∙ omega arith)) (omega arith)
+    (first_size_is (opening payload ++ more) n (omega arith)
+    (ap (λ k. 5 + k) (from_be_bytes-to_be_bytes_2 (length payload) fits) ∙ omega arith)) (omega arith)
     ∙ ap (λ t. Some (first_of t, drop n (opening payload ++ more))) (take_at (opening payload) more n refl)
     ∙ ap (λ d. Some (first_of (opening payload), d)) (drop_at (opening payload) more n refl)
 

@@ -77,5 +77,7 @@ pub written_first : (opening : WireCell) (cells : List WireCell) → IsFirstCell
     → whole_first (first_encoding opening ++ flat_map encoding cells) ≡ opening ∷ cells
 unfolding whole_first reading
 written_first opening cells is each =
-    ap (λ r. r.cells) (first_reading-some _ _ (right_start_again opening (flat_map encoding cells) is) (first_again opening (flat_map encoding cells) is))
+    ap (λ r. r.cells)
+    (first_reading-some _ _ (right_start_again opening (flat_map encoding cells) is)
+    (first_again opening (flat_map encoding cells) is))
     ∙ ap (λ l. opening ∷ l) (later_written cells each)

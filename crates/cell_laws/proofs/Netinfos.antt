@@ -12,7 +12,8 @@ use Rattle.cell_laws.proofs.Options.{then_some, unless_some, some_there}
 -- An address of one type has one length.
 allowed : (kind size type want : ℕ) → (kind ≡ type → size ≡ want) → (nat_eq kind type && not (nat_eq size want)) ≡ false
 allowed kind size type want right = elim (cases_Bool (nat_eq kind type)) [
-  | inl same ↦ ap (λ b. b && not (nat_eq size want)) same ∙ not_from_true (nat_eq size want) (eq-eqb size want (right (eqb-true kind type same)))
+  | inl same ↦ ap (λ b. b && not (nat_eq size want)) same
+      ∙ not_from_true (nat_eq size want) (eq-eqb size want (right (eqb-true kind type same)))
   | inr other ↦ ap (λ b. b && not (nat_eq size want)) other
 ]
 

@@ -172,7 +172,8 @@ unfolding handshake_request
 request_read-at t h more t_small h_small =
     let read = from_be_bytes w16 (to_be_bytes w16 t) in
     let reply = to_be_bytes w16 (length h) ++ h ++ more in
-    ap (λ b. cond b (option_map (λ (x : List ℕ). (read, x)) (handshake_reply reply)) None) (le-leb 2 (suc (suc (length reply))) (omega arith))
+    ap (λ b. cond b (option_map (λ (x : List ℕ). (read, x)) (handshake_reply reply)) None)
+    (le-leb 2 (suc (suc (length reply))) (omega arith))
     ∙ ap (option_map (λ (x : List ℕ). (read, x))) (reply_read-at h more h_small)
     ∙ ap (λ (n : ℕ). Some (n, h)) (from_be_bytes-to_be_bytes_2 t t_small)
 

@@ -114,14 +114,16 @@ answer_read a more is =
     ∙ ap (λ b. cond b (made (take n rest) (drop n rest)) None) whole
     ∙ ap (λ v. made v (drop n rest)) same
     ∙ ap (made a.value) later
-    ∙ ap (λ (t : ℕ). Some (record { kind = a.kind; value = a.value; ttl = t }, more)) (from_be_bytes-to_be_bytes_4 a.ttl is.ttl_fits)
+    ∙ ap (λ (t : ℕ). Some (record { kind = a.kind; value = a.value; ttl = t }, more))
+    (from_be_bytes-to_be_bytes_4 a.ttl is.ttl_fits)
 
 answers_read : (answers : List Answer) → AllByRecursion IsAnswer answers
     → answers_in (flat_map answer_bytes answers) ≡ Some answers
 unfolding answers_in answers_within
 answers_read [] each = refl
 answers_read (a ∷ answers) each =
-    answers_step (answer_bytes a ++ flat_map answer_bytes answers) a (flat_map answer_bytes answers) (answer_read a (flat_map answer_bytes answers) each.0)
+    answers_step (answer_bytes a ++ flat_map answer_bytes answers) a (flat_map answer_bytes answers)
+    (answer_read a (flat_map answer_bytes answers) each.0)
     ∙ ap (option_map (put_answer a)) (answers_read answers each.1)
 
 resolved_read : (payload : List ℕ) (answers : List Answer) → SpellsAnswers payload answers
@@ -153,8 +155,10 @@ unfolding answer_at
 front_spelled [] a rest fits e = absurd (none-some _ e)
 front_spelled (kind ∷ []) a rest fits e = absurd (none-some _ e)
 front_spelled (kind ∷ size ∷ more) a rest fits e =
-    let found : Answer × List ℕ =
-    (record { kind = kind; value = take size more; ttl = from_be_bytes w32 (take 4 (drop size more)) }, drop 4 (drop size more)) in
+    let found : Answer × List ℕ = (
+      record { kind = kind; value = take size more; ttl = from_be_bytes w32 (take 4 (drop size more)) },
+      drop 4 (drop size more),
+    ) in
     let parts = cond_some (is_value_length kind size && leb (size + 4) (length more)) found (a, rest) e in
     let tests = and_parts (is_value_length kind size) (leb (size + 4) (length more)) parts.0 in
     let later_fits : IsBytes more = IsBytes-drop 2 (kind ∷ size ∷ more) fits in

@@ -53,8 +53,12 @@ pub whole_spelled : (bytes : List ℕ) → IsBytes bytes
     → (front rest : List ℕ) × (bytes ≡ front ++ rest) × Spells front (whole bytes)
 unfolding whole reading
 whole_spelled bytes fits =
-    let own = later_spelled bytes fits in
-    (flat_map encoding (later_reading bytes).cells, (later_reading bytes).left.bytes, own.text, record { text = refl; each = own.each })
+    let own = later_spelled bytes fits in (
+      flat_map encoding (later_reading bytes).cells,
+      (later_reading bytes).left.bytes,
+      own.text,
+      record { text = refl; each = own.each },
+    )
 
 -- And they are the longest such list: each other begins it.
 pub whole_longest : (bytes front rest : List ℕ) (cells : List WireCell) → bytes ≡ front ++ rest → Spells front cells

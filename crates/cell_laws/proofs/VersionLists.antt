@@ -97,7 +97,8 @@ one_more v ours theirs true here None none = (
   ],
 )
 one_more v ours theirs true here (Some u) high = (
-  either v u (max v u) (IsCommon (v ∷ ours) theirs) (contains_head v ours, listed theirs v here) (behind v ours theirs u high.0) (max_cases v u),
+  either v u (max v u) (IsCommon (v ∷ ours) theirs) (contains_head v ours, listed theirs v here) (behind v ours theirs u high.0)
+      (max_cases v u),
   λ w common. elim (contains_cases v w ours common.0) [
     | inl same ↦ omega arith
     | inr later ↦ let below : w ≤ u = high.1 w (later, common.1) in omega arith

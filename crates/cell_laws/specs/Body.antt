@@ -8,7 +8,8 @@ use Rattle.tor_spec.specs.RelayCell.{RelayHead}
 pub record SpellsBody (body : List ℕ) (head : RelayHead) (payload : List ℕ) : Type 0 where
   pub padding : List ℕ
   pub spelling : body
-      ≡ head.command ∷ to_be_bytes w16 head.recognized ++ to_be_bytes w16 head.stream ++ head.digest ++ to_be_bytes w16 head.length
+      ≡ head.command ∷ to_be_bytes w16 head.recognized ++ to_be_bytes w16 head.stream ++ head.digest
+      ++ to_be_bytes w16 head.length
       ++ payload ++ padding
   pub recognized_fits : head.recognized < 2 ^ 16
   pub stream_fits : head.stream < 2 ^ 16

@@ -72,7 +72,8 @@ is_cut last = false
 
 -- The whole rounds, one after another, and what comes behind. The bytes written in the session are those of
 -- the cells, in order; the last one is cut only where the half's count of faults rose.
-pub record IsWriterRun (chan : ChanNo) (session : ℕ) (before after : Option (List Piece)) (faults_before faults_after : ℕ) (end : LoopEnd) (steps : List Step) : Type 0 where
+pub record IsWriterRun (chan : ChanNo) (session : ℕ) (before after : Option (List Piece)) (faults_before faults_after : ℕ)
+    (end : LoopEnd) (steps : List Step) : Type 0 where
   pub rounds : List WriterRound
   pub last : LastPart
   pub end_is : end ≡ end_of last

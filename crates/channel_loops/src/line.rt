@@ -50,7 +50,9 @@ impl Line {
         ensures same { (self.new.session ≡ self.old.session) × (self.new.chan ≡ self.old.chan) }
         ensures slot { K.slot link.new ≡ K.slot link.old }
         ensures all { IsTrue result → WroteAll self.old.session (encoding (wire_cell cell.now)) (K.written link.old) (K.written link.new) }
-        ensures part { IsTrue (not result) → (n : ℕ) × WroteAll self.old.session (take n (encoding (wire_cell cell.now))) (K.written link.old) (K.written link.new) }
+        ensures part { IsTrue (not result)
+            → (n : ℕ) × WroteAll self.old.session (take n (encoding (wire_cell cell.now))) (K.written link.old)
+            (K.written link.new) }
         ensures counted { K.faults link.old ≤ K.faults link.new }
         ensures cause { IsTrue (not result) → Rose (K.faults link.old) (K.faults link.new) }
     {

@@ -23,7 +23,9 @@ pub(crate) fn round<K: SlotOut, P: CorePort, C: Clock>(
     ensures same { (line.new.session ≡ line.old.session) × (line.new.chan ≡ line.old.chan) }
     ensures spent { result ≡ Some LoopEnd.Spent → P.is_spent pass.new }
     ensures slot { K.slot link.new ≡ K.slot link.old }
-    ensures made { RoundMade [] line.old.chan line.old.session (record { steps = P.mine pass.old; written = K.written link.old; faults = K.faults link.old }) (record { steps = P.mine pass.new; written = K.written link.new; faults = K.faults link.new }) result }
+    ensures made { RoundMade [] line.old.chan line.old.session
+        (record { steps = P.mine pass.old; written = K.written link.old; faults = K.faults link.old })
+        (record { steps = P.mine pass.new; written = K.written link.new; faults = K.faults link.new }) result }
     ensures counted { K.faults link.old ≤ K.faults link.new }
 {
     if line.reserve().is_err() {
@@ -50,7 +52,9 @@ fn send_next<K: SlotOut, P: CorePort, C: Clock>(
     ensures same { (line.new.session ≡ line.old.session) × (line.new.chan ≡ line.old.chan) }
     ensures spent { result ≡ Some LoopEnd.Spent → P.is_spent pass.new }
     ensures slot { K.slot link.new ≡ K.slot link.old }
-    ensures made { RoundMade (Halted false ∷ []) line.old.chan line.old.session (record { steps = P.mine pass.old; written = K.written link.old; faults = K.faults link.old }) (record { steps = P.mine pass.new; written = K.written link.new; faults = K.faults link.new }) result }
+    ensures made { RoundMade (Halted false ∷ []) line.old.chan line.old.session
+        (record { steps = P.mine pass.old; written = K.written link.old; faults = K.faults link.old })
+        (record { steps = P.mine pass.new; written = K.written link.new; faults = K.faults link.new }) result }
     ensures counted { K.faults link.old ≤ K.faults link.new }
 {
     match port.next_cell(pass, line.chan, clock.tick()) {

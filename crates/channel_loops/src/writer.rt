@@ -37,7 +37,8 @@ pub fn write_session<K: SlotOut, P: CorePort, C: Clock>(
     ensures own { P.is_own port.now pass.new }
     ensures spent { result ≡ LoopEnd.Spent → P.is_spent pass.new }
     ensures slot { K.slot link.new ≡ K.slot link.old }
-    ensures rounds { (steps : List Step) × (P.mine pass.new ≡ P.mine pass.old ++ steps) × IsWriterRun chan session (K.written link.old) (K.written link.new) (K.faults link.old) (K.faults link.new) result steps }
+    ensures rounds { (steps : List Step) × (P.mine pass.new ≡ P.mine pass.old ++ steps)
+        × IsWriterRun chan session (K.written link.old) (K.written link.new) (K.faults link.old) (K.faults link.new) result steps }
     ensures counted { K.faults link.old ≤ K.faults link.new }
     ensures cause { result ≡ LoopEnd.WriteFault → Rose (K.faults link.old) (K.faults link.new) }
 {
@@ -59,7 +60,9 @@ fn write_rounds<K: SlotOut, P: CorePort, C: Clock>(
     ensures own { P.is_own port.now pass.new }
     ensures spent { result ≡ LoopEnd.Spent → P.is_spent pass.new }
     ensures slot { K.slot link.new ≡ K.slot link.old }
-    ensures rounds { (steps : List Step) × (P.mine pass.new ≡ P.mine pass.old ++ steps) × IsWriterRun line.old.chan line.old.session (K.written link.old) (K.written link.new) (K.faults link.old) (K.faults link.new) result steps }
+    ensures rounds { (steps : List Step) × (P.mine pass.new ≡ P.mine pass.old ++ steps)
+        × IsWriterRun line.old.chan line.old.session (K.written link.old) (K.written link.new) (K.faults link.old)
+        (K.faults link.new) result steps }
     ensures counted { K.faults link.old ≤ K.faults link.new }
     ensures cause { result ≡ LoopEnd.WriteFault → Rose (K.faults link.old) (K.faults link.new) }
 {

@@ -38,7 +38,8 @@ pub cell_parts : (c d : Circuit) (rules : Rules) (log : Log) (command : ℕ) (bo
     → HasCountsOf d.windows (window_of (after_cell rules log command body))
     → ArePlaces d.places (after_cell rules log command body) → KeepsStreams c.places d.places
     → HasParts d (after_cell rules log command body)
-cell_parts c d rules log command body outcome has same undialled uncut placeless hop create2 addresses packages windows places keeps =
+cell_parts c d rules log command body outcome has same undialled uncut placeless hop create2 addresses packages windows places
+    keeps =
     let entry : Entry = entry_after rules log (Forward command body) in
     let aside : IsAside entry =
     aside_by entry outcome refl refl same (record { dial = undialled; cut = uncut; makes_none = placeless }) in

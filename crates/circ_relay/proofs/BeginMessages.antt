@@ -66,13 +66,15 @@ refused_does message rules log command body m may b is none =
     rw (begin_test message log command body m may b is ∙ ap not none) refl
 
 -- It may begin, and asks for this.
-pub begin_does : (message : CodeMessage) (rules : Rules) (log : Log) (command : ℕ) (body : List ℕ) (m : Message) (may : Bool) (target : Option Target)
+pub begin_does : (message : CodeMessage) (rules : Rules) (log : Log) (command : ℕ) (body : List ℕ) (m : Message) (may : Bool)
+    (target : Option Target)
     → IsBrought message log command body m
     → may ≡ not ((message.stream == 0) || is_some (live_place log message.stream)) → may ≡ true
     → begin_target message.payload.now ≡ target
     → begin_effects rules log m ≡ beginning rules log m.stream target
 begin_does message rules log command body m may target b is so asks =
-    rw (begin_test message log command body m may b is ∙ ap not so) (ap (λ t. beginning rules log m.stream t) (ap begin_target (sym b.payload) ∙ asks))
+    rw (begin_test message log command body m may b is ∙ ap not so)
+    (ap (λ t. beginning rules log m.stream t) (ap begin_target (sym b.payload) ∙ asks))
 
 not-left : (free full : Bool) → free ≡ not full → free ≡ false → full ≡ true
 not-left free true is so = refl
@@ -94,18 +96,21 @@ fitting_does rules log stream target free to is so allowed =
     rw (not-right free (nat_le place_limit (taken_places log)) is so) (ap (λ t. reaching log stream t) (sym allowed))
 
 -- The END of a BEGIN that is refused.
-pub unbegun_parts : (c d : Circuit) (message : CodeMessage) (rules : Rules) (log : Log) (command : ℕ) (body : List ℕ) (m : Message) (reason : ℕ)
+pub unbegun_parts : (c d : Circuit) (message : CodeMessage) (rules : Rules) (log : Log) (command : ℕ) (body : List ℕ)
+    (m : Message) (reason : ℕ)
     → IsBrought message log command body m → HasParts c log → m.command ≡ begin_command
     → begin_effects rules log m ≡ ending log m.stream reason
     → Packages c.packager d.packager (relay_body end_command message.stream (reason ∷ []))
     → d ≡ record c { packager = d.packager } → HasParts d (after_cell rules log command body)
 unbegun_parts c d message rules log command body m reason b has is ends packages rest =
-    let given : message_effects rules log m ≡ record no_effects { back = Some (finished log (relay_body end_command message.stream (reason ∷ []))) } =
+    let given : message_effects rules log m ≡ record no_effects
+    { back = Some (finished log (relay_body end_command message.stream (reason ∷ []))) } =
     of_begin rules log m is ∙ ends ∙ ap (λ n. ending log n reason) (sym b.stream) in
     let edge : (effects_after rules log (Forward command body)).edge ≡ None =
     ap (λ (e : Effects). e.edge) (does message rules log command body m b ∙ given) in
     subst (λ e. HasParts e (after_cell rules log command body)) (sym rest)
-    (packaged_parts c d.packager message rules log command body m (relay_body end_command message.stream (reason ∷ [])) b has given packages
+    (packaged_parts c d.packager message rules log command body m (relay_body end_command message.stream (reason ∷ [])) b has
+    given packages
     (other_window message rules log command body m b (ap (λ k. k == data_command) is) (ap (λ k. k == sendme_command) is))
     (refused_leaves_places c.places rules log (Forward command body) m has.places (found message log command body m b) is edge))
 
@@ -116,7 +121,8 @@ pub record IsKept (old new : List Dest) (place : ℕ) (to : Dest) : Type 0 where
   pub there : (none : Dest) → slice_index_or new place none ≡ to
   pub elsewhere : (other : ℕ) (none : Dest) → other ≢ place → slice_index_or new other none ≡ slice_index_or old other none
 
-reached_there : (s : PlacesState) (log longer : Log) (place id : ℕ) (to : Dest) (h : PlacedStream) (of_log : Place) → ArePlaces s log
+reached_there : (s : PlacesState) (log longer : Log) (place id : ℕ) (to : Dest) (h : PlacedStream) (of_log : Place)
+    → ArePlaces s log
     → place < length s.streams
     → places longer ≡ places log ++ place_made log id (address_of to) ∷ [] → held_at (after_begin s place id) place ≡ Some h
     → place_at longer h.serial ≡ Some of_log → of_log.to ≡ address_of to
@@ -128,9 +134,12 @@ reached_there s log longer place id to h of_log are within more holds at =
     let got : slice_get (places log ++ place_made log id (address_of to) ∷ []) (length (places log)) ≡ Some of_log =
     ap (λ (ps : List Place). slice_get ps (length (places log))) (sym more) ∙ ap (λ n. slice_get (places longer) n) (sym serial)
     ∙ at in
-    ap (λ (p : Place). p.to) (sym (same_some (place_made log id (address_of to)) of_log (sym (got_last (places log) (place_made log id (address_of to))) ∙ got)))
+    ap (λ (p : Place). p.to)
+    (sym (same_some (place_made log id (address_of to)) of_log
+    (sym (got_last (places log) (place_made log id (address_of to))) ∙ got)))
 
-reached_elsewhere : (s : PlacesState) (addresses : List Dest) (log longer : Log) (place id other : ℕ) (to : Dest) (h : PlacedStream) (of_log : Place) (none : Dest)
+reached_elsewhere : (s : PlacesState) (addresses : List Dest) (log longer : Log) (place id other : ℕ) (to : Dest)
+    (h : PlacedStream) (of_log : Place) (none : Dest)
     → ArePlaces s log → AreAddresses addresses s log
     → places longer ≡ places log ++ place_made log id (address_of to) ∷ [] → other ≢ place
     → held_at (after_begin s place id) other ≡ Some h → place_at longer h.serial ≡ Some of_log
@@ -144,7 +153,8 @@ reached_elsewhere s addresses log longer place id other to h of_log none are kep
     ∙ got_before (places log) (place_made log id (address_of to)) old.place h.serial old.found in
     ap (λ (p : Place). p.to) (sym (same_some old.place of_log (sym got ∙ at))) ∙ kept other h old.place none before old.found
 
-reached_address : (s : PlacesState) (addresses new : List Dest) (log longer : Log) (place id other : ℕ) (to : Dest) (h : PlacedStream) (of_log : Place) (none : Dest)
+reached_address : (s : PlacesState) (addresses new : List Dest) (log longer : Log) (place id other : ℕ) (to : Dest)
+    (h : PlacedStream) (of_log : Place) (none : Dest)
     → ArePlaces s log → AreAddresses addresses s log
     → IsKept addresses new place to → place < length s.streams
     → places longer ≡ places log ++ place_made log id (address_of to) ∷ [] → (b : Bool) → (other == place) ≡ b
@@ -152,14 +162,16 @@ reached_address : (s : PlacesState) (addresses new : List Dest) (log longer : Lo
     → of_log.to ≡ address_of (slice_index_or new other none)
 reached_address s addresses new log longer place id other to h of_log none are old kept within more true at holds got =
     let spot : other ≡ place = same_by other place at in
-    reached_there s log longer place id to h of_log are within more (ap (λ n. held_at (after_begin s place id) n) (sym spot) ∙ holds) got
+    reached_there s log longer place id to h of_log are within more
+    (ap (λ n. held_at (after_begin s place id) n) (sym spot) ∙ holds) got
     ∙ ap address_of (sym (kept.there none)) ∙ ap (λ n. address_of (slice_index_or new n none)) (sym spot)
 reached_address s addresses new log longer place id other to h of_log none are old kept within more false at holds got =
     let apart : other ≢ place = apart_by other place at in
     reached_elsewhere s addresses log longer place id other to h of_log none are old more apart holds got
     ∙ ap address_of (sym (kept.elsewhere other none apart))
 
-pub reached_parts : (c d : Circuit) (new : PlacesState) (message : CodeMessage) (rules : Rules) (log : Log) (command : ℕ) (body : List ℕ) (m : Message) (place : ℕ) (to : Dest)
+pub reached_parts : (c d : Circuit) (new : PlacesState) (message : CodeMessage) (rules : Rules) (log : Log) (command : ℕ)
+    (body : List ℕ) (m : Message) (place : ℕ) (to : Dest)
     → IsBrought message log command body m → HasParts c log → m.command ≡ begin_command
     → begin_effects rules log m ≡ reaching log m.stream (Some (address_of to))
     → position is_free c.places.streams ≡ Some place → new ≡ after_begin c.places place message.stream
@@ -171,23 +183,29 @@ reached_parts c d new message rules log command body m place to b has is reaches
     let given : effects_after rules log (Forward command body) ≡ order =
     does message rules log command body m b ∙ of_begin rules log m is ∙ reaches
     ∙ ap (λ n. reaching log n (Some (address_of to))) (sym b.stream) in
-    let edge : (effects_after rules log (Forward command body)).edge ≡ Some (Reach (record { stream = message.stream; serial = length (places log) }) (address_of to)) =
+    let edge : (effects_after rules log (Forward command body)).edge ≡ Some
+    (Reach (record { stream = message.stream; serial = length (places log) }) (address_of to)) =
     ap (λ (e : Effects). e.edge) given in
     let more : places (after_cell rules log command body) ≡ places log ++ place_made log message.stream (address_of to) ∷ [] =
     places_more entry log (place_made log message.stream (address_of to)) (ap place_of edge) in
     let within : place < length c.places.streams = (position-Some is_free c.places.streams place None free).0 in
     let are : ArePlaces (after_begin c.places place message.stream) (after_cell rules log command body) =
-    begin_takes_a_place c.places rules log (Forward command body) m place message.stream (address_of to) has.places (found message log command body m b) is edge free in
+    begin_takes_a_place c.places rules log (Forward command body) m place message.stream (address_of to) has.places
+    (found message log command body m b) is edge free in
     let addressed : AreAddresses d.addresses (after_begin c.places place message.stream) (after_cell rules log command body) =
-    (λ other h of_log none holds got. reached_address c.places c.addresses d.addresses log (after_cell rules log command body) place message.stream other to h of_log none has.places has.addresses kept within more (other == place) refl holds got) in
+    (λ other h of_log none holds got. reached_address c.places c.addresses d.addresses log (after_cell rules log command body)
+    place message.stream other to h of_log none has.places has.addresses kept within more (other == place) refl holds got) in
     subst (λ e. HasParts e (after_cell rules log command body)) (sym rest)
     (record {
       hop = has.hop ∙ sym (hop_after entry log (ap hop_by_effects given));
       asked = λ dialling. request_after entry log (ap (λ (e : Effects). e.dial) given) ∙ has.asked dialling;
       packager =
-          packager_after c.packager entry log None refl (ap (λ (e : Effects). e.back) given) (none_packaged c.packager log has.packager);
+          packager_after c.packager entry log None refl (ap (λ (e : Effects). e.back) given)
+          (none_packaged c.packager log has.packager);
       windows =
-          stands_still c.windows log (after_cell rules log command body) has.windows (other_window message rules log command body m b (ap (λ k. k == data_command) is) (ap (λ k. k == sendme_command) is));
+          stands_still c.windows log (after_cell rules log command body) has.windows
+          (other_window message rules log command body m b (ap (λ k. k == data_command) is)
+          (ap (λ k. k == sendme_command) is));
       places = subst (λ s. ArePlaces s (after_cell rules log command body)) (sym becomes) are;
       addresses = subst (λ s. AreAddresses d.addresses s (after_cell rules log command body)) (sym becomes) addressed;
     })

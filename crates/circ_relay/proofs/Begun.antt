@@ -71,7 +71,11 @@ holds-by : (state : PlacesState) (log : Log) (entry : Entry) (place id : ℕ) (t
     ((other ≡ place) × (h ≡ begun id state.next_serial)) ⊎ (held_at state other ≡ Some h)
 holds-by state log entry place id to begins other h is true same =
     let here : other ≡ place = same_by other place same in
-    inl (here, same_some h (begun id state.next_serial) (sym is ∙ ap (λ p. held_at (after_begin state place id) p) here ∙ there state log entry place id to begins))
+    inl (
+      here,
+      same_some h (begun id state.next_serial)
+          (sym is ∙ ap (λ p. held_at (after_begin state place id) p) here ∙ there state log entry place id to begins),
+    )
 holds-by state log entry place id to begins other h is false same =
     inr (sym (elsewhere state place id other (apart_by other place same)) ∙ is)
 
@@ -144,10 +148,17 @@ whole-by state log entry place id to begins serial short lasts true same = recor
 whole-by state log entry place id to begins serial short lasts false same =
     let apart : serial ≢ length (places log) = apart_by serial (length (places log)) same in
     let old : IsHeld state serial =
-    begins.are.whole serial (omega (arith, short, apart)) (λ free. lasts (silent_phase entry log serial (begins.silent serial) ∙ free)) in
+    begins.are.whole serial (omega (arith, short, apart))
+    (λ free. lasts (silent_phase entry log serial (begins.silent serial) ∙ free)) in
     let other : old.place ≢ place =
     λ here. none-held old.stream (sym begins.free ∙ sym (ap (λ p. held_at state p) here) ∙ old.holds) in
-    record { place = old.place; stream = old.stream; holds = elsewhere state place id old.place other ∙ old.holds; named = old.named }
+    record {
+      place = old.place;
+      stream = old.stream;
+      holds = elsewhere state place id old.place other ∙ old.holds;
+      named =
+          old.named;
+    }
 
 pub begun_takes_a_place : (state : PlacesState) (log : Log) (entry : Entry) (place id : ℕ) (to : Address)
     → IsBegun state log entry place id to → ArePlaces (after_begin state place id) (entry ∷ log)
@@ -157,24 +168,30 @@ begun_takes_a_place state log entry place id to begins =
     record {
       next = ap (λ n. n + 1) begins.are.next ∙ sym count;
       streams =
-          λ other h is. streams-by state log entry place id to begins other h (holds state log entry place id to begins other h is);
+          λ other h is. streams-by state log entry place id to begins other h
+          (holds state log entry place id to begins other h is);
       once = λ one other g h is also equal.
-          once-by state log entry place id to begins one other g h (holds state log entry place id to begins one g is) (holds state log entry place id to begins other h also) equal;
+          once-by state log entry place id to begins one other g h (holds state log entry place id to begins one g is)
+          (holds state log entry place id to begins other h also) equal;
       whole =
-          λ serial short lasts. whole-by state log entry place id to begins serial (omega (arith, count, short)) lasts (serial == length (places log)) refl;
+          λ serial short lasts. whole-by state log entry place id to begins serial (omega (arith, count, short)) lasts
+          (serial == length (places log)) refl;
       untold =
-          λ serial beyond. untold_stays entry log serial (begins.silent serial) (begins.are.untold serial (omega (arith, count, beyond)));
+          λ serial beyond. untold_stays entry log serial (begins.silent serial)
+          (begins.are.untold serial (omega (arith, count, beyond)));
     }
 
 free-is : (held : Option PlacedStream) → is_free held ≡ true → held ≡ None
 free-is None is = refl
 free-is (Some h) is = cc
 
-pub begin_takes_a_place : (state : PlacesState) (rules : Rules) (log : Log) (e : Event) (m : Message) (place id : ℕ) (to : Address) →
+pub begin_takes_a_place : (state : PlacesState) (rules : Rules) (log : Log) (e : Event) (m : Message) (place id : ℕ)
+    (to : Address) →
     ArePlaces state log → message_at log e ≡ Some m → m.command ≡ begin_command →
     (effects_after rules log e).edge ≡ Some (Reach (record { stream = id; serial = length (places log) }) to)
     → position is_free state.streams ≡ Some place →
-    ArePlaces (record (with_held state place (Some (begun id state.next_serial))) { next_serial = state.next_serial + 1 }) (entry_after rules log e ∷ log)
+    ArePlaces (record (with_held state place (Some (begun id state.next_serial))) { next_serial = state.next_serial + 1 })
+    (entry_after rules log e ∷ log)
 begin_takes_a_place state rules log e m place id to are found command order first =
     let entry : Entry = entry_after rules log e in
     let no_report : IsNoReport e = message_is_no_report log e m found in

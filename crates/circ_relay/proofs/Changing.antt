@@ -34,7 +34,8 @@ silent_entry_leaves_places state new log entry held next none silent are =
 
 -- One place changes: to another stream with the same serial, or to none where the log has freed it.
 
-pub record IsChange (state : PlacesState) (log : Log) (entry : Entry) (place : ℕ) (g : PlacedStream) (holds : Option PlacedStream) : Type 0 where
+pub record IsChange (state : PlacesState) (log : Log) (entry : Entry) (place : ℕ) (g : PlacedStream)
+    (holds : Option PlacedStream) : Type 0 where
   pub at : held_at state place ≡ Some g
   pub makes_none : place_of entry.effects.edge ≡ None
   pub silent : (serial : ℕ) → serial ≢ g.serial → IsSilent entry serial
@@ -56,7 +57,8 @@ before-by : (state : PlacesState) (log : Log) (entry : Entry) (place : ℕ) (g :
 before-by state log entry place g holds change other h is true same =
     let there : other ≡ place = same_by other place same in
     let fits =
-    change.fits h (sym (held_there state place g holds change.at) ∙ sym (ap (λ p. held_at (with_held state place holds) p) there) ∙ is) in
+    change.fits h (sym (held_there state place g holds change.at) ∙ sym (ap (λ p. held_at (with_held state place holds) p) there)
+    ∙ is) in
     (g, ap (λ p. held_at state p) there ∙ change.at, sym fits.0)
 before-by state log entry place g holds change other h is false same =
     (h, sym (held_elsewhere state place other holds (apart_by other place same)) ∙ is, refl)
@@ -74,7 +76,8 @@ streams-by : (state : PlacesState) (log : Log) (entry : Entry) (place : ℕ) (g 
     → IsOfLog (entry ∷ log) h
 streams-by state log entry place g holds change other h is true same =
     let there : other ≡ place = same_by other place same in
-    (change.fits h (sym (held_there state place g holds change.at) ∙ sym (ap (λ p. held_at (with_held state place holds) p) there) ∙ is)).1
+    (change.fits h (sym (held_there state place g holds change.at) ∙ sym (ap (λ p. held_at (with_held state place holds) p) there)
+    ∙ is)).1
 streams-by state log entry place g holds change other h is false same =
     let apart : other ≢ place = apart_by other place same in
     let old : held_at state other ≡ Some h = sym (held_elsewhere state place other holds apart) ∙ is in
@@ -89,16 +92,31 @@ whole-by : (state : PlacesState) (log : Log) (entry : Entry) (place : ℕ) (g : 
 whole-by state log entry place g holds change serial below lasts true same =
     let named : serial ≡ g.serial = same_by serial g.serial same in
     let still = change.lasts (λ free. lasts (ap (λ n. phase (entry ∷ log) n) named ∙ free)) in
-    record { place = place; stream = still.0; holds = held_there state place g holds change.at ∙ still.1; named = still.2 ∙ sym named }
+    record {
+      place = place;
+      stream = still.0;
+      holds = held_there state place g holds change.at ∙ still.1;
+      named =
+          still.2 ∙ sym named;
+    }
 whole-by state log entry place g holds change serial below lasts false same =
     let apart : serial ≢ g.serial = apart_by serial g.serial same in
     let old : IsHeld state serial =
     change.are.whole serial below (λ free. lasts (silent_phase entry log serial (change.silent serial apart) ∙ free)) in
     let elsewhere : old.place ≢ place =
-    λ there. apart (sym old.named ∙ ap (λ (x : PlacedStream). x.serial) (same_some old.stream g (sym old.holds ∙ ap (λ p. held_at state p) there ∙ change.at))) in
-    record { place = old.place; stream = old.stream; holds = held_elsewhere state place old.place holds elsewhere ∙ old.holds; named = old.named }
+    λ there. apart
+    (sym old.named
+    ∙ ap (λ (x : PlacedStream). x.serial)
+    (same_some old.stream g (sym old.holds ∙ ap (λ p. held_at state p) there ∙ change.at))) in
+    record {
+      place = old.place;
+      stream = old.stream;
+      holds = held_elsewhere state place old.place holds elsewhere ∙ old.holds;
+      named = old.named;
+    }
 
-pub one_place_changes : (state : PlacesState) (log : Log) (entry : Entry) (place : ℕ) (g : PlacedStream) (holds : Option PlacedStream) →
+pub one_place_changes : (state : PlacesState) (log : Log) (entry : Entry) (place : ℕ) (g : PlacedStream)
+    (holds : Option PlacedStream) →
     IsChange state log entry place g holds → ArePlaces (with_held state place holds) (entry ∷ log)
 one_place_changes state log entry place g holds change =
     let are : ArePlaces state log = change.are in
@@ -112,11 +130,13 @@ one_place_changes state log entry place g holds change =
           let y = before state log entry place g holds change other b also in
           are.once one other x.0 y.0 x.1 y.1 (x.2 ∙ equal ∙ sym y.2);
       whole =
-          λ serial below lasts. whole-by state log entry place g holds change serial (omega (arith, count, below)) lasts (serial == g.serial) refl;
+          λ serial below lasts. whole-by state log entry place g holds change serial (omega (arith, count, below)) lasts
+          (serial == g.serial) refl;
       untold = λ serial beyond.
           let within : g.serial < length (places log) =
           slice_get_within (places log) g.serial (are.streams place g change.at).place (are.streams place g change.at).found in
-          untold_stays entry log serial (change.silent serial (λ same. omega (arith, count, beyond, within, same))) (are.untold serial (omega (arith, count, beyond)));
+          untold_stays entry log serial (change.silent serial (λ same. omega (arith, count, beyond, within, same)))
+          (are.untold serial (omega (arith, count, beyond)));
     }
 
 -- The place holds the stream as it has become.

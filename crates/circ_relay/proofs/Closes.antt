@@ -26,7 +26,8 @@ pub record IsClosing (entry : Entry) (key : StreamKey) (reason : ℕ) : Type 0 w
   pub packs : (serial : ℕ) → is_data_of serial entry.event ≡ false
   pub drains : (serial : ℕ) → drains serial entry.event ≡ false
 
-pub order_closes : (state : PlacesState) (log : Log) (entry : Entry) (place : ℕ) (h : PlacedStream) (key : StreamKey) (reason : ℕ) →
+pub order_closes : (state : PlacesState) (log : Log) (entry : Entry) (place : ℕ) (h : PlacedStream) (key : StreamKey) (reason : ℕ)
+    →
     ArePlaces state log → held_at state place ≡ Some h → key.serial ≡ h.serial → IsClosing entry key reason →
     ArePlaces (with_held state place (Some (record h { phase = held_ending }))) (entry ∷ log)
 order_closes state log entry place h key reason are at named closing =
@@ -69,7 +70,8 @@ ended-orders rules log serial reason place live found = rw (live, found) refl
 
 pub ended_ends : (state : PlacesState) (rules : Rules) (log : Log) (place : ℕ) (h : PlacedStream) (reason : ℕ) →
     ArePlaces state log → is_closed log ≡ false → held_at state place ≡ Some h →
-    ArePlaces (with_held state place (Some (record h { phase = held_ending }))) (entry_after rules log (Ended h.serial reason) ∷ log)
+    ArePlaces (with_held state place (Some (record h { phase = held_ending })))
+    (entry_after rules log (Ended h.serial reason) ∷ log)
 ended_ends state rules log place h reason are live at =
     let entry : Entry = entry_after rules log (Ended h.serial reason) in
     let is : IsOfLog log h = are.streams place h at in

@@ -19,14 +19,17 @@ spread true x xs ys zs e = ap (λ (l : List Bodies). x ∷ l) e
 spread false x xs ys zs e = e
 
 one_more_body : (bodies : Bodies) (body : List ℕ) →
-    up_to_each_data (bodies ++ body ∷ []) ≡ up_to_each_data bodies ++ (if is_data_body (Some body) then (bodies ++ body ∷ []) ∷ [] else [])
+    up_to_each_data (bodies ++ body ∷ []) ≡ up_to_each_data bodies
+    ++ (if is_data_body (Some body) then (bodies ++ body ∷ []) ∷ [] else [])
 one_more_body [] body = refl
 one_more_body (first ∷ bodies) body =
     let begun : Bodies → Bodies = λ (more : Bodies). first ∷ more in
-    let behind : map begun (up_to_each_data (bodies ++ body ∷ [])) ≡ map begun (up_to_each_data bodies) ++ (if is_data_body (Some body) then (first ∷ bodies ++ body ∷ []) ∷ [] else []) =
+    let behind : map begun (up_to_each_data (bodies ++ body ∷ [])) ≡ map begun (up_to_each_data bodies)
+    ++ (if is_data_body (Some body) then (first ∷ bodies ++ body ∷ []) ∷ [] else []) =
     ap (map begun) (one_more_body bodies body)
     ∙ map-append begun (up_to_each_data bodies) _
-    ∙ ap (λ (l : List Bodies). map begun (up_to_each_data bodies) ++ l) (mapped_one begun (is_data_body (Some body)) (bodies ++ body ∷ [])) in
+    ∙ ap (λ (l : List Bodies). map begun (up_to_each_data bodies) ++ l)
+    (mapped_one begun (is_data_body (Some body)) (bodies ++ body ∷ [])) in
     spread (is_data_body (Some first)) (first ∷ []) _ _ _ behind
 
 -- One more that is DATA.
@@ -47,7 +50,8 @@ counted true x xs = length-append xs (x ∷ [])
 counted false x xs = ap length (append-nil xs)
 
 count_pushed : (bodies : Bodies) (next : Option (List ℕ))
-    → length (up_to_each_data (pushed bodies next)) ≡ (if is_data_body next then length (up_to_each_data bodies) + 1 else length (up_to_each_data bodies))
+    → length (up_to_each_data (pushed bodies next))
+    ≡ (if is_data_body next then length (up_to_each_data bodies) + 1 else length (up_to_each_data bodies))
 count_pushed bodies None = refl
 count_pushed bodies (Some body) =
     ap length (one_more_body bodies body) ∙ counted (is_data_body (Some body)) (bodies ++ body ∷ []) (up_to_each_data bodies)

@@ -83,13 +83,16 @@ pub placeless_data_does : (log : Log) (m : Message) → m.place ≡ None → dat
 placeless_data_does log m none = ap (λ p. data_at log m p) none
 
 -- The circuit's window behind a DATA that is accepted.
-data_window : (message : CodeMessage) (rules : Rules) (log : Log) (command : ℕ) (body : List ℕ) (m : Message) (outcome : Effects) → IsBrought message log command body m
+data_window : (message : CodeMessage) (rules : Rules) (log : Log) (command : ℕ) (body : List ℕ) (m : Message) (outcome : Effects)
+    → IsBrought message log command body m
     → m.command ≡ data_command → effects_after rules log (Forward command body) ≡ outcome → outcome.close ≡ None
     → window_of (after_cell rules log command body) ≡ after_accepting (window_of log)
 data_window message rules log command body m outcome b is does_ open_ =
-    data_message_moves rules log (Forward command body) m (found message log command body m b) is (ap (λ (e : Effects). e.close) does_ ∙ open_)
+    data_message_moves rules log (Forward command body) m (found message log command body m b) is
+    (ap (λ (e : Effects). e.close) does_ ∙ open_)
 
-pub placeless_data_parts : (c d : Circuit) (message : CodeMessage) (rules : Rules) (log : Log) (command : ℕ) (body : List ℕ) (m : Message)
+pub placeless_data_parts : (c d : Circuit) (message : CodeMessage) (rules : Rules) (log : Log) (command : ℕ) (body : List ℕ)
+    (m : Message)
     → IsBrought message log command body m → HasParts c log → m.command ≡ data_command → m.place ≡ None
     → IsPackagedNext d.packager log (acknowledging log m).back → HasCountsOf d.windows (after_accepting (window_of log))
     → d ≡ record c { packager = d.packager; windows = d.windows } → HasParts d (after_cell rules log command body)
@@ -100,7 +103,8 @@ placeless_data_parts c d message rules log command body m b has is none packages
     (cell_parts c (record c { packager = d.packager; windows = d.windows }) rules log command body (acknowledging log m) has given
     (acknowledging-dial log m) (acknowledging-cut log m) (ap place_of (acknowledging-edge log m)) refl refl refl packages
     (subst (λ w. HasCountsOf d.windows w) (sym window) stands)
-    (placeless_places c.places message rules log command body m b (ap (λ k. k == begin_command) is) none has.places) (same_streams c.places))
+    (placeless_places c.places message rules log command body m b (ap (λ k. k == begin_command) is) none has.places)
+    (same_streams c.places))
 
 accepted_by : (may : Bool) (answer : AcceptAnswer) → answer ≡ (if may then AcceptAnswer.Accepted else AcceptAnswer.Overrun)
     → answer ≡ AcceptAnswer.Accepted → may ≡ true
@@ -113,30 +117,41 @@ overrun_by : (may : Bool) (answer : AcceptAnswer) → answer ≡ (if may then Ac
 overrun_by false answer by is = refl
 overrun_by true answer by is = (let never : ◌≡◌ {A = AcceptAnswer} AcceptAnswer.Accepted AcceptAnswer.Overrun = sym by ∙ is in cc)
 
-pub overrun_does : (s : PlacesState) (log : Log) (m : Message) (place : ℕ) (h : PlacedStream) (answer : AcceptAnswer) → ArePlaces s log
+pub overrun_does : (s : PlacesState) (log : Log) (m : Message) (place : ℕ) (h : PlacedStream) (answer : AcceptAnswer)
+    → ArePlaces s log
     → held_at s place ≡ Some h → m.place ≡ Some h.serial
     → answer ≡ (if may_accept h then AcceptAnswer.Accepted else AcceptAnswer.Overrun) → answer ≡ AcceptAnswer.Overrun
     → data_effects log m ≡ closing 1
 overrun_does s log m place h answer are holds named by is =
     let test : nat_le (accept_grant log h.serial) (carried_count log h.serial) ≡ true =
-    unnot (nat_le (accept_grant log h.serial) (carried_count log h.serial)) (sym (may_accept_by_the_log s log place h are holds) ∙ overrun_by (may_accept h) answer by is) in
+    unnot (nat_le (accept_grant log h.serial) (carried_count log h.serial))
+    (sym (may_accept_by_the_log s log place h are holds) ∙ overrun_by (may_accept h) answer by is) in
     ap (λ p. data_at log m p) named
-    ∙ ap (λ (b : Bool). if b then closing 1 else record (acknowledging log m) { edge = Some (Carry (record { stream = m.stream; serial = h.serial }) m.payload) }) test
+    ∙ ap (λ (b : Bool). if b then closing 1
+    else record (acknowledging log m) { edge = Some (Carry (record { stream = m.stream; serial = h.serial }) m.payload) })
+    test
 
-pub accepted_does : (s : PlacesState) (log : Log) (m : Message) (place : ℕ) (h : PlacedStream) (answer : AcceptAnswer) → ArePlaces s log
+pub accepted_does : (s : PlacesState) (log : Log) (m : Message) (place : ℕ) (h : PlacedStream) (answer : AcceptAnswer)
+    → ArePlaces s log
     → held_at s place ≡ Some h → m.place ≡ Some h.serial
     → answer ≡ (if may_accept h then AcceptAnswer.Accepted else AcceptAnswer.Overrun) → answer ≡ AcceptAnswer.Accepted
-    → data_effects log m ≡ record (acknowledging log m) { edge = Some (Carry (record { stream = m.stream; serial = h.serial }) m.payload) }
+    → data_effects log m
+    ≡ record (acknowledging log m) { edge = Some (Carry (record { stream = m.stream; serial = h.serial }) m.payload) }
 accepted_does s log m place h answer are holds named by is =
     let test : nat_le (accept_grant log h.serial) (carried_count log h.serial) ≡ false =
-    not-true (nat_le (accept_grant log h.serial) (carried_count log h.serial)) (sym (may_accept_by_the_log s log place h are holds) ∙ accepted_by (may_accept h) answer by is) in
+    not-true (nat_le (accept_grant log h.serial) (carried_count log h.serial))
+    (sym (may_accept_by_the_log s log place h are holds) ∙ accepted_by (may_accept h) answer by is) in
     ap (λ p. data_at log m p) named
-    ∙ ap (λ (b : Bool). if b then closing 1 else record (acknowledging log m) { edge = Some (Carry (record { stream = m.stream; serial = h.serial }) m.payload) }) test
+    ∙ ap (λ (b : Bool). if b then closing 1
+    else record (acknowledging log m) { edge = Some (Carry (record { stream = m.stream; serial = h.serial }) m.payload) })
+    test
 
-pub carried_effects : (outcome : CodeEffects) (acknowledged : Effects) (key : CodeKey) (bytes : Roomy ℕ) (stream : ℕ) (payload : List ℕ) (m : Message) (serial : ℕ)
+pub carried_effects : (outcome : CodeEffects) (acknowledged : Effects) (key : CodeKey) (bytes : Roomy ℕ) (stream : ℕ)
+    (payload : List ℕ) (m : Message) (serial : ℕ)
     → effects_of outcome ≡ acknowledged
     → key_of key ≡ record { stream = stream; serial = serial } → bytes.items ≡ payload → stream ≡ m.stream → payload ≡ m.payload
-    → effects_of (record outcome { edge = Some (CodeCarry key bytes) }) ≡ record acknowledged { edge = Some (Carry (record { stream = m.stream; serial = serial }) m.payload) }
+    → effects_of (record outcome { edge = Some (CodeCarry key bytes) })
+    ≡ record acknowledged { edge = Some (Carry (record { stream = m.stream; serial = serial }) m.payload) }
 carried_effects outcome acknowledged key bytes stream payload m serial is named carried_ streamed paid =
     ap (λ (e : Effects). record e { edge = Some (Carry (key_of key) bytes.items) }) is
     ∙ rw (named, carried_, streamed, paid) refl
@@ -145,14 +160,16 @@ accepted_serial : (h : PlacedStream) (may : Bool) → h.serial ≡ (if may then 
 accepted_serial h true = refl
 accepted_serial h false = refl
 
-pub accepted_parts : (c d : Circuit) (new : PlacesState) (message : CodeMessage) (rules : Rules) (log : Log) (command : ℕ) (body : List ℕ) (m : Message) (place : ℕ) (h : PlacedStream) (answer : AcceptAnswer)
+pub accepted_parts : (c d : Circuit) (new : PlacesState) (message : CodeMessage) (rules : Rules) (log : Log) (command : ℕ)
+    (body : List ℕ) (m : Message) (place : ℕ) (h : PlacedStream) (answer : AcceptAnswer)
     → IsBrought message log command body m → HasParts c log → m.command ≡ data_command → m.place ≡ Some h.serial
     → held_at c.places place ≡ Some h
     → answer ≡ (if may_accept h then AcceptAnswer.Accepted else AcceptAnswer.Overrun) → answer ≡ AcceptAnswer.Accepted
     → new ≡ with_held c.places place (Some (after_one_more h))
     → IsPackagedNext d.packager log (acknowledging log m).back → HasCountsOf d.windows (after_accepting (window_of log))
     → d ≡ record c { packager = d.packager; windows = d.windows; places = new } → HasParts d (after_cell rules log command body)
-accepted_parts c d new message rules log command body m place h answer b has is named holds by accepts becomes packages stands rest =
+accepted_parts c d new message rules log command body m place h answer b has is named holds by accepts becomes packages stands
+    rest =
     let order : Effects =
     record (acknowledging log m) { edge = Some (Carry (record { stream = m.stream; serial = h.serial }) m.payload) } in
     let given : effects_after rules log (Forward command body) ≡ order =
@@ -160,9 +177,13 @@ accepted_parts c d new message rules log command body m place h answer b has is 
     ∙ accepted_does c.places log m place h answer has.places holds named by accepts in
     let window = data_window message rules log command body m order b is given (acknowledging-close log m) in
     let are : ArePlaces new (after_cell rules log command body) =
-    subst (λ s. ArePlaces s (after_cell rules log command body)) (sym becomes) (data_accepts c.places rules log (Forward command body) m place h has.places (found message log command body m b) is named holds) in
+    subst (λ s. ArePlaces s (after_cell rules log command body)) (sym becomes)
+    (data_accepts c.places rules log (Forward command body) m place h has.places (found message log command body m b) is named
+    holds) in
     let keeps : KeepsStreams c.places new =
-    subst (λ s. KeepsStreams c.places s) (sym becomes) (changed_streams c.places place h (Some (after_one_more h)) holds (same_held h (after_one_more h) (sym (accepted_serial h (may_accept h))))) in
+    subst (λ s. KeepsStreams c.places s) (sym becomes)
+    (changed_streams c.places place h (Some (after_one_more h)) holds
+    (same_held h (after_one_more h) (sym (accepted_serial h (may_accept h))))) in
     subst (λ e. HasParts e (after_cell rules log command body)) (sym rest)
     (cell_parts c (record c { packager = d.packager; windows = d.windows; places = new }) rules log command body order has given
     (acknowledging-dial log m) (acknowledging-cut log m) refl refl refl refl packages

@@ -35,10 +35,12 @@ pub when_open : (closed : Bool) (x : Effects) → closed ≡ false → (if close
 when_open true x live = cc
 when_open false x live = refl
 
-pub connected_does : (state : PlacesState) (rules : Rules) (log : Log) (place : ℕ) (h : PlacedStream) (p : Place) → ArePlaces state log
+pub connected_does : (state : PlacesState) (rules : Rules) (log : Log) (place : ℕ) (h : PlacedStream) (p : Place)
+    → ArePlaces state log
     → is_closed log ≡ false →
     held_at state place ≡ Some h → place_at log h.serial ≡ Some p →
-    effects_after rules log (Connected h.serial) ≡ packaging log connected_command h.stream (connected_payload p.to.ip time_to_live)
+    effects_after rules log (Connected h.serial) ≡ packaging log connected_command h.stream
+    (connected_payload p.to.ip time_to_live)
 unfolding open_effects
 connected_does state rules log place h p are live at found =
     let is : IsOfLog log h = are.streams place h at in
@@ -48,7 +50,8 @@ connected_does state rules log place h p are live at found =
     ∙ ap (connected_effects log) found
     ∙ ap (λ (k : StreamKey). packaging log connected_command k.stream (connected_payload p.to.ip time_to_live)) key
 
-pub bytes_do : (state : PlacesState) (rules : Rules) (log : Log) (place : ℕ) (h : PlacedStream) (bytes : List ℕ) → ArePlaces state log
+pub bytes_do : (state : PlacesState) (rules : Rules) (log : Log) (place : ℕ) (h : PlacedStream) (bytes : List ℕ)
+    → ArePlaces state log
     → is_closed log ≡ false →
     held_at state place ≡ Some h → effects_after rules log (Data h.serial bytes) ≡ packaging log data_command h.stream bytes
 unfolding open_effects
@@ -58,10 +61,12 @@ bytes_do state rules log place h bytes are live at =
     ∙ ap (edge_data_effects log bytes) is.found
     ∙ ap (λ (k : StreamKey). packaging log data_command k.stream bytes) is.key
 
-pub ended_does : (state : PlacesState) (rules : Rules) (log : Log) (place : ℕ) (h : PlacedStream) (reason : ℕ) → ArePlaces state log
+pub ended_does : (state : PlacesState) (rules : Rules) (log : Log) (place : ℕ) (h : PlacedStream) (reason : ℕ)
+    → ArePlaces state log
     → is_closed log ≡ false →
     held_at state place ≡ Some h
-    → effects_after rules log (Ended h.serial reason) ≡ record (ending log h.stream reason) { edge = Some (Close (stream_key h) reason) }
+    → effects_after rules log (Ended h.serial reason) ≡ record (ending log h.stream reason)
+    { edge = Some (Close (stream_key h) reason) }
 unfolding open_effects
 ended_does state rules log place h reason are live at =
     let is : IsOfLog log h = are.streams place h at in
@@ -76,7 +81,8 @@ due-by false due other is = cc
 due-is : (h : PlacedStream) (due : Bool) → sendme_due h ≡ Some due → ((h.drained + 1) % 50 == 0) ≡ due
 due-is h due is = due-by (may_drain h) ((h.drained + 1) % 50 == 0) due is
 
-pub drained_does : (state : PlacesState) (rules : Rules) (log : Log) (place : ℕ) (h : PlacedStream) (due : Bool) → ArePlaces state log
+pub drained_does : (state : PlacesState) (rules : Rules) (log : Log) (place : ℕ) (h : PlacedStream) (due : Bool)
+    → ArePlaces state log
     → is_closed log ≡ false →
     held_at state place ≡ Some h → sendme_due h ≡ Some due →
     effects_after rules log (Drained h.serial) ≡ (if due then packaging log sendme_command h.stream [] else no_effects)
@@ -85,7 +91,8 @@ drained_does state rules log place h due are live at is_due =
     let is : IsOfLog log h = are.streams place h at in
     when_open (is_closed log) (drained_effects log (place_at log h.serial)) live
     ∙ ap (drained_effects log) is.found
-    ∙ ap (λ (k : StreamKey). if ((drained_count log k.serial + 1) % 50) == 0 then packaging log sendme_command k.stream [] else no_effects) is.key
+    ∙ ap (λ (k : StreamKey). if ((drained_count log k.serial + 1) % 50) == 0 then packaging log sendme_command k.stream []
+    else no_effects) is.key
     ∙ ap (λ n. if ((n + 1) % 50) == 0 then packaging log sendme_command h.stream [] else no_effects) (sym is.drained)
     ∙ ap (λ (b : Bool). if b then packaging log sendme_command h.stream [] else no_effects) (due-is h due is_due)
 
@@ -105,17 +112,21 @@ not-not false true false is same = refl
 not-not false false c is same = cc
 
 data-carries : (log : Log) (m : Message) (serial : ℕ) → nat_le (log_accept_grant log serial) (carried_count log serial) ≡ false →
-    data_at log m (Some serial) ≡ record (acknowledging log m) { edge = Some (Carry (record { stream = m.stream; serial = serial }) m.payload) }
+    data_at log m (Some serial)
+    ≡ record (acknowledging log m) { edge = Some (Carry (record { stream = m.stream; serial = serial }) m.payload) }
 data-carries log m serial room = rw room refl
 
 pub data_does : (state : PlacesState) (rules : Rules) (log : Log) (e : Event) (m : Message) (place : ℕ) (h : PlacedStream)
     → ArePlaces state log →
     message_at log e ≡ Some m → m.command ≡ data_command → m.place ≡ Some h.serial → held_at state place ≡ Some h
     → may_accept h ≡ true →
-    effects_after rules log e ≡ record (acknowledging log m) { edge = Some (Carry (record { stream = m.stream; serial = h.serial }) m.payload) }
+    effects_after rules log e
+    ≡ record (acknowledging log m) { edge = Some (Carry (record { stream = m.stream; serial = h.serial }) m.payload) }
 data_does state rules log e m place h are found command named at may =
     read-effects rules log e m found ∙ data-does rules log m h.serial command named
-    ∙ data-carries log m h.serial (not-not (may_accept h) (nat_le (log_accept_grant log h.serial) (carried_count log h.serial)) true (may_accept_by_the_log state log place h are at) may)
+    ∙ data-carries log m h.serial
+    (not-not (may_accept h) (nat_le (log_accept_grant log h.serial) (carried_count log h.serial)) true
+    (may_accept_by_the_log state log place h are at) may)
 
 pub overrun_does : (state : PlacesState) (rules : Rules) (log : Log) (e : Event) (m : Message) (place : ℕ) (h : PlacedStream)
     → ArePlaces state log →
@@ -124,7 +135,9 @@ pub overrun_does : (state : PlacesState) (rules : Rules) (log : Log) (e : Event)
     effects_after rules log e ≡ closing 1
 overrun_does state rules log e m place h are found command named at may =
     read-effects rules log e m found ∙ data-does rules log m h.serial command named
-    ∙ data-overrun log m h.serial (not-not (may_accept h) (nat_le (log_accept_grant log h.serial) (carried_count log h.serial)) false (may_accept_by_the_log state log place h are at) may)
+    ∙ data-overrun log m h.serial
+    (not-not (may_accept h) (nat_le (log_accept_grant log h.serial) (carried_count log h.serial)) false
+    (may_accept_by_the_log state log place h are at) may)
 
 pub sendme_does : (state : PlacesState) (rules : Rules) (log : Log) (e : Event) (m : Message) (place : ℕ) (h : PlacedStream)
     → ArePlaces state log →
@@ -134,7 +147,8 @@ pub sendme_does : (state : PlacesState) (rules : Rules) (log : Log) (e : Event) 
 sendme_does state rules log e m place h are found command stream named at may =
     let nonzero : (m.stream == 0) ≡ false = grind arith in
     read-effects rules log e m found ∙ sendme-does rules log m h.serial command nonzero named
-    ∙ sendme-raises log h.serial (not-not (may_credit h) (too_much log h.serial) true (may_credit_by_the_log state log place h are at) may)
+    ∙ sendme-raises log h.serial
+    (not-not (may_credit h) (too_much log h.serial) true (may_credit_by_the_log state log place h are at) may)
 
 pub too_much_does : (state : PlacesState) (rules : Rules) (log : Log) (e : Event) (m : Message) (place : ℕ) (h : PlacedStream)
     → ArePlaces state log →
@@ -144,7 +158,8 @@ pub too_much_does : (state : PlacesState) (rules : Rules) (log : Log) (e : Event
 too_much_does state rules log e m place h are found command stream named at may =
     let nonzero : (m.stream == 0) ≡ false = grind arith in
     read-effects rules log e m found ∙ sendme-does rules log m h.serial command nonzero named
-    ∙ sendme-closes log h.serial (not-not (may_credit h) (too_much log h.serial) false (may_credit_by_the_log state log place h are at) may)
+    ∙ sendme-closes log h.serial
+    (not-not (may_credit h) (too_much log h.serial) false (may_credit_by_the_log state log place h are at) may)
 
 -- BEGIN.
 
@@ -176,9 +191,11 @@ pub full_does : (state : PlacesState) (rules : Rules) (log : Log) (e : Event) (m
 full_does state rules log e m target are named whole found command stream free asked none =
     let nonzero : (m.stream == 0) ≡ false = grind arith in
     read-effects rules log e m found ∙ begin-is rules log m target command nonzero free asked
-    ∙ full-begins rules log m.stream target (sym (full_by_the_log state log are named whole) ∙ ap (λ (x : Option ℕ). is_none x) none)
+    ∙ full-begins rules log m.stream target
+    (sym (full_by_the_log state log are named whole) ∙ ap (λ (x : Option ℕ). is_none x) none)
 
-pub begin_does : (state : PlacesState) (rules : Rules) (log : Log) (e : Event) (m : Message) (target : Target) (place : ℕ) (to : Address)
+pub begin_does : (state : PlacesState) (rules : Rules) (log : Log) (e : Event) (m : Message) (target : Target) (place : ℕ)
+    (to : Address)
     → ArePlaces state log → AreNamed log → length state.streams ≡ 32 →
     message_at log e ≡ Some m → m.command ≡ begin_command → 0 < m.stream → m.place ≡ None → begin_target m.payload ≡ Some target
     → position is_free state.streams ≡ Some place → allowed_address rules target ≡ Some to →
@@ -186,7 +203,8 @@ pub begin_does : (state : PlacesState) (rules : Rules) (log : Log) (e : Event) (
 begin_does state rules log e m target place to are named whole found command stream free asked some allowed =
     let nonzero : (m.stream == 0) ≡ false = grind arith in
     read-effects rules log e m found ∙ begin-is rules log m target command nonzero free asked
-    ∙ room-begins rules log m.stream target to (sym (full_by_the_log state log are named whole) ∙ ap (λ (x : Option ℕ). is_none x) some) allowed
+    ∙ room-begins rules log m.stream target to
+    (sym (full_by_the_log state log are named whole) ∙ ap (λ (x : Option ℕ). is_none x) some) allowed
     ∙ ap (λ (n : ℕ). ordering (Reach (record { stream = m.stream; serial = n }) to)) (sym are.next)
 
 pub unallowed_does : (state : PlacesState) (rules : Rules) (log : Log) (e : Event) (m : Message) (target : Target) (place : ℕ)
@@ -197,7 +215,8 @@ pub unallowed_does : (state : PlacesState) (rules : Rules) (log : Log) (e : Even
 unallowed_does state rules log e m target place are named whole found command stream free asked some unallowed =
     let nonzero : (m.stream == 0) ≡ false = grind arith in
     read-effects rules log e m found ∙ begin-is rules log m target command nonzero free asked
-    ∙ unallowed-begins rules log m.stream target (sym (full_by_the_log state log are named whole) ∙ ap (λ (x : Option ℕ). is_none x) some) unallowed
+    ∙ unallowed-begins rules log m.stream target
+    (sym (full_by_the_log state log are named whole) ∙ ap (λ (x : Option ℕ). is_none x) some) unallowed
 
 -- A place that was made stays, and the address that its stream is connected to.
 
@@ -216,5 +235,6 @@ place_lasts log entry serial place found = stays-by log entry serial place (plac
 pub place_begins : (log : Log) (entry : Entry) (key : StreamKey) (to : Address) → entry.effects.edge ≡ Some (Reach key to) →
     place_at (entry ∷ log) (length (places log)) ≡ Some (record { key = key; to = to })
 place_begins log entry key to order =
-    ap (λ (xs : List Place). slice_get xs (length (places log))) (places_more entry log (record { key = key; to = to }) (ap place_of order))
+    ap (λ (xs : List Place). slice_get xs (length (places log)))
+    (places_more entry log (record { key = key; to = to }) (ap place_of order))
     ∙ got_last (places log) (record { key = key; to = to })

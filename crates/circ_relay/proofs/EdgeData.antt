@@ -36,20 +36,24 @@ due_is stream due may is =
     let test : sendme_due stream ≡ Some (((stream.drained + 1) % 50) == 0) = rw may refl in
     test ∙ ap (λ (b : Bool). Some b) (sym (is ∙ ap (λ o. unwrap_or o false) test))
 
-pub drained_packs : (c : Circuit) (rules : Rules) (h : List Event) (key : StreamKey) (place : ℕ) (stream : PlacedStream) (due : Bool)
+pub drained_packs : (c : Circuit) (rules : Rules) (h : List Event) (key : StreamKey) (place : ℕ) (stream : PlacedStream)
+    (due : Bool)
     → IsAt c key place stream → stream.drained < stream.accepted → due ≡ unwrap_or (sendme_due stream) false
     → IsCircuit c rules h
-    → effects rules h (Drained key.serial) ≡ (if due then packs (log rules h) (relay_body sendme_command key.id []) else no_effects)
+    → effects rules h (Drained key.serial)
+    ≡ (if due then packs (log rules h) (relay_body sendme_command key.id []) else no_effects)
 drained_packs c rules h key place stream due at undrained due_by is =
     let names = named c key place stream at in
     ap (λ n. effects rules h (Drained n)) (sym names.1)
-    ∙ drained_does c.places rules (log rules h) place stream due is.parts.places is.unclosed at.held (due_is stream due (may_drain_is stream undrained) due_by)
+    ∙ drained_does c.places rules (log rules h) place stream due is.parts.places is.unclosed at.held
+    (due_is stream due (may_drain_is stream undrained) due_by)
     ∙ ap (λ id. if due then packs (log rules h) (relay_body sendme_command id []) else no_effects) names.0
 
 drained_serial : (stream : PlacedStream) → may_drain stream ≡ true → (after_draining stream).serial ≡ stream.serial
 drained_serial stream may = rw may refl
 
-pub drained_goes_on : (c new : Circuit) (rules : Rules) (h : List Event) (key : StreamKey) (place : ℕ) (stream : PlacedStream) (x : Effects)
+pub drained_goes_on : (c new : Circuit) (rules : Rules) (h : List Event) (key : StreamKey) (place : ℕ) (stream : PlacedStream)
+    (x : Effects)
     → IsAt c key place stream → stream.drained < stream.accepted
     → new ≡ record c { packager = new.packager; places = with_held c.places place (Some (after_draining stream)) }
     → IsPlainReport rules (log rules h) (Drained key.serial) x → IsPackagedNext new.packager (log rules h) x.back
@@ -65,11 +69,13 @@ drained_goes_on c new rules h key place stream x at undrained rest report next i
       packager = packager_after_report new.packager rules (log rules h) (Drained key.serial) x report next;
       leaves = drained_leaves rules (log rules h) key.serial;
       places =
-          subst (λ n. ArePlaces (with_held c.places place (Some (after_draining stream))) (entry_after rules (log rules h) (Drained n) ∷ log rules h)) names.1
+          subst (λ n. ArePlaces (with_held c.places place (Some (after_draining stream)))
+          (entry_after rules (log rules h) (Drained n) ∷ log rules h)) names.1
           (drained_drains c.places rules (log rules h) place stream is.parts.places at.held (may_drain_is stream undrained));
     }
 
-pub due_goes_on : (c new : Circuit) (rules : Rules) (h : List Event) (key : StreamKey) (place : ℕ) (stream : PlacedStream) (body : List ℕ)
+pub due_goes_on : (c new : Circuit) (rules : Rules) (h : List Event) (key : StreamKey) (place : ℕ) (stream : PlacedStream)
+    (body : List ℕ)
     → IsAt c key place stream → stream.drained < stream.accepted
     → new ≡ record c { packager = new.packager; places = with_held c.places place (Some (after_draining stream)) }
     → (IsPackager c.packager (log rules h) → IsPackagedNext new.packager (log rules h) (Some (finished (log rules h) body)))
@@ -107,7 +113,13 @@ freed_goes_on c new rules h key place stream at rest is =
     let names = named c key place stream at in
     let same : new.packager ≡ c.packager = ap (λ (y : Circuit). y.packager) rest in
     let report : IsPlainReport rules (log rules h) (Freed key.serial) no_effects =
-    record { report = refl; gives = freed-gives rules (log rules h) key.serial is.unclosed; plain = plain_nothing; close = refl } in
+    record {
+      report = refl;
+      gives = freed-gives rules (log rules h) key.serial is.unclosed;
+      plain = plain_nothing;
+      close =
+          refl;
+    } in
     report_goes_on c new rules h (Freed key.serial) no_effects place stream None record {
       before = is;
       is = report;
@@ -124,7 +136,8 @@ freed_goes_on c new rules h key place stream at rest is =
 
 -- Bytes.
 
-pub data_packs : (c : Circuit) (rules : Rules) (h : List Event) (key : StreamKey) (place : ℕ) (stream : PlacedStream) (bytes body : List ℕ)
+pub data_packs : (c : Circuit) (rules : Rules) (h : List Event) (key : StreamKey) (place : ℕ) (stream : PlacedStream)
+    (bytes body : List ℕ)
     → IsAt c key place stream → body ≡ relay_body data_command key.id bytes
     → IsCircuit c rules h → effects rules h (Data key.serial bytes) ≡ packs (log rules h) body
 data_packs c rules h key place stream bytes body at body_is is =
@@ -134,7 +147,8 @@ data_packs c rules h key place stream bytes body at body_is is =
     ∙ ap (λ id. packs (log rules h) (relay_body data_command id bytes)) names.0
     ∙ ap (packs (log rules h)) (sym body_is)
 
-pub data_windows : (c : Circuit) (state : WindowsState) (rules : Rules) (h : List Event) (key : StreamKey) (place : ℕ) (stream : PlacedStream) (bytes body sent digest : List ℕ)
+pub data_windows : (c : Circuit) (state : WindowsState) (rules : Rules) (h : List Event) (key : StreamKey) (place : ℕ)
+    (stream : PlacedStream) (bytes body sent digest : List ℕ)
     → IsAt c key place stream → body ≡ relay_body data_command key.id bytes → sent ≡ finished (log rules h) body
     → digest ≡ back_digest (log rules h) (own_bodies (log rules h) ++ sent ∷ [])
     → ((w : CircuitWindow) → HasCountsOf c.windows w → HasCountsOf state (after_packaging w digest))
@@ -145,18 +159,25 @@ data_windows c state rules h key place stream bytes body sent digest at body_is 
     let id : key.id ≡ of_log.place.key.stream = sym (ap (λ (k : ModelKey). k.stream) of_log.key ∙ names.0) in
     let body_of_log : body ≡ relay_body data_command of_log.place.key.stream bytes =
     body_is ∙ ap (λ n. relay_body data_command n bytes) id in
-    let digest_of_log : digest ≡ back_digest (log rules h) (own_bodies (log rules h) ++ package_of (log rules h) data_command of_log.place.key.stream bytes ∷ []) =
+    let digest_of_log : digest ≡ back_digest (log rules h)
+    (own_bodies (log rules h) ++ package_of (log rules h) data_command of_log.place.key.stream bytes ∷ []) =
     digest_is
-    ∙ ap (λ (b : List ℕ). back_digest (log rules h) (own_bodies (log rules h) ++ b ∷ [])) (sent_is ∙ ap (finished (log rules h)) body_of_log) in
+    ∙ ap (λ (b : List ℕ). back_digest (log rules h) (own_bodies (log rules h) ++ b ∷ []))
+    (sent_is ∙ ap (finished (log rules h)) body_of_log) in
     let moved : window_of (log rules (Data key.serial bytes ∷ h)) ≡ after_packaging (window_of (log rules h)) digest =
     ap (λ n. window_of (log rules (Data n bytes ∷ h))) (sym names.1)
     ∙ edge_data_moves rules (log rules h) stream.serial bytes of_log.place is.unclosed of_log.found
     ∙ ap (after_packaging (window_of (log rules h))) (sym digest_of_log) in
     subst (λ w. HasCountsOf state w) (sym moved) (stands (window_of (log rules h)) is.parts.windows)
 
-pub data_goes_on : (c new : Circuit) (rules : Rules) (h : List Event) (key : StreamKey) (place : ℕ) (stream : PlacedStream) (bytes body : List ℕ)
+pub data_goes_on : (c new : Circuit) (rules : Rules) (h : List Event) (key : StreamKey) (place : ℕ) (stream : PlacedStream)
+    (bytes body : List ℕ)
     → IsAt c key place stream
-    → new ≡ record c { packager = new.packager; windows = new.windows; places = with_held c.places place (Some (one_packaged stream)) }
+    → new ≡ record c {
+      packager = new.packager;
+      windows = new.windows;
+      places = with_held c.places place (Some (one_packaged stream));
+    }
     → (IsPackager c.packager (log rules h) → IsPackagedNext new.packager (log rules h) (Some (finished (log rules h) body)))
     → effects rules h (Data key.serial bytes) ≡ packs (log rules h) body
     → KeepsLimits c.windows new.windows
@@ -179,6 +200,7 @@ data_goes_on c new rules h key place stream bytes body at rest next gives limits
       packager = packager_after_report new.packager rules (log rules h) (Data key.serial bytes) x report (next is.parts.packager);
       windows = windows;
       places =
-          subst (λ n. ArePlaces (with_held c.places place (Some (one_packaged stream))) (entry_after rules (log rules h) (Data n bytes) ∷ log rules h)) names.1
+          subst (λ n. ArePlaces (with_held c.places place (Some (one_packaged stream)))
+          (entry_after rules (log rules h) (Data n bytes) ∷ log rules h)) names.1
           (bytes_package c.places rules (log rules h) place stream bytes is.parts.places at.held);
     }

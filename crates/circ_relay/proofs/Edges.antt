@@ -52,7 +52,8 @@ at_found c key place found stream at first = record {
 }
 
 -- Its name in the log is that of its key.
-name_is : (c : Circuit) (key : StreamKey) (place : ℕ) (stream : PlacedStream) → IsAt c key place stream → stream_key stream ≡ key_of key
+name_is : (c : Circuit) (key : StreamKey) (place : ℕ) (stream : PlacedStream) → IsAt c key place stream
+    → stream_key stream ≡ key_of key
 name_is c key place stream at =
     let names = named c key place stream at in
     (λ i. record { stream = names.0 i; serial = names.1 i })
@@ -89,7 +90,8 @@ pub record IsPlainReport (rules : Rules) (log : Log) (e : Event) (x : Effects) :
 pub report_is_aside : (rules : Rules) (log : Log) (e : Event) (x : Effects) → IsPlainReport rules log e x
     → IsAside (entry_after rules log e)
 report_is_aside rules log e x is =
-    aside_by (entry_after rules log e) x (keys_of_report e is.report) (hop_of_report e (effects_after rules log e) is.report) is.gives is.plain
+    aside_by (entry_after rules log e) x (keys_of_report e is.report) (hop_of_report e (effects_after rules log e) is.report)
+    is.gives is.plain
 
 -- The running digest behind one body more, or none.
 pub packager_after_report : (state : PackagerState) (rules : Rules) (log : Log) (e : Event) (x : Effects)
@@ -101,7 +103,8 @@ packager_after_report state rules log e x is next =
 
 -- A report that leaves the window.
 
-pub record IsReported (c new : Circuit) (rules : Rules) (h : List Event) (e : Event) (x : Effects) (place : ℕ) (g : PlacedStream) (holds : Option PlacedStream) : Type 0 where
+pub record IsReported (c new : Circuit) (rules : Rules) (h : List Event) (e : Event) (x : Effects) (place : ℕ) (g : PlacedStream)
+    (holds : Option PlacedStream) : Type 0 where
   pub before : IsCircuit c rules h
   pub is : IsPlainReport rules (log rules h) e x
   pub at : held_at c.places place ≡ Some g
@@ -111,7 +114,8 @@ pub record IsReported (c new : Circuit) (rules : Rules) (h : List Event) (e : Ev
   pub leaves : window_of (log rules (e ∷ h)) ≡ window_of (log rules h)
   pub places : ArePlaces (with_held c.places place holds) (log rules (e ∷ h))
 
-pub report_goes_on : (c new : Circuit) (rules : Rules) (h : List Event) (e : Event) (x : Effects) (place : ℕ) (g : PlacedStream) (holds : Option PlacedStream)
+pub report_goes_on : (c new : Circuit) (rules : Rules) (h : List Event) (e : Event) (x : Effects) (place : ℕ) (g : PlacedStream)
+    (holds : Option PlacedStream)
     → IsReported c new rules h e x place g holds → IsCircuit new rules (e ∷ h)
 report_goes_on c new rules h e x place g holds r =
     let same_windows : new.windows ≡ c.windows = ap (λ (y : Circuit). y.windows) r.rest in
@@ -140,7 +144,8 @@ plain_nothing = record { dial = refl; cut = refl; makes_none = refl }
 
 -- Connected.
 
-pub connected_packs : (c : Circuit) (rules : Rules) (h : List Event) (key : StreamKey) (place : ℕ) (stream : PlacedStream) (none : Dest) (body : List ℕ)
+pub connected_packs : (c : Circuit) (rules : Rules) (h : List Event) (key : StreamKey) (place : ℕ) (stream : PlacedStream)
+    (none : Dest) (body : List ℕ)
     → IsAt c key place stream
     → body ≡ relay_body connected_command key.id (connected_payload (slice_index_or c.addresses place none).ip 60)
     → IsCircuit c rules h → effects rules h (Connected key.serial) ≡ packs (log rules h) body
@@ -155,7 +160,8 @@ connected_packs c rules h key place stream none body at body_is is =
     ∙ ap (λ (a : Address). packs (log rules h) (relay_body connected_command key.id (connected_payload a.ip time_to_live))) to
     ∙ ap (packs (log rules h)) (sym body_is)
 
-pub connected_goes_on : (c new : Circuit) (rules : Rules) (h : List Event) (key : StreamKey) (place : ℕ) (stream : PlacedStream) (body : List ℕ)
+pub connected_goes_on : (c new : Circuit) (rules : Rules) (h : List Event) (key : StreamKey) (place : ℕ) (stream : PlacedStream)
+    (body : List ℕ)
     → IsAt c key place stream → stream.phase ≡ Reaching
     → new ≡ record c { packager = new.packager; places = with_held c.places place (Some (record stream { phase = Joined })) }
     → (IsPackager c.packager (log rules h) → IsPackagedNext new.packager (log rules h) (Some (finished (log rules h) body)))
@@ -173,10 +179,12 @@ connected_goes_on c new rules h key place stream body at reaching rest next give
       same = same_held stream joined refl;
       rest = rest;
       packager =
-          packager_after_report new.packager rules (log rules h) (Connected key.serial) (packs (log rules h) body) report (next is.parts.packager);
+          packager_after_report new.packager rules (log rules h) (Connected key.serial) (packs (log rules h) body) report
+          (next is.parts.packager);
       leaves = connected_leaves rules (log rules h) key.serial;
       places =
-          subst (λ n. ArePlaces (with_held c.places place (Some joined)) (entry_after rules (log rules h) (Connected n) ∷ log rules h)) names.1
+          subst (λ n. ArePlaces (with_held c.places place (Some joined))
+          (entry_after rules (log rules h) (Connected n) ∷ log rules h)) names.1
           (connected_joins c.places rules (log rules h) place stream is.parts.places at.held reaching);
     }
 
@@ -185,17 +193,20 @@ connected_goes_on c new rules h key place stream body at reaching rest next give
 abbrev pub ends : Log → ModelKey → ℕ → List ℕ → Effects
 ends log key reason body = record (packs log body) { edge = Some (Close key reason) }
 
-pub ended_packs : (c : Circuit) (rules : Rules) (h : List Event) (key : StreamKey) (place : ℕ) (stream : PlacedStream) (reason : ℕ) (body : List ℕ)
+pub ended_packs : (c : Circuit) (rules : Rules) (h : List Event) (key : StreamKey) (place : ℕ) (stream : PlacedStream)
+    (reason : ℕ) (body : List ℕ)
     → IsAt c key place stream → body ≡ relay_body end_command key.id (reason ∷ [])
     → IsCircuit c rules h → effects rules h (Ended key.serial reason) ≡ ends (log rules h) (key_of key) reason body
 ended_packs c rules h key place stream reason body at body_is is =
     let names = named c key place stream at in
     ap (λ n. effects rules h (Ended n reason)) (sym names.1)
     ∙ ended_does c.places rules (log rules h) place stream reason is.parts.places is.unclosed at.held
-    ∙ ap (λ (k : ModelKey). ends (log rules h) k reason (relay_body end_command k.stream (reason ∷ []))) (name_is c key place stream at)
+    ∙ ap (λ (k : ModelKey). ends (log rules h) k reason (relay_body end_command k.stream (reason ∷ [])))
+    (name_is c key place stream at)
     ∙ ap (ends (log rules h) (key_of key) reason) (sym body_is)
 
-pub ended_goes_on : (c new : Circuit) (rules : Rules) (h : List Event) (key : StreamKey) (place : ℕ) (stream : PlacedStream) (reason : ℕ) (body : List ℕ)
+pub ended_goes_on : (c new : Circuit) (rules : Rules) (h : List Event) (key : StreamKey) (place : ℕ) (stream : PlacedStream)
+    (reason : ℕ) (body : List ℕ)
     → IsAt c key place stream
     → new ≡ record c { packager = new.packager; places = with_held c.places place (Some (record stream { phase = Ending })) }
     → (IsPackager c.packager (log rules h) → IsPackagedNext new.packager (log rules h) (Some (finished (log rules h) body)))
@@ -217,6 +228,7 @@ ended_goes_on c new rules h key place stream reason body at rest next gives is =
           packager_after_report new.packager rules (log rules h) (Ended key.serial reason) x report (next is.parts.packager);
       leaves = ended_leaves rules (log rules h) key.serial reason;
       places =
-          subst (λ n. ArePlaces (with_held c.places place (Some ended)) (entry_after rules (log rules h) (Ended n reason) ∷ log rules h)) names.1
+          subst (λ n. ArePlaces (with_held c.places place (Some ended))
+          (entry_after rules (log rules h) (Ended n reason) ∷ log rules h)) names.1
           (ended_ends c.places rules (log rules h) place stream reason is.parts.places is.unclosed at.held);
     }

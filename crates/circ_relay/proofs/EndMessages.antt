@@ -25,7 +25,8 @@ use Rattle.circ_relay.proofs.AfterCells.{cell_parts}
 use Rattle.circ_relay.proofs.Longer.{none_packaged, KeepsStreams, changed_streams, same_held, stands_still}
 use Rattle.circ_relay.proofs.MessageKinds.{found, does, of_end, other_window, unmoved_parts, placeless_places}
 
-pub ended_effects : (outcome : CodeEffects) (key : CodeKey) (reason : ℕ) (stream : ℕ) (payload : List ℕ) (m : Message) (h : PlacedStream)
+pub ended_effects : (outcome : CodeEffects) (key : CodeKey) (reason : ℕ) (stream : ℕ) (payload : List ℕ) (m : Message)
+    (h : PlacedStream)
     → effects_of outcome ≡ no_effects
     → key_of key ≡ record { stream = stream; serial = h.serial } → reason ≡ end_reason payload → stream ≡ m.stream
     → payload ≡ m.payload → m.place ≡ Some h.serial
@@ -41,7 +42,8 @@ end_does : (m : Message) (serial : ℕ) → m.place ≡ Some serial
     → end_effects m ≡ ordering (Close (record { stream = m.stream; serial = serial }) (end_reason m.payload))
 end_does m serial is = rw is refl
 
-pub ended_parts : (c : Circuit) (new : PlacesState) (message : CodeMessage) (rules : Rules) (log : Log) (command : ℕ) (body : List ℕ) (m : Message) (place : ℕ) (h : PlacedStream)
+pub ended_parts : (c : Circuit) (new : PlacesState) (message : CodeMessage) (rules : Rules) (log : Log) (command : ℕ)
+    (body : List ℕ) (m : Message) (place : ℕ) (h : PlacedStream)
     → IsBrought message log command body m → HasParts c log → m.command ≡ end_command → m.place ≡ Some h.serial
     → held_at c.places place ≡ Some h
     → new ≡ with_held c.places place (Some (record h { phase = Ending }))
@@ -49,13 +51,20 @@ pub ended_parts : (c : Circuit) (new : PlacesState) (message : CodeMessage) (rul
 ended_parts c new message rules log command body m place h b has is named holds becomes =
     let given = does message rules log command body m b ∙ of_end rules log m is ∙ end_does m h.serial named in
     let are : ArePlaces new (after_cell rules log command body) =
-    subst (λ s. ArePlaces s (after_cell rules log command body)) (sym becomes) (end_ends c.places rules log (Forward command body) m place h has.places (found message log command body m b) is named holds) in
+    subst (λ s. ArePlaces s (after_cell rules log command body)) (sym becomes)
+    (end_ends c.places rules log (Forward command body) m place h has.places (found message log command body m b) is named
+    holds) in
     let keeps : KeepsStreams c.places new =
-    subst (λ s. KeepsStreams c.places s) (sym becomes) (changed_streams c.places place h (Some (record h { phase = Ending })) holds (same_held h (record h { phase = Ending }) refl)) in
+    subst (λ s. KeepsStreams c.places s) (sym becomes)
+    (changed_streams c.places place h (Some (record h { phase = Ending })) holds
+    (same_held h (record h { phase = Ending }) refl)) in
     let window : window_of (after_cell rules log command body) ≡ window_of log =
     other_window message rules log command body m b (ap (λ k. k == data_command) is) (ap (λ k. k == sendme_command) is) in
-    cell_parts c (record c { places = new }) rules log command body (ordering (Close (record { stream = m.stream; serial = h.serial }) (end_reason m.payload))) has given refl refl refl refl refl refl
-    (none_packaged c.packager log has.packager) (stands_still c.windows log (after_cell rules log command body) has.windows window) are keeps
+    cell_parts c (record c { places = new }) rules log command body
+    (ordering (Close (record { stream = m.stream; serial = h.serial }) (end_reason m.payload))) has given refl refl refl refl
+    refl refl
+    (none_packaged c.packager log has.packager)
+    (stands_still c.windows log (after_cell rules log command body) has.windows window) are keeps
 
 pub unended_parts : (c : Circuit) (message : CodeMessage) (rules : Rules) (log : Log) (command : ℕ) (body : List ℕ) (m : Message)
     → IsBrought message log command body m → HasParts c log → m.command ≡ end_command → m.place ≡ None

@@ -42,7 +42,8 @@ nothing_in_either false = refl
 
 pub data_no_keys : (rules : Rules) (log : Log) (e : Event) → packs_data (entry_after rules log e) ≡ true → keys_in e ≡ None
 unfolding open_effects
-data_no_keys rules log (Born reply keys pad) packs = not_both (is_data_body (if is_closed log then no_effects else no_effects).back) packs (nothing_in_either (is_closed log))
+data_no_keys rules log (Born reply keys pad) packs =
+    not_both (is_data_body (if is_closed log then no_effects else no_effects).back) packs (nothing_in_either (is_closed log))
 data_no_keys rules log e packs = refl
 
 -- An event that brings a message packages no DATA.
@@ -55,7 +56,8 @@ pub message_no_data : (rules : Rules) (log : Log) (e : Event) (m : Message) → 
     → packs_data (entry_after rules log e) ≡ false
 message_no_data rules log e m found =
     no_data_by e (effects_after rules log e).back
-    (subst (λ (x : Effects). is_data_body x.back ≡ false) (sym (read-effects rules log e m found)) (message-tame rules log m).no_data)
+    (subst (λ (x : Effects). is_data_body x.back ≡ false) (sym (read-effects rules log e m found))
+    (message-tame rules log m).no_data)
 
 none_by : (o : Option Message) (b : Bool) → ((m : Message) → o ≡ Some m → b ≡ false) → b ≡ true → o ≡ None
 none_by None b other is = refl
@@ -63,7 +65,8 @@ none_by (Some m) b other is = not_both b is (other m refl)
 
 pub data_no_message : (rules : Rules) (log : Log) (e : Event) → packs_data (entry_after rules log e) ≡ true
     → message_at log e ≡ None
-data_no_message rules log e packs = none_by (message_at log e) (packs_data (entry_after rules log e)) (message_no_data rules log e) packs
+data_no_message rules log e packs =
+    none_by (message_at log e) (packs_data (entry_after rules log e)) (message_no_data rules log e) packs
 
 -- A message by its command.
 

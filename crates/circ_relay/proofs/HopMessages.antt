@@ -45,14 +45,16 @@ dialled_hop : (rules : Rules) (log : Log) (command : ℕ) (body : List ℕ) (to 
     → next_hop (after_cell rules log command body) ≡ Dialling
 dialled_hop rules log command body to same = rw same refl
 
-dialled_linked : (rules : Rules) (log : Log) (command : ℕ) (body : List ℕ) (m : Message) (to : Address) (request : Extend) (made : List ℕ)
+dialled_linked : (rules : Rules) (log : Log) (command : ℕ) (body : List ℕ) (m : Message) (to : Address) (request : Extend)
+    (made : List ℕ)
     → effects_after rules log (Forward command body) ≡ record no_effects { dial = Some to }
     → message_at log (Forward command body) ≡ Some m → extend_request m.payload ≡ Some request
     → create2 request ≡ record { command = 10; body = made }
     → linked_effects (after_cell rules log command body) ≡ sends_create2 made
 dialled_linked rules log command body m to request made same message asks makes = rw (same, message, asks, makes) refl
 
-pub dialled_parts : (c : Circuit) (rules : Rules) (log : Log) (command : ℕ) (body : List ℕ) (m : Message) (request : Extend) (to : Address) (made : List ℕ)
+pub dialled_parts : (c : Circuit) (rules : Rules) (log : Log) (command : ℕ) (body : List ℕ) (m : Message) (request : Extend)
+    (to : Address) (made : List ℕ)
     → HasParts c log
     → is_closed log ≡ false → received log command body ≡ ForUs m → m.command ≡ extend2_command → m.early ≡ true
     → is_absent c.next_hop ≡ true
@@ -69,13 +71,20 @@ dialled_parts c rules log command body m request to made has unclosed got is ear
       hop = sym (dialled_hop rules log command body to given);
       asked = λ dialling. dialled_linked rules log command body m to request made given message asks makes;
       packager =
-          packager_after c.packager entry log None refl (ap (λ (e : Effects). e.back) given) (none_packaged c.packager log has.packager);
+          packager_after c.packager entry log None refl (ap (λ (e : Effects). e.back) given)
+          (none_packaged c.packager log has.packager);
       windows =
-          stands_still c.windows log (after_cell rules log command body) has.windows (other_message_leaves rules log (Forward command body) m message (rw is refl) (rw is refl));
+          stands_still c.windows log (after_cell rules log command body) has.windows
+          (other_message_leaves rules log (Forward command body) m message (rw is refl) (rw is refl));
       places =
-          ordinary_leaves_places c.places rules log (Forward command body) m has.places message (apart_by m.command begin_command (ap (λ k. k == begin_command) is)) (apart_by m.command data_command (ap (λ k. k == data_command) is)) (apart_by m.command end_command (ap (λ k. k == end_command) is)) (apart_by m.command sendme_command (ap (λ k. k == sendme_command) is));
+          ordinary_leaves_places c.places rules log (Forward command body) m has.places message
+          (apart_by m.command begin_command (ap (λ k. k == begin_command) is))
+          (apart_by m.command data_command (ap (λ k. k == data_command) is))
+          (apart_by m.command end_command (ap (λ k. k == end_command) is))
+          (apart_by m.command sendme_command (ap (λ k. k == sendme_command) is));
       addresses =
-          addresses_after c.addresses c.places c.places entry log (same_streams c.places) (ap (λ (e : Effects). place_of e.edge) given) has.addresses;
+          addresses_after c.addresses c.places c.places entry log (same_streams c.places)
+          (ap (λ (e : Effects). place_of e.edge) given) has.addresses;
     }
 
 -- TRUNCATE.
@@ -96,10 +105,12 @@ truncated_hop : (rules : Rules) (log : Log) (command : ℕ) (body : List ℕ)
     → effects_after rules log (Forward command body) ≡ truncate_effects log
     → next_hop (after_cell rules log command body) ≡ Absent
 truncated_hop rules log command body given =
-    ap (λ (e : Effects). unwrap_or (option_or (hop_by_effects e) (newest (λ entry. hop_by entry.event entry.effects) log)) Absent) given
+    ap (λ (e : Effects). unwrap_or (option_or (hop_by_effects e) (newest (λ entry. hop_by entry.event entry.effects) log)) Absent)
+    given
     ∙ next_by (newest (λ entry. hop_by entry.event entry.effects) log) (not (is_absent (next_hop log))) refl
 
-pub truncated_parts : (c : Circuit) (new : PackagerState) (message : CodeMessage) (rules : Rules) (log : Log) (command : ℕ) (body : List ℕ) (m : Message)
+pub truncated_parts : (c : Circuit) (new : PackagerState) (message : CodeMessage) (rules : Rules) (log : Log) (command : ℕ)
+    (body : List ℕ) (m : Message)
     → IsBrought message log command body m → HasParts c log → m.command ≡ truncate_command
     → Packages c.packager new (relay_body truncated_command 0 (3 ∷ []))
     → HasParts (record c { packager = new; next_hop = Absent }) (after_cell rules log command body)
@@ -114,9 +125,11 @@ truncated_parts c new message rules log command body m b has is packages =
       hop = sym (truncated_hop rules log command body given);
       asked = λ dialling. cc;
       packager =
-          packager_after new entry log (truncate_effects log).back refl (ap (λ (e : Effects). e.back) given) (packages log has.packager);
+          packager_after new entry log (truncate_effects log).back refl (ap (λ (e : Effects). e.back) given)
+          (packages log has.packager);
       windows = stands_still c.windows log (after_cell rules log command body) has.windows window;
       places = other_places c.places message rules log command body m b other has.places;
       addresses =
-          addresses_after c.addresses c.places c.places entry log (same_streams c.places) (ap (λ (e : Effects). place_of e.edge) given) has.addresses;
+          addresses_after c.addresses c.places c.places entry log (same_streams c.places)
+          (ap (λ (e : Effects). place_of e.edge) given) has.addresses;
     }

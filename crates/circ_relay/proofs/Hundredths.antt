@@ -38,7 +38,8 @@ place_later n k other = grind (arith, nat_tests)
 
 hundredth_by : (n k : ℕ) (digest : List ℕ) (digests : List (List ℕ)) (due : Bool) → ((n + 1) % 100 == 0) ≡ due
     → ((j : ℕ) → slice_get (hundredths (n + 1) digests) j ≡ slice_get digests (place_of (n + 1) j))
-    → slice_get (if due then digest ∷ hundredths (n + 1) digests else hundredths (n + 1) digests) k ≡ slice_get (digest ∷ digests) (place_of n k)
+    → slice_get (if due then digest ∷ hundredths (n + 1) digests else hundredths (n + 1) digests) k
+    ≡ slice_get (digest ∷ digests) (place_of n k)
 hundredth_by n zero digest digests true is later = rw (place_here n is) refl
 hundredth_by n (suc k) digest digests true is later = rw (place_behind n k is) (later k)
 hundredth_by n k digest digests false is later = rw (place_later n k is) (later k)
@@ -64,14 +65,18 @@ behind_first first bodies i found =
 
 number_by : (first : List ℕ) (bodies : List (List ℕ)) (i : ℕ) (counts : Bool)
     → ((j : ℕ) → j < length (up_to_each_data bodies) → slice_get (up_to_each_data bodies) j ≡ Some (up_to_data (j + 1) bodies))
-    → i < length (if counts then (first ∷ []) ∷ map (begun_with first) (up_to_each_data bodies) else map (begun_with first) (up_to_each_data bodies))
-    → slice_get (if counts then (first ∷ []) ∷ map (begun_with first) (up_to_each_data bodies) else map (begun_with first) (up_to_each_data bodies)) i
-    ≡ Some (if counts then (if nat_le (i + 1) 1 then first ∷ [] else first ∷ up_to_data (i + 1 - 1) bodies) else first ∷ up_to_data (i + 1) bodies)
+    → i < length (if counts then (first ∷ []) ∷ map (begun_with first) (up_to_each_data bodies)
+    else map (begun_with first) (up_to_each_data bodies))
+    → slice_get (if counts then (first ∷ []) ∷ map (begun_with first) (up_to_each_data bodies)
+    else map (begun_with first) (up_to_each_data bodies)) i
+    ≡ Some (if counts then (if nat_le (i + 1) 1 then first ∷ [] else first ∷ up_to_data (i + 1 - 1) bodies)
+    else first ∷ up_to_data (i + 1) bodies)
 number_by first bodies zero true later within = refl
 number_by first bodies (suc i) true later within =
     let many : nat_le (suc i + 1) 1 ≡ false = grind (arith, nat_tests) in
     let less : suc i + 1 - 1 ≡ i + 1 = omega arith in
-    rw (many, less) (behind_first first bodies i (later i (omega (arith, length-map (up_to_each_data bodies) (begun_with first)))))
+    rw (many, less)
+    (behind_first first bodies i (later i (omega (arith, length-map (up_to_each_data bodies) (begun_with first)))))
 number_by first bodies i false later within =
     behind_first first bodies i (later i (omega (arith, length-map (up_to_each_data bodies) (begun_with first))))
 

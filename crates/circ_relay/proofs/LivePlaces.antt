@@ -21,7 +21,8 @@ not_ending Reaching is ending = cc
 not_ending Joined is ending = cc
 not_ending Ending is ending = cc
 
-held_live-by : (id : ℕ) (held : Option PlacedStream) → is_live_as id held ≡ true → (h : PlacedStream) × (held ≡ Some h) × (h.phase ≢ Ending)
+held_live-by : (id : ℕ) (held : Option PlacedStream) → is_live_as id held ≡ true → (h : PlacedStream) × (held ≡ Some h)
+    × (h.phase ≢ Ending)
 held_live-by id None is = cc
 held_live-by id (Some h) is = (h, refl, not_ending h.phase (and-right (h.stream == id) (is_live_phase h.phase) is))
 
@@ -34,7 +35,8 @@ live_held s id (Some place) is =
 
 pub live_serial_of : (s : PlacesState) (id : ℕ) (found : Option PlaceNo)
     → option_map (λ place. place.0) found ≡ position (is_live_as id) s.streams
-    → IfSome found (λ place. (log : Log) (h : PlacedStream) → ArePlaces s log → AreNamed log → held_at s place.0 ≡ Some h → live_place log id ≡ Some h.serial)
+    → IfSome found (λ place. (log : Log) (h : PlacedStream) → ArePlaces s log → AreNamed log → held_at s place.0 ≡ Some h
+    → live_place log id ≡ Some h.serial)
 live_serial_of s id None is = tt
 live_serial_of s id (Some place) is = λ log h are named holds.
     let first = live_found s log id place.0 are named (sym is) in

@@ -41,7 +41,8 @@ early_after entry log other = ap (λ (is : Bool). if is then early_count log + 1
 
 pub hop_after : (entry : Entry) (log : Log) → hop_by entry.event entry.effects ≡ None → next_hop (entry ∷ log) ≡ next_hop log
 hop_after entry log none =
-    ap (λ (x : Option NextHop). unwrap_or (option_or x (newest (λ (entry : Entry). hop_by entry.event entry.effects) log)) Absent) none
+    ap (λ (x : Option NextHop). unwrap_or (option_or x (newest (λ (entry : Entry). hop_by entry.event entry.effects) log)) Absent)
+    none
 
 no_request : (entry : Entry) → entry.effects.dial ≡ None → accepted_request entry ≡ None
 no_request entry none = rw none refl
@@ -118,25 +119,29 @@ changed_streams s place g holds is same =
     record { kept = λ other k found. changed_by s place g holds is same other k (other == place) refl found }
 
 -- The serial stays where a stream changes.
-pub same_held : (g : PlacedStream) (f : PlacedStream) → f.serial ≡ g.serial → (y : PlacedStream) → Some f ≡ Some y → y.serial ≡ g.serial
+pub same_held : (g : PlacedStream) (f : PlacedStream) → f.serial ≡ g.serial → (y : PlacedStream) → Some f ≡ Some y
+    → y.serial ≡ g.serial
 same_held g f same y is = sym (ap (λ (z : PlacedStream). z.serial) (same_some f y is)) ∙ same
 
 pub none_held : (g y : PlacedStream) → ◌≡◌ {A = Option PlacedStream} None (Some y) → y.serial ≡ g.serial
 none_held g y is = cc
 
-address-before : (old : PlacesState) (addresses : List Dest) (entry : Entry) (log : Log) (place : ℕ) (stream : PlacedStream) (to : Place) (none : Dest)
+address-before : (old : PlacesState) (addresses : List Dest) (entry : Entry) (log : Log) (place : ℕ) (stream : PlacedStream)
+    (to : Place) (none : Dest)
     → place_of entry.effects.edge ≡ None
     → AreAddresses addresses old log → (g : PlacedStream) × (held_at old place ≡ Some g) × (g.serial ≡ stream.serial)
     → place_at (entry ∷ log) stream.serial ≡ Some to
     → to.to ≡ address_of (slice_index_or addresses place none)
 address-before old addresses entry log place stream to none makes_none are before at =
-    are place before.0 to none before.1 (ap (λ n. place_at log n) before.2 ∙ sym (place_stays entry log stream.serial makes_none) ∙ at)
+    are place before.0 to none before.1 (ap (λ n. place_at log n) before.2 ∙ sym (place_stays entry log stream.serial makes_none)
+    ∙ at)
 
 pub addresses_after : (addresses : List Dest) (old new : PlacesState) (entry : Entry) (log : Log) → KeepsStreams old new
     → place_of entry.effects.edge ≡ None
     → AreAddresses addresses old log → AreAddresses addresses new (entry ∷ log)
 addresses_after addresses old new entry log keeps makes_none are =
-    λ place stream to none holds at. address-before old addresses entry log place stream to none makes_none are (keeps.kept place stream holds) at
+    λ place stream to none holds at. address-before old addresses entry log place stream to none makes_none are
+    (keeps.kept place stream holds) at
 
 -- An entry that says nothing of the next hop, makes no place and doesn't open.
 pub record IsAside (entry : Entry) : Type 0 where
@@ -190,7 +195,8 @@ same_limits old new same =
 
 -- The circuit, where an event changes one place, what is packaged and the window.
 
-pub record IsStep (c new : Circuit) (rules : Rules) (h : List Event) (e : Event) (place : ℕ) (g : PlacedStream) (holds : Option PlacedStream) : Type 0 where
+pub record IsStep (c new : Circuit) (rules : Rules) (h : List Event) (e : Event) (place : ℕ) (g : PlacedStream)
+    (holds : Option PlacedStream) : Type 0 where
   pub before : IsCircuit c rules h
   pub aside : IsAside (entry_after rules (log rules h) e)
   pub early : is_early e ≡ false
@@ -203,7 +209,8 @@ pub record IsStep (c new : Circuit) (rules : Rules) (h : List Event) (e : Event)
   pub windows : HasCountsOf new.windows (window_of (log rules (e ∷ h)))
   pub places : ArePlaces (with_held c.places place holds) (log rules (e ∷ h))
 
-pub step_goes_on : (c new : Circuit) (rules : Rules) (h : List Event) (e : Event) (place : ℕ) (g : PlacedStream) (holds : Option PlacedStream)
+pub step_goes_on : (c new : Circuit) (rules : Rules) (h : List Event) (e : Event) (place : ℕ) (g : PlacedStream)
+    (holds : Option PlacedStream)
     → IsStep c new rules h e place g holds → IsCircuit new rules (e ∷ h)
 step_goes_on c new rules h e place g holds step =
     let entry : Entry = entry_after rules (log rules h) e in
@@ -214,7 +221,8 @@ step_goes_on c new rules h e place g holds step =
           ∙ sym (early_after entry (log rules h) step.early);
       made = made_after c new rules step.before.made step.limits;
       parts = parts_after c new entry (log rules h) step.before.parts step.aside
-          (ap (λ (x : Circuit). x.next_hop) step.rest) (ap (λ (x : Circuit). x.create2) step.rest) (ap (λ (x : Circuit). x.addresses) step.rest)
+          (ap (λ (x : Circuit). x.next_hop) step.rest) (ap (λ (x : Circuit). x.create2) step.rest)
+          (ap (λ (x : Circuit). x.addresses) step.rest)
           step.packager step.windows
           (subst (λ s. ArePlaces s (entry ∷ log rules h)) (sym changed) step.places)
           (subst (λ s. KeepsStreams c.places s) (sym changed) (changed_streams c.places place g holds step.at step.same));

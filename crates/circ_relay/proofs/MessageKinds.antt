@@ -112,9 +112,11 @@ pub other_window : (message : CodeMessage) (rules : Rules) (log : Log) (command 
     → (m.command == data_command) ≡ false → (m.command == sendme_command) ≡ false
     → window_of (after_cell rules log command body) ≡ window_of log
 other_window message rules log command body m b data_ sendme =
-    other_message_leaves rules log (Forward command body) m (found message log command body m b) data_ (and_false (m.command == sendme_command) (m.stream == 0) sendme)
+    other_message_leaves rules log (Forward command body) m (found message log command body m b) data_
+    (and_false (m.command == sendme_command) (m.stream == 0) sendme)
 
-pub other_places : (s : PlacesState) (message : CodeMessage) (rules : Rules) (log : Log) (command : ℕ) (body : List ℕ) (m : Message)
+pub other_places : (s : PlacesState) (message : CodeMessage) (rules : Rules) (log : Log) (command : ℕ) (body : List ℕ)
+    (m : Message)
     → IsBrought message log command body m
     → IsOther m.command → ArePlaces s log → ArePlaces s (after_cell rules log command body)
 other_places s message rules log command body m b other are =
@@ -123,20 +125,23 @@ other_places s message rules log command body m b other are =
     (apart_by m.command end_command other.end) (apart_by m.command sendme_command other.sendme)
 
 -- A body is packaged, and nothing else is done.
-pub packaged_parts : (c : Circuit) (new : PackagerState) (message : CodeMessage) (rules : Rules) (log : Log) (command : ℕ) (body : List ℕ) (m : Message) (packed : List ℕ)
+pub packaged_parts : (c : Circuit) (new : PackagerState) (message : CodeMessage) (rules : Rules) (log : Log) (command : ℕ)
+    (body : List ℕ) (m : Message) (packed : List ℕ)
     → IsBrought message log command body m → HasParts c log
     → message_effects rules log m ≡ record no_effects { back = Some (finished log packed) }
     → Packages c.packager new packed → window_of (after_cell rules log command body) ≡ window_of log
     → ArePlaces c.places (after_cell rules log command body)
     → HasParts (record c { packager = new }) (after_cell rules log command body)
 packaged_parts c new message rules log command body m packed b has given packages window are =
-    cell_parts c (record c { packager = new }) rules log command body (record no_effects { back = Some (finished log packed) }) has
+    cell_parts c (record c { packager = new }) rules log command body (record no_effects { back = Some (finished log packed) })
+    has
     (does message rules log command body m b ∙ given) refl refl refl refl refl refl
     (packages log has.packager)
     (stands_still c.windows log (after_cell rules log command body) has.windows window) are (same_streams c.places)
 
 -- The same for a message of another command.
-pub other_packaged_parts : (c : Circuit) (new : PackagerState) (message : CodeMessage) (rules : Rules) (log : Log) (command : ℕ) (body : List ℕ) (m : Message) (packed : List ℕ)
+pub other_packaged_parts : (c : Circuit) (new : PackagerState) (message : CodeMessage) (rules : Rules) (log : Log) (command : ℕ)
+    (body : List ℕ) (m : Message) (packed : List ℕ)
     → IsBrought message log command body m → HasParts c log
     → message_effects rules log m ≡ record no_effects { back = Some (finished log packed) }
     → Packages c.packager new packed → IsOther m.command
@@ -159,11 +164,13 @@ unmoved_parts c message rules log command body m b has given window are =
 
 -- A message for no live stream.
 
-pub placeless_places : (s : PlacesState) (message : CodeMessage) (rules : Rules) (log : Log) (command : ℕ) (body : List ℕ) (m : Message)
+pub placeless_places : (s : PlacesState) (message : CodeMessage) (rules : Rules) (log : Log) (command : ℕ) (body : List ℕ)
+    (m : Message)
     → IsBrought message log command body m
     → (m.command == begin_command) ≡ false → m.place ≡ None → ArePlaces s log → ArePlaces s (after_cell rules log command body)
 placeless_places s message rules log command body m b other none are =
-    placeless_leaves_places s rules log (Forward command body) m are (found message log command body m b) (apart_by m.command begin_command other) none
+    placeless_leaves_places s rules log (Forward command body) m are (found message log command body m b)
+    (apart_by m.command begin_command other) none
 
 -- RESOLVE.
 
@@ -189,7 +196,16 @@ drop_or false x is = is
 pub unknown_does : (rules : Rules) (log : Log) (m : Message) → IsUnknown m.command → message_effects rules log m ≡ no_effects
 unfolding message_effects
 unknown_does rules log m unknown =
-    rw (unknown.other.begin, unknown.other.data_, unknown.other.end, unknown.other.sendme, unknown.truncate, unknown.resolve, unknown.begin_dir, unknown.extend2)
+    rw (
+      unknown.other.begin,
+      unknown.other.data_,
+      unknown.other.end,
+      unknown.other.sendme,
+      unknown.truncate,
+      unknown.resolve,
+      unknown.begin_dir,
+      unknown.extend2,
+    )
     (drop_or (m.command == drop_command) no_effects refl)
 
 pub unknown_parts : (c : Circuit) (message : CodeMessage) (rules : Rules) (log : Log) (command : ℕ) (body : List ℕ) (m : Message)

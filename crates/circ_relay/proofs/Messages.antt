@@ -72,9 +72,11 @@ pub end_ends : (state : PlacesState) (rules : Rules) (log : Log) (e : Event) (m 
 end_ends state rules log e m place h are found command named at =
     let entry : Entry = entry_after rules log e in
     let no_report : IsNoReport e = message_is_no_report log e m found in
-    let does : effects_after rules log e ≡ ordering (Close (record { stream = m.stream; serial = h.serial }) (end_reason m.payload)) =
+    let does : effects_after rules log e ≡ ordering
+    (Close (record { stream = m.stream; serial = h.serial }) (end_reason m.payload)) =
     read-effects rules log e m found ∙ end-does rules log m h.serial command named in
-    order_closes state log entry place h (record { stream = m.stream; serial = h.serial }) (end_reason m.payload) are at refl (record {
+    order_closes state log entry place h (record { stream = m.stream; serial = h.serial }) (end_reason m.payload) are at refl
+    (record {
       order = ap (λ (x : Effects). x.edge) does;
       quiet = λ serial. other_command_credits entry m serial found (ap (λ n. n == sendme_command) command);
       connects = no_report.connects;
@@ -114,7 +116,8 @@ unchanged_by state rules log e m place h are found at none quiet =
     let no_report : IsNoReport e = message_is_no_report log e m found in
     let makes_none : place_of entry.effects.edge ≡ None = ap place_of none in
     let silent : (serial : ℕ) → IsSilent entry serial =
-    λ serial. orderless_is_silent entry serial none (quiet serial) (no_report.connects serial) (no_report.frees serial) (no_report.packs serial) (no_report.drains serial) in
+    λ serial. orderless_is_silent entry serial none (quiet serial) (no_report.connects serial) (no_report.frees serial)
+    (no_report.packs serial) (no_report.drains serial) in
     let is : IsOfLog (entry ∷ log) h = stream_stays entry log h makes_none (silent h.serial) (are.streams place h at) in
     stream_changes state log entry place h h at makes_none (λ serial apart. silent serial) refl is are
 
@@ -122,7 +125,8 @@ unchanged_by state rules log e m place h are found at none quiet =
 data-by : (state : PlacesState) (rules : Rules) (log : Log) (e : Event) (m : Message) (place : ℕ) (h : PlacedStream) →
     ArePlaces state log → message_at log e ≡ Some m → m.command ≡ data_command → m.place ≡ Some h.serial
     → held_at state place ≡ Some h →
-    (b : Bool) → nat_le (log_accept_grant log h.serial) (carried_count log h.serial) ≡ b → may_accept h ≡ (if b then false else true) →
+    (b : Bool) → nat_le (log_accept_grant log h.serial) (carried_count log h.serial) ≡ b
+    → may_accept h ≡ (if b then false else true) →
     ArePlaces (with_held state place (Some (after_accepting h))) (entry_after rules log e ∷ log)
 data-by state rules log e m place h are found command named at true full may =
     let does : effects_after rules log e ≡ closing 1 =
@@ -181,6 +185,7 @@ data_accepts state rules log e m place h are found command named at =
     let is : IsOfLog log h = are.streams place h at in
     let full : Bool = nat_le (log_accept_grant log h.serial) (carried_count log h.serial) in
     let may : may_accept h ≡ (if full then false else true) =
-    ap (λ n. nat_lt n (accept_grant h)) is.accepted ∙ ap (λ n. nat_lt (carried_count log h.serial) (500 + 50 * (n / 50))) is.drained
+    ap (λ n. nat_lt n (accept_grant h)) is.accepted ∙ ap (λ n. nat_lt (carried_count log h.serial) (500 + 50 * (n / 50)))
+    is.drained
     ∙ less_by (carried_count log h.serial) (log_accept_grant log h.serial) full refl in
     data-by state rules log e m place h are found command named at full refl may

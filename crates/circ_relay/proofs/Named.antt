@@ -28,7 +28,8 @@ live-by false false c false false false is = refl
 pub live_before : (entry : Entry) (log : Log) (place : Place) → is_live (entry ∷ log) place ≡ true → is_live log place ≡ true
 unfolding phase by_bits
 live_before entry log place is =
-    live-by (frees place.key.serial entry.event) (closes_place place.key.serial entry.effects.edge) (connects place.key.serial entry.event)
+    live-by (frees place.key.serial entry.event) (closes_place place.key.serial entry.effects.edge)
+    (connects place.key.serial entry.event)
     (is_freed log place.key.serial) (is_ended log place.key.serial) (is_connected log place.key.serial) is
 
 -- A StreamID that is live at no place.
@@ -48,9 +49,11 @@ pub absent : (log : Log) (stream serial : ℕ) (place : Place) → live_place lo
     → place.key.stream ≡ stream → is_live log place ≡ true → ⊥
 unfolding live_place
 absent log stream serial place none found named live =
-    true-false ((place.key.stream == stream) && is_live log place) (both (place.key.stream == stream) (is_live log place) (equal_true place.key.stream stream named) live)
+    true-false ((place.key.stream == stream) && is_live log place)
+    (both (place.key.stream == stream) (is_live log place) (equal_true place.key.stream stream named) live)
     (nothing_found (λ (p : Place). (p.key.stream == stream) && is_live log p) (places log) serial place
-    (map_none (λ (p : Place). p.key.serial) (find (λ (p : Place). (p.key.stream == stream) && is_live log p) (places log)) none) found)
+    (map_none (λ (p : Place). p.key.serial) (find (λ (p : Place). (p.key.stream == stream) && is_live log p) (places log)) none)
+    found)
 
 -- Where no place is made.
 named-same : (log : Log) (entry : Entry) → AreNamed log → place_of entry.effects.edge ≡ None → AreNamed (entry ∷ log)
@@ -75,7 +78,8 @@ split : (log : Log) (entry : Entry) (made : Place) → place_of entry.effects.ed
     place_at (entry ∷ log) serial ≡ Some place → either log made serial place
 unfolding either
 split log entry made makes serial place found =
-    got_split (places log) made place serial (sym (ap (λ (xs : List Place). slice_get xs serial) (places_more entry log made makes)) ∙ found)
+    got_split (places log) made place serial
+    (sym (ap (λ (xs : List Place). slice_get xs serial) (places_more entry log made makes)) ∙ found)
 
 numbered-by : (log : Log) (made : Place) → AreNamed log → IsNext log made → (serial : ℕ) (place : Place)
     → either log made serial place → place.key.serial ≡ serial
@@ -107,7 +111,8 @@ named-new log entry made makes named next = record {
   numbered = λ serial place found. numbered-by log made named next serial place (split log entry made makes serial place found);
   nonzero = λ serial place found. nonzero-by log made named next serial place (split log entry made makes serial place found);
   live_once = λ one other p q found also live alive same.
-      live_once-by log made named next one other p q (split log entry made makes one p found) (split log entry made makes other q also)
+      live_once-by log made named next one other p q (split log entry made makes one p found)
+      (split log entry made makes other q also)
       (live_before entry log p live) (live_before entry log q alive) same;
 }
 
@@ -155,7 +160,8 @@ zero-by log named None is = refl
 zero-by log named (Some place) is =
     let among : IsAmong (λ (p : Place). (p.key.stream == 0) && is_live log p) (places log) place =
     found_among (λ (p : Place). (p.key.stream == 0) && is_live log p) (places log) place is in
-    absurd (true-false (place.key.stream == 0) (and-left (place.key.stream == 0) (is_live log place) among.passes) (named.nonzero among.place place among.got))
+    absurd (true-false (place.key.stream == 0) (and-left (place.key.stream == 0) (is_live log place) among.passes)
+    (named.nonzero among.place place among.got))
 
 pub zero_is_not_live : (log : Log) → AreNamed log → live_place log 0 ≡ None
 unfolding live_place

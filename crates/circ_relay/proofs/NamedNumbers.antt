@@ -46,7 +46,8 @@ distinct-named f [] apart = tt
 distinct-named f (x ∷ xs) apart =
     distinct-by f xs (f x)
     (λ m is. all-named f xs (λ k. nat_eq m k ≡ false)
-    (λ i y n got named. differ-by m n (nat_eq m n) refl (λ same. zero-suc i (apart 0 (suc i) x y n refl got (is ∙ ap Some same) named))))
+    (λ i y n got named. differ-by m n (nat_eq m n) refl
+    (λ same. zero-suc i (apart 0 (suc i) x y n refl got (is ∙ ap Some same) named))))
     (distinct-named f xs (λ i j y z n got also one other. suc-same i j (apart (suc i) (suc j) y z n got also one other)))
 
 -- A number that the list names.
@@ -122,11 +123,14 @@ both-ways false true there back = back refl
 both-ways false false there back = refl
 
 -- Two lists that name the same, each once.
-pub same-count : {A B : Type 0} (f : A → Option ℕ) (g : B → Option ℕ) (xs : List A) (ys : List B) → AreApart f xs → AreApart g ys →
+pub same-count : {A B : Type 0} (f : A → Option ℕ) (g : B → Option ℕ) (xs : List A) (ys : List B) → AreApart f xs → AreApart g ys
+    →
     ((n : ℕ) → IsNamed f xs n → IsNamed g ys n) → ((n : ℕ) → IsNamed g ys n → IsNamed f xs n)
     → length (filter_map f xs) ≡ length (filter_map g ys)
 same-count f g xs ys apart also there back =
     length-from_same_keys nat_eq_equiv (filter_map f xs) (filter_map g ys) (distinct-named f xs apart) (distinct-named g ys also)
     (λ n. both-ways (list_any (nat_eq n) (filter_map f xs)) (list_any (nat_eq n) (filter_map g ys))
-    (λ any. let is : IsNamed g ys n = there n (member-named f xs n any) in named-member g ys is.place is.element n is.got is.names)
-    (λ any. let is : IsNamed f xs n = back n (member-named g ys n any) in named-member f xs is.place is.element n is.got is.names))
+    (λ any. let is : IsNamed g ys n = there n (member-named f xs n any) in
+    named-member g ys is.place is.element n is.got is.names)
+    (λ any. let is : IsNamed f xs n = back n (member-named g ys n any) in
+    named-member f xs is.place is.element n is.got is.names))

@@ -31,7 +31,8 @@ name_has h id serial one other = grind arith
 -- Where it is found.
 phase_held : (c : Circuit) (key : StreamKey) (place : ℕ) (held : Option PlacedStream)
     → position (is_stream key.id key.serial) c.places.streams ≡ Some place → held_at c.places place ≡ held →
-    is_stream key.id key.serial held ≡ true → IfSome (option_map (λ (h : PlacedStream). h.phase) held) (λ phase. HasStream c key phase)
+    is_stream key.id key.serial held ≡ true
+    → IfSome (option_map (λ (h : PlacedStream). h.phase) held) (λ phase. HasStream c key phase)
 phase_held c key place None first holds is = cc
 phase_held c key place (Some h) first holds is = record {
   place = place;
@@ -68,7 +69,8 @@ fails_first : (b : Bool) (n m : ℕ) → suc m ≤ cond (not b) (1 + n) 0 → (b
 fails_first true n m long = absurd (omega (arith, long))
 fails_first false n m long = (refl, omega (arith, long))
 
-all_fail : (t : Option PlacedStream → Bool) (xs : List (Option PlacedStream)) (place : ℕ) → t None ≡ false → length xs ≤ position_or_len t xs
+all_fail : (t : Option PlacedStream → Bool) (xs : List (Option PlacedStream)) (place : ℕ) → t None ≡ false
+    → length xs ≤ position_or_len t xs
     → t (get_or xs place None) ≡ false
 all_fail t [] place off long = off
 all_fail t (x ∷ xs) zero off long = (fails_first (t x) (position_or_len t xs) (length xs) long).0
@@ -81,4 +83,6 @@ none_has_name c key none place stream holds id serial =
     let t : (Option PlacedStream → Bool) = is_stream key.id key.serial in
     not_both (t (held_at c.places place))
     (ap t holds ∙ name_has stream key.id key.serial id serial)
-    (all_fail t c.places.streams place refl (none_before (nat_lt (position_or_len t c.places.streams) (length c.places.streams)) (position_or_len t c.places.streams) (length c.places.streams) refl (sym none)))
+    (all_fail t c.places.streams place refl
+    (none_before (nat_lt (position_or_len t c.places.streams) (length c.places.streams)) (position_or_len t c.places.streams)
+    (length c.places.streams) refl (sym none)))

@@ -26,7 +26,9 @@ use Rattle.circ_relay.proofs.Reports.{connected-orders, data-orders, drained-ord
 use Rattle.circ_relay.proofs.Lists.{same_some}
 
 place-by : (log : Log) (command : ℕ) (plain : List ℕ) (m : Message) (early recognised fits : Bool) →
-    message_of (if early then TooManyEarly else (if recognised then (if fits then ForUs (message_in_body log command plain) else TooLong) else Unrecognised plain)) ≡ Some m →
+    message_of (if early then TooManyEarly
+    else (if recognised then (if fits then ForUs (message_in_body log command plain) else TooLong) else Unrecognised plain))
+    ≡ Some m →
     m.place ≡ live_place log m.stream
 place-by log command plain m true recognised fits is = cc
 place-by log command plain m false false fits is = cc
@@ -38,7 +40,8 @@ place-in : (log : Log) (command : ℕ) (body : List ℕ) (m : Message) → messa
     → m.place ≡ live_place log m.stream
 unfolding received
 place-in log command body m is =
-    place-by log command (plain_body log body) m ((command == relay_early_command) && nat_le relay_early_limit (early_count log)) (recognises log (plain_body log body)) (fits_length (plain_body log body)) is
+    place-by log command (plain_body log body) m ((command == relay_early_command) && nat_le relay_early_limit (early_count log))
+    (recognises log (plain_body log body)) (fits_length (plain_body log body)) is
 
 when-open : (closed : Bool) (x : Option Message) (m : Message) → (if closed then None else x) ≡ Some m → x ≡ Some m
 when-open true x m is = cc
@@ -108,7 +111,8 @@ beginning-naming : (rules : Rules) (log : Log) (stream : ℕ) (target : Option T
     → live_place log stream ≡ None → IsNaming log (beginning rules log stream target)
 beginning-naming rules log stream None nonzero fresh = none-naming log _ refl
 beginning-naming rules log stream (Some target) nonzero fresh =
-    if-naming log (nat_le place_limit (taken_places log)) _ _ (none-naming log _ refl) (reaching-naming log stream (allowed_address rules target) nonzero fresh)
+    if-naming log (nat_le place_limit (taken_places log)) _ _ (none-naming log _ refl)
+    (reaching-naming log stream (allowed_address rules target) nonzero fresh)
 
 or-left : (a b : Bool) → (a || b) ≡ false → a ≡ false
 or-left true b is = cc
@@ -139,7 +143,10 @@ data-naming log m (Some serial) =
 end-naming : (log : Log) (m : Message) (place : Option ℕ) → IsNaming log (end_at m place)
 end-naming log m None = none-naming log _ refl
 end-naming log m (Some serial) =
-    record { names = λ key to is. absurd (close-reach (record { stream = m.stream; serial = serial }) key (end_reason m.payload) to is) }
+    record {
+      names =
+          λ key to is. absurd (close-reach (record { stream = m.stream; serial = serial }) key (end_reason m.payload) to is);
+    }
 
 message-naming : (rules : Rules) (log : Log) (m : Message) → m.place ≡ live_place log m.stream
     → IsNaming log (message_effects rules log m)
@@ -158,7 +165,8 @@ ended-naming log reason (Some place) = record { names = λ key to is. absurd (cl
 with-message : (rules : Rules) (log : Log) (e : Event) (m : Message) → message_at log e ≡ Some m
     → IsNaming log (effects_after rules log e)
 with-message rules log e m found =
-    subst (λ x. IsNaming log x) (sym (read-effects rules log e m found)) (message-naming rules log m (message_place log e m found))
+    subst (λ x. IsNaming log x) (sym (read-effects rules log e m found))
+    (message-naming rules log m (message_place log e m found))
 
 forward-naming : (rules : Rules) (log : Log) (e : Event) → is_edge_report e ≡ false → (x : Option Message) → message_at log e ≡ x
     → IsNaming log (effects_after rules log e)

@@ -56,9 +56,11 @@ backward_parts c rules log body unclosed parts =
     let aside : IsAside entry =
     aside_by entry (record no_effects { back = Some body }) refl refl (backward_does rules log body unclosed)
     (record { dial = refl; cut = refl; makes_none = refl }) in
-    parts_after c c entry log parts aside refl refl refl (packager_after c.packager entry log None refl refl (none_packaged c.packager log parts.packager))
+    parts_after c c entry log parts aside refl refl refl
+    (packager_after c.packager entry log None refl refl (none_packaged c.packager log parts.packager))
     (stands_still c.windows log (entry ∷ log) parts.windows (backward_leaves rules log body))
-    (no_message_leaves_places c.places rules log (Backward body) parts.places (none_either_way (is_closed log)) refl) (same_streams c.places)
+    (no_message_leaves_places c.places rules log (Backward body) parts.places (none_either_way (is_closed log)) refl)
+    (same_streams c.places)
 
 pub backward_keeps : (c : Circuit) (rules : Rules) (h : List Event) (body : List ℕ) → IsCircuit c rules h
     → IsCircuit c rules (Backward body ∷ h)
@@ -93,11 +95,13 @@ linked_parts c rules log unclosed parts dialling =
       hop = refl;
       asked = λ other. cc;
       packager =
-          packager_after c.packager entry log None refl (ap (λ (x : Effects). x.back) sends) (none_packaged c.packager log parts.packager);
+          packager_after c.packager entry log None refl (ap (λ (x : Effects). x.back) sends)
+          (none_packaged c.packager log parts.packager);
       windows = stands_still c.windows log (entry ∷ log) parts.windows (linked_leaves rules log);
       places = no_message_leaves_places c.places rules log Linked parts.places (none_either_way (is_closed log)) refl;
       addresses =
-          addresses_after c.addresses c.places c.places entry log (same_streams c.places) (ap (λ (x : Effects). place_of x.edge) sends) parts.addresses;
+          addresses_after c.addresses c.places c.places entry log (same_streams c.places)
+          (ap (λ (x : Effects). place_of x.edge) sends) parts.addresses;
     }
 
 pub linked_keeps : (c : Circuit) (rules : Rules) (h : List Event) → c.next_hop ≡ Dialling → IsCircuit c rules h →
@@ -122,7 +126,8 @@ pub answered_packages : (log : Log) (payload handshake body : List ℕ) → hand
     → answered_effects log payload ≡ record no_effects { back = Some (finished log body) }
 answered_packages log payload handshake body read short is =
     ap (extending log) read
-    ∙ ap (λ (b : Bool). if b then packaging log extended2_command 0 (handshake_reply_payload handshake) else closing 1) (le-leb (length handshake) 496 short)
+    ∙ ap (λ (b : Bool). if b then packaging log extended2_command 0 (handshake_reply_payload handshake) else closing 1)
+    (le-leb (length handshake) 496 short)
     ∙ ap (λ (b : List ℕ). record no_effects { back = Some (finished log b) }) (sym is)
 
 pub answered_unread : (log : Log) (payload : List ℕ) → handshake_reply payload ≡ None → answered_effects log payload ≡ closing 1
@@ -136,7 +141,8 @@ pub answered_too_long : (log : Log) (payload handshake : List ℕ) → handshake
     answered_effects log payload ≡ closing 1
 answered_too_long log payload handshake read more =
     ap (extending log) read
-    ∙ ap (λ (b : Bool). if b then packaging log extended2_command 0 (handshake_reply_payload handshake) else closing 1) (long (length handshake) more)
+    ∙ ap (λ (b : Bool). if b then packaging log extended2_command 0 (handshake_reply_payload handshake) else closing 1)
+    (long (length handshake) more)
 
 pub answered_gives : (c : Circuit) (rules : Rules) (h : List Event) (payload : List ℕ) (does : Effects) →
     answered_effects (log rules h) payload ≡ does → IsCircuit c rules h → effects rules h (Answered payload) ≡ does
@@ -159,7 +165,8 @@ answered_parts c packager rules log payload body parts does packages =
       windows = stands_still c.windows log (entry ∷ log) parts.windows (answered_leaves rules log payload);
       places = no_message_leaves_places c.places rules log (Answered payload) parts.places (none_either_way (is_closed log)) refl;
       addresses =
-          addresses_after c.addresses c.places c.places entry log (same_streams c.places) (ap (λ (x : Effects). place_of x.edge) does) parts.addresses;
+          addresses_after c.addresses c.places c.places entry log (same_streams c.places)
+          (ap (λ (x : Effects). place_of x.edge) does) parts.addresses;
     }
 
 pub answered_keeps : (c : Circuit) (packager : PackagerState) (rules : Rules) (h : List Event) (payload body : List ℕ)

@@ -72,7 +72,8 @@ opened_parts c rules reply keys pad hop packs stands free =
       windows = subst (λ (w : CircuitWindow). HasCountsOf c.windows w) (sym (opening_is_fresh rules reply keys pad)) stands;
       places = no_message_leaves_places c.places rules [] (Born reply keys pad) (no_places c.places free) refl refl;
       addresses =
-          addresses_after c.addresses c.places c.places entry [] (same_streams c.places) (no_place rules reply keys pad) (no_addresses c.addresses c.places);
+          addresses_after c.addresses c.places c.places entry [] (same_streams c.places) (no_place rules reply keys pad)
+          (no_addresses c.addresses c.places);
     }
 
 pub opened : (c : Circuit) (rules : Rules) (reply : CircuitCell) (keys : LayerKeys) (pad : Option (List ℕ)) → c.next_hop ≡ Absent

@@ -181,7 +181,8 @@ pub orderless_leaves_places : (state : PlacesState) (log : Log) (entry : Entry) 
     ((serial : ℕ) → (is_accepted sendme_command entry && has_place serial entry.message) ≡ false) → ArePlaces state (entry ∷ log)
 orderless_leaves_places state log entry are no_report none quiet =
     silent_entry_leaves_places state state log entry refl refl (ap place_of none)
-    (λ serial. orderless_is_silent entry serial none (quiet serial) (no_report.connects serial) (no_report.frees serial) (no_report.packs serial) (no_report.drains serial))
+    (λ serial. orderless_is_silent entry serial none (quiet serial) (no_report.connects serial) (no_report.frees serial)
+    (no_report.packs serial) (no_report.drains serial))
     are
 
 pub no_message_leaves_places : (state : PlacesState) (rules : Rules) (log : Log) (e : Event) → ArePlaces state log →
@@ -218,7 +219,9 @@ pub ordinary_leaves_places : (state : PlacesState) (rules : Rules) (log : Log) (
     ArePlaces state (entry_after rules log e ∷ log)
 ordinary_leaves_places state rules log e m are found begin data_ end sendme =
     orderless_leaves_places state log (entry_after rules log e) are (message_is_no_report log e m found)
-    (edge-of rules log e m found (ordinary-edge rules log m (differs m.command begin_command begin) (differs m.command data_command data_) (differs m.command end_command end)))
+    (edge-of rules log e m found
+    (ordinary-edge rules log m (differs m.command begin_command begin) (differs m.command data_command data_)
+    (differs m.command end_command end)))
     (λ serial. other_command_credits (entry_after rules log e) m serial found (differs m.command sendme_command sendme))
 
 pub refused_leaves_places : (state : PlacesState) (rules : Rules) (log : Log) (e : Event) (m : Message) → ArePlaces state log →
@@ -232,5 +235,6 @@ pub closing_leaves_places : (state : PlacesState) (rules : Rules) (log : Log) (e
     → ArePlaces state log →
     message_at log e ≡ Some m → effects_after rules log e ≡ closing reason → ArePlaces state (entry_after rules log e ∷ log)
 closing_leaves_places state rules log e m reason are found does =
-    orderless_leaves_places state log (entry_after rules log e) are (message_is_no_report log e m found) (ap (λ (x : Effects). x.edge) does)
+    orderless_leaves_places state log (entry_after rules log e) are (message_is_no_report log e m found)
+    (ap (λ (x : Effects). x.edge) does)
     (λ serial. closing_credits (entry_after rules log e) serial reason (ap (λ (x : Effects). x.close) does))

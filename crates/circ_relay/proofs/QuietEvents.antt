@@ -37,4 +37,5 @@ answered_leaves rules log payload = other_kind_leaves rules log (Answered payloa
 pub failed_leaves : (rules : Rules) (log : Log) → window_of (entry_after rules log Failed ∷ log) ≡ window_of log
 failed_leaves rules log = other_kind_leaves rules log Failed refl refl (λ n. refl)
 
-pub ruleset quiet_events = (backward_leaves, connected_leaves, ended_leaves, drained_leaves, freed_leaves, linked_leaves, answered_leaves, failed_leaves)
+pub ruleset quiet_events =
+    (backward_leaves, connected_leaves, ended_leaves, drained_leaves, freed_leaves, linked_leaves, answered_leaves, failed_leaves)

@@ -53,7 +53,8 @@ pub may_accept_by_the_log : (state : PlacesState) (log : Log) (place : ℕ) (h :
 may_accept_by_the_log state log place h are at =
     ap (λ n. nat_lt n (accept_grant h)) (are.streams place h at).accepted
     ∙ ap (λ n. nat_lt (carried_count log h.serial) n) (accepts_by_the_log state log place h are at)
-    ∙ not-less (carried_count log h.serial) (log_accept_grant log h.serial) (nat_le (log_accept_grant log h.serial) (carried_count log h.serial)) refl
+    ∙ not-less (carried_count log h.serial) (log_accept_grant log h.serial)
+    (nat_le (log_accept_grant log h.serial) (carried_count log h.serial)) refl
 
 pub may_credit_by_the_log : (state : PlacesState) (log : Log) (place : ℕ) (h : PlacedStream) → ArePlaces state log
     → held_at state place ≡ Some h →
@@ -66,10 +67,13 @@ may_credit_by_the_log state log place h are at =
 
 pub sendme_due_by_the_log : (state : PlacesState) (log : Log) (place : ℕ) (h : PlacedStream) → ArePlaces state log
     → held_at state place ≡ Some h →
-    sendme_due h ≡ (if nat_lt (drained_count log h.serial) (carried_count log h.serial) then Some (((drained_count log h.serial + 1) % stream_step) == 0) else None)
+    sendme_due h
+    ≡ (if nat_lt (drained_count log h.serial) (carried_count log h.serial)
+    then Some (((drained_count log h.serial + 1) % stream_step) == 0) else None)
 sendme_due_by_the_log state log place h are at =
     ap (λ n. if nat_lt n h.accepted then Some (((n + 1) % 50) == 0) else None) (are.streams place h at).drained
-    ∙ ap (λ n. if nat_lt (drained_count log h.serial) n then Some (((drained_count log h.serial + 1) % 50) == 0) else None) (are.streams place h at).accepted
+    ∙ ap (λ n. if nat_lt (drained_count log h.serial) n then Some (((drained_count log h.serial + 1) % 50) == 0) else None)
+    (are.streams place h at).accepted
 
 -- Live streams.
 
@@ -91,16 +95,20 @@ not_ending-live held_ending other = absurd (other refl)
 abbrev is_live_at : Log → ℕ → Place → Bool
 is_live_at log id p = (p.key.stream == id) && is_live log p
 
-place-live : (log : Log) (h : PlacedStream) → IsOfLog log h → (p : Place) → p.key ≡ stream_key h → is_live log p ≡ is_live_held h.phase
+place-live : (log : Log) (h : PlacedStream) → IsOfLog log h → (p : Place) → p.key ≡ stream_key h
+    → is_live log p ≡ is_live_held h.phase
 place-live log h is p key =
     ap (λ (k : StreamKey). is_live_phase (phase log k.serial)) key ∙ ap is_live_phase is.phase ∙ same-liveness h.phase
 
-live_place-by : (state : PlacesState) (log : Log) → AreNamed log → (h : PlacedStream) → IsOfLog log h → is_live_held h.phase ≡ true →
+live_place-by : (state : PlacesState) (log : Log) → AreNamed log → (h : PlacedStream) → IsOfLog log h
+    → is_live_held h.phase ≡ true →
     (x : Option Place) → find (is_live_at log h.stream) (places log) ≡ x
     → option_map (λ (p : Place). p.key.serial) x ≡ Some h.serial
 live_place-by state log named h is live None found =
     absurd (true-false (is_live_at log h.stream is.place)
-    (both (is.place.key.stream == h.stream) (is_live log is.place) (equal_true is.place.key.stream h.stream (ap (λ (k : StreamKey). k.stream) is.key)) (place-live log h is is.place is.key ∙ live))
+    (both (is.place.key.stream == h.stream) (is_live log is.place)
+    (equal_true is.place.key.stream h.stream (ap (λ (k : StreamKey). k.stream) is.key))
+    (place-live log h is is.place is.key ∙ live))
     (nothing_found (is_live_at log h.stream) (places log) h.serial is.place found is.found))
 live_place-by state log named h is live (Some q) found =
     let among : IsAmong (is_live_at log h.stream) (places log) q = found_among (is_live_at log h.stream) (places log) q found in
@@ -108,14 +116,17 @@ live_place-by state log named h is live (Some q) found =
     let q_stream : q.key.stream ≡ h.stream =
     same_by q.key.stream h.stream (and-left (q.key.stream == h.stream) (is_live log q) among.passes) in
     let same : among.place ≡ h.serial =
-    named.live_once among.place h.serial q is.place among.got is.found q_live (place-live log h is is.place is.key ∙ live) (q_stream ∙ sym (ap (λ (k : StreamKey). k.stream) is.key)) in
+    named.live_once among.place h.serial q is.place among.got is.found q_live (place-live log h is is.place is.key ∙ live)
+    (q_stream ∙ sym (ap (λ (k : StreamKey). k.stream) is.key)) in
     ap Some (named.numbered among.place q among.got ∙ same)
 
-pub live_stream_is_live_place : (state : PlacesState) (log : Log) (place : ℕ) (h : PlacedStream) → ArePlaces state log → AreNamed log →
+pub live_stream_is_live_place : (state : PlacesState) (log : Log) (place : ℕ) (h : PlacedStream) → ArePlaces state log
+    → AreNamed log →
     held_at state place ≡ Some h → h.phase ≢ held_ending → live_place log h.stream ≡ Some h.serial
 unfolding live_place
 live_stream_is_live_place state log place h are named at live =
-    live_place-by state log named h (are.streams place h at) (not_ending-live h.phase live) (find (is_live_at log h.stream) (places log)) refl
+    live_place-by state log named h (are.streams place h at) (not_ending-live h.phase live)
+    (find (is_live_at log h.stream) (places log)) refl
 
 -- What a place that passes holds.
 record Passes (id : ℕ) (held : Option PlacedStream) : Type 0 where
@@ -135,7 +146,8 @@ passes id (Some h) is = record {
 
 pub live_found : (state : PlacesState) (log : Log) (id place : ℕ) → ArePlaces state log → AreNamed log
     → position (is_live_as id) state.streams ≡ Some place →
-    (h : PlacedStream) × (held_at state place ≡ Some h) × (h.stream ≡ id) × (h.phase ≢ held_ending) × (live_place log id ≡ Some h.serial)
+    (h : PlacedStream) × (held_at state place ≡ Some h) × (h.stream ≡ id) × (h.phase ≢ held_ending)
+    × (live_place log id ≡ Some h.serial)
 live_found state log id place are named first =
     let at = position-Some (is_live_as id) state.streams place None first in
     let there : Passes id (held_at state place) = passes id (held_at state place) at.1 in
@@ -184,7 +196,8 @@ none-passes : (state : PlacesState) (id place : ℕ) (h : PlacedStream) → posi
     h.stream ≡ id → is_live_held h.phase ≡ true → ⊥
 none-passes state id place h none holds named live =
     true-false (is_live_as id (held_at state place)) (passes-as id (held_at state place) h holds named live)
-    (all-fail (is_live_as id) state.streams place None (position-none (is_live_as id) state.streams none) (taken_within state place h holds))
+    (all-fail (is_live_as id) state.streams place None (position-none (is_live_as id) state.streams none)
+    (taken_within state place h holds))
 
 none-by : (state : PlacesState) (log : Log) (id : ℕ) → ArePlaces state log → AreNamed log
     → position (is_live_as id) state.streams ≡ None →
@@ -219,5 +232,6 @@ serial-by state log id are named (Some place) is =
     ap (option_map (λ (h : PlacedStream). h.serial)) found.1 ∙ sym found.4
 
 pub live_serial : (state : PlacesState) (log : Log) (id : ℕ) → ArePlaces state log → AreNamed log →
-    option_and_then (λ place. option_map (λ (h : PlacedStream). h.serial) (held_at state place)) (position (is_live_as id) state.streams) ≡ live_place log id
+    option_and_then (λ place. option_map (λ (h : PlacedStream). h.serial) (held_at state place))
+    (position (is_live_as id) state.streams) ≡ live_place log id
 live_serial state log id are named = serial-by state log id are named (position (is_live_as id) state.streams) refl

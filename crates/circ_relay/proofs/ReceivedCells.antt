@@ -47,13 +47,16 @@ too_many_does rules log command body unclosed many = rw (unclosed, many) refl
 plain_received : (log : Log) (command : ℕ) (plain : List ℕ) (recognised fits : Bool)
     → ((command == relay_early_command) && nat_le relay_early_limit (early_count log)) ≡ false
     → recognises log plain ≡ recognised → fits_length plain ≡ fits
-    → received_plain log command plain ≡ (if recognised then (if fits then ForUs (message_in_body log command plain) else TooLong) else Unrecognised plain)
+    → received_plain log command plain
+    ≡ (if recognised then (if fits then ForUs (message_in_body log command plain) else TooLong) else Unrecognised plain)
 plain_received log command plain recognised fits few is long = rw (few, is, long) refl
 
 cell_received : (opened : Opened) (log : Log) (command : ℕ) (body : List ℕ) (recognised fits : Bool)
     → IsNextCell opened log command body
     → recognises log opened.body ≡ recognised → fits_length opened.body ≡ fits
-    → received log command body ≡ (if recognised then (if fits then ForUs (message_in_body log command opened.body) else TooLong) else Unrecognised opened.body)
+    → received log command body
+    ≡ (if recognised then (if fits then ForUs (message_in_body log command opened.body) else TooLong)
+    else Unrecognised opened.body)
 unfolding received
 cell_received opened log command body recognised fits cell is long =
     ap (λ (b : List ℕ). received_plain log command b) (sym cell.opens.plain)
@@ -80,7 +83,8 @@ is_recognised : (opened : Opened) (log : Log) (command : ℕ) (body digest : Lis
     → opened.recognised ≡ Some digest
     → (recognises log opened.body ≡ true) × (digest ≡ digest_with log opened.body)
 is_recognised opened log command body digest cell is =
-    recognised_by (recognises log opened.body) (digest_with log opened.body) digest (sym is ∙ opens_as opened log command body cell)
+    recognised_by (recognises log opened.body) (digest_with log opened.body) digest
+    (sym is ∙ opens_as opened log command body cell)
 
 is_unrecognised : (opened : Opened) (log : Log) (command : ℕ) (body : List ℕ) → IsNextCell opened log command body
     → opened.recognised ≡ None → recognises log opened.body ≡ false
@@ -108,7 +112,8 @@ unrecognised_received : (opened : Opened) (log : Log) (command : ℕ) (body : Li
     → opened.recognised ≡ None
     → received log command body ≡ Unrecognised opened.body
 unrecognised_received opened log command body cell is =
-    cell_received opened log command body false (fits_length opened.body) cell (is_unrecognised opened log command body cell is) refl
+    cell_received opened log command body false (fits_length opened.body) cell (is_unrecognised opened log command body cell is)
+    refl
 
 pub passed_on_does : (opened : Opened) (rules : Rules) (log : Log) (command : ℕ) (body : List ℕ)
     → IsNextCell opened log command body
@@ -140,7 +145,8 @@ passed_on_parts c opened rules log command body cell has is =
     cell_parts c c rules log command body (passed_on (next_hop log) (record { command = command; body = opened.body })) has
     (passed_on_does opened rules log command body cell is) quiet.dial quiet.cut quiet.edge refl refl refl
     (subst (λ b. IsPackagedNext c.packager log b) (sym quiet.back) (none_packaged c.packager log has.packager))
-    (stands_still c.windows log (after_cell rules log command body) has.windows (quiet_event_leaves rules log (Forward command body) refl none (λ serial. refl)))
+    (stands_still c.windows log (after_cell rules log command body) has.windows
+    (quiet_event_leaves rules log (Forward command body) refl none (λ serial. refl)))
     (no_message_leaves_places c.places rules log (Forward command body) has.places none refl) (same_streams c.places)
 
 -- A Length that no relay cell has.
@@ -155,7 +161,8 @@ pub too_long_does : (opened : Opened) (rules : Rules) (log : Log) (command : ℕ
     → IsNextCell opened log command body → opened.recognised ≡ Some digest
     → fits_length opened.body ≡ false → effects_after rules log (Forward command body) ≡ closing 1
 too_long_does opened rules log command body digest cell is long =
-    long_does rules log command body cell.unclosed (cell_received opened log command body true false cell (is_recognised opened log command body digest cell is).0 long)
+    long_does rules log command body cell.unclosed
+    (cell_received opened log command body true false cell (is_recognised opened log command body digest cell is).0 long)
 
 -- A message.
 pub brought : (opened : Opened) (message : CodeMessage) (log : Log) (command : ℕ) (body digest : List ℕ)
@@ -193,15 +200,25 @@ pub data_for_live : (opened : Opened) (state : PlacesState) (command stream : �
     → is_some (position (is_live_as stream) state.streams) ≡ true
     → is_data_for_live opened state ≡ true
 data_for_live opened state command stream digest is fits commanded streamed data_ live =
-    all-true (is_some opened.recognised) (fits_length opened.body) ((relay_head opened.body).command == data_command) (is_some (position (is_live_as (relay_head opened.body).stream) state.streams))
-    (ap is_some is) fits (ap (λ n. n == data_command) (sym commanded ∙ data_)) (ap (λ n. is_some (position (is_live_as n) state.streams)) (sym streamed) ∙ live)
+    all-true (is_some opened.recognised) (fits_length opened.body) ((relay_head opened.body).command == data_command)
+    (is_some (position (is_live_as (relay_head opened.body).stream) state.streams))
+    (ap is_some is) fits (ap (λ n. n == data_command) (sym commanded ∙ data_))
+    (ap (λ n. is_some (position (is_live_as n) state.streams)) (sym streamed) ∙ live)
 
 -- The count of RELAY_EARLY cells.
 
 pub early_apart : (c d : Circuit) (early : ℕ) (log : Log) → d ≡ record c { early_cells = early } → HasParts c log → HasParts d log
 early_apart c d early log is has =
     subst (λ e. HasParts e log) (sym is)
-    (record { hop = has.hop; asked = has.asked; packager = has.packager; windows = has.windows; places = has.places; addresses = has.addresses })
+    (record {
+      hop = has.hop;
+      asked = has.asked;
+      packager = has.packager;
+      windows = has.windows;
+      places = has.places;
+      addresses =
+          has.addresses;
+    })
 
 pub made_early : (c d : Circuit) (early : ℕ) (rules : Rules) → d ≡ record c { early_cells = early } → IsMadeBy c rules
     → IsMadeBy d rules
@@ -221,12 +238,19 @@ too_many c rules h command counts is by =
     ap (λ n. (command == relay_early_command) && nat_le relay_early_limit n) (sym is.early)
     ∙ not-not ((command == relay_early_command) && nat_le relay_early_limit c.early_cells) ∙ ap not (sym by)
 
-pub cell_of_history : (c : Circuit) (opened : Opened) (rules : Rules) (h : List Event) (command : ℕ) (body : List ℕ) (counts : Bool)
+pub cell_of_history : (c : Circuit) (opened : Opened) (rules : Rules) (h : List Event) (command : ℕ) (body : List ℕ)
+    (counts : Bool)
     → IsCircuit c rules h → IsOpened opened (log rules h) body
     → counts ≡ not ((command == relay_early_command) && nat_le relay_early_limit c.early_cells) → counts ≡ true
     → IsNextCell opened (log rules h) command body
 cell_of_history c opened rules h command body counts is opens by so =
-    record { unclosed = is.unclosed; named = history_is_named rules h; opens = opens; few = too_many c rules h command counts is by ∙ ap not so }
+    record {
+      unclosed = is.unclosed;
+      named = history_is_named rules h;
+      opens = opens;
+      few =
+          too_many c rules h command counts is by ∙ ap not so;
+    }
 
 pub circuit_after : (c d : Circuit) (rules : Rules) (h : List Event) (command : ℕ) (body : List ℕ) (outcome : Effects)
     → IsCircuit c rules h → effects_after rules (log rules h) (Forward command body) ≡ outcome
@@ -235,7 +259,8 @@ pub circuit_after : (c d : Circuit) (rules : Rules) (h : List Event) (command : 
     → IsCircuit d rules (Forward command body ∷ h)
 circuit_after c d rules h command body outcome is does none early limits has = record {
   unclosed =
-      unclosed_after (entry_after rules (log rules h) (Forward command body)) (log rules h) (ap (λ (e : Effects). e.close) does ∙ none) is.unclosed;
+      unclosed_after (entry_after rules (log rules h) (Forward command body)) (log rules h)
+      (ap (λ (e : Effects). e.close) does ∙ none) is.unclosed;
   early = early ∙ ap (λ n. if command == relay_early_command then n + 1 else n) is.early;
   made = made_after c d rules is.made limits;
   parts = has;

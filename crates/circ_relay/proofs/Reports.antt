@@ -81,7 +81,8 @@ connected_joins state rules log place h are at reaching =
       found = place_stays entry log h.serial makes_none ∙ is.found;
       key = is.key;
       phase =
-          phase_joined entry log h.serial (is.phase ∙ ap model_phase reaching) (equal_to h.serial) refl (ap (closes_place h.serial) none);
+          phase_joined entry log h.serial (is.phase ∙ ap model_phase reaching) (equal_to h.serial) refl
+          (ap (closes_place h.serial) none);
       packed = is.packed ∙ sym (packaged_stays entry log h.serial refl);
       credits = is.credits ∙ sym (sendmes_stay entry log h.serial (quiet h.serial));
       accepted = is.accepted ∙ sym (carried_stays entry log h.serial (ap (carries h.serial) none));

@@ -82,7 +82,8 @@ pub zero_place : (message : CodeMessage) (log : Log) (command : ℕ) (body : Lis
 zero_place message log command body m b zero_ =
     brought_place message log command body m None b (ap (λ n. live_place log n) zero_ ∙ zero_is_not_live log b.named)
 
-pub good_sendme_parts : (c : Circuit) (new : WindowsState) (message : CodeMessage) (rules : Rules) (log : Log) (command : ℕ) (body : List ℕ) (m : Message) (answer : ProofAnswer)
+pub good_sendme_parts : (c : Circuit) (new : WindowsState) (message : CodeMessage) (rules : Rules) (log : Log) (command : ℕ)
+    (body : List ℕ) (m : Message) (answer : ProofAnswer)
     → IsBrought message log command body m → HasParts c log → m.command ≡ sendme_command → message.stream ≡ 0
     → answer ≡ answer_to rules.least (window_of log) message.payload.now → answer ≡ Good
     → HasCountsOf new (window_after answer (window_of log))
@@ -97,7 +98,8 @@ good_sendme_parts c new message rules log command body m answer b has is zero_ j
     ∙ good_sendme_does rules log m message.payload.now answer (sym b.stream ∙ zero_) b.payload judged good in
     cell_parts c (record c { windows = new }) rules log command body no_effects has given refl refl refl refl refl refl
     (none_packaged c.packager log has.packager) (subst (λ w. HasCountsOf new w) (sym window) stands)
-    (placeless_places c.places message rules log command body m b (ap (λ k. k == begin_command) is) (zero_place message log command body m b zero_) has.places) (same_streams c.places)
+    (placeless_places c.places message rules log command body m b (ap (λ k. k == begin_command) is)
+    (zero_place message log command body m b zero_) has.places) (same_streams c.places)
 
 -- A stream's SENDME.
 
@@ -116,11 +118,13 @@ streams_window message rules log command body m b is some =
     other_message_leaves rules log (Forward command body) m (found message log command body m b) (ap (λ k. k == data_command) is)
     (rw (apart_false m.stream 0 some) (and_none (m.command == sendme_command)))
 
-pub placeless_sendme_parts : (c : Circuit) (message : CodeMessage) (rules : Rules) (log : Log) (command : ℕ) (body : List ℕ) (m : Message)
+pub placeless_sendme_parts : (c : Circuit) (message : CodeMessage) (rules : Rules) (log : Log) (command : ℕ) (body : List ℕ)
+    (m : Message)
     → IsBrought message log command body m → HasParts c log → m.command ≡ sendme_command → (m.stream ≡ 0 → ⊥) → m.place ≡ None
     → HasParts c (after_cell rules log command body)
 placeless_sendme_parts c message rules log command body m b has is some none =
-    unmoved_parts c message rules log command body m b has (of_sendme rules log m is ∙ placeless_sendme_does rules log m some none)
+    unmoved_parts c message rules log command body m b has
+    (of_sendme rules log m is ∙ placeless_sendme_does rules log m some none)
     (streams_window message rules log command body m b is some)
     (placeless_places c.places message rules log command body m b (ap (λ k. k == begin_command) is) none has.places)
 
@@ -134,23 +138,27 @@ too_much : (may : Bool) (answer : CreditAnswer) → answer ≡ (if may then Cred
 too_much false answer by is = refl
 too_much true answer by is = (let never : ◌≡◌ {A = CreditAnswer} CreditAnswer.Raised CreditAnswer.TooMuch = sym by ∙ is in cc)
 
-pub raised_does : (rules : Rules) (s : PlacesState) (log : Log) (m : Message) (place : ℕ) (h : PlacedStream) (answer : CreditAnswer)
+pub raised_does : (rules : Rules) (s : PlacesState) (log : Log) (m : Message) (place : ℕ) (h : PlacedStream)
+    (answer : CreditAnswer)
     → ArePlaces s log → held_at s place ≡ Some h → (m.stream ≡ 0 → ⊥) → m.place ≡ Some h.serial
     → answer ≡ (if may_credit h then CreditAnswer.Raised else CreditAnswer.TooMuch) → answer ≡ CreditAnswer.Raised
     → sendme_effects rules log m ≡ no_effects
 raised_does rules s log m place h answer are holds some named by is =
     let test : nat_lt (stream_start + stream_packaged log h.serial) (stream_grant log h.serial + stream_step) ≡ false =
-    not-true (nat_lt (stream_start + stream_packaged log h.serial) (stream_grant log h.serial + stream_step)) (sym (may_credit_by_the_log s log place h are holds) ∙ raised (may_credit h) answer by is) in
+    not-true (nat_lt (stream_start + stream_packaged log h.serial) (stream_grant log h.serial + stream_step))
+    (sym (may_credit_by_the_log s log place h are holds) ∙ raised (may_credit h) answer by is) in
     stream_sendme_does rules log m some ∙ ap (λ p. stream_sendme_at log p) named
     ∙ ap (λ (b : Bool). if b then closing 1 else no_effects) test
 
-pub too_much_does : (rules : Rules) (s : PlacesState) (log : Log) (m : Message) (place : ℕ) (h : PlacedStream) (answer : CreditAnswer)
+pub too_much_does : (rules : Rules) (s : PlacesState) (log : Log) (m : Message) (place : ℕ) (h : PlacedStream)
+    (answer : CreditAnswer)
     → ArePlaces s log → held_at s place ≡ Some h → (m.stream ≡ 0 → ⊥) → m.place ≡ Some h.serial
     → answer ≡ (if may_credit h then CreditAnswer.Raised else CreditAnswer.TooMuch) → answer ≡ CreditAnswer.TooMuch
     → sendme_effects rules log m ≡ closing 1
 too_much_does rules s log m place h answer are holds some named by is =
     let test : nat_lt (stream_start + stream_packaged log h.serial) (stream_grant log h.serial + stream_step) ≡ true =
-    unnot (nat_lt (stream_start + stream_packaged log h.serial) (stream_grant log h.serial + stream_step)) (sym (may_credit_by_the_log s log place h are holds) ∙ too_much (may_credit h) answer by is) in
+    unnot (nat_lt (stream_start + stream_packaged log h.serial) (stream_grant log h.serial + stream_step))
+    (sym (may_credit_by_the_log s log place h are holds) ∙ too_much (may_credit h) answer by is) in
     stream_sendme_does rules log m some ∙ ap (λ p. stream_sendme_at log p) named
     ∙ ap (λ (b : Bool). if b then closing 1 else no_effects) test
 
@@ -158,7 +166,8 @@ credited_serial : (h : PlacedStream) (may : Bool) → h.serial ≡ (if may then 
 credited_serial h true = refl
 credited_serial h false = refl
 
-pub raised_parts : (c : Circuit) (new : PlacesState) (message : CodeMessage) (rules : Rules) (log : Log) (command : ℕ) (body : List ℕ) (m : Message) (place : ℕ) (h : PlacedStream) (answer : CreditAnswer)
+pub raised_parts : (c : Circuit) (new : PlacesState) (message : CodeMessage) (rules : Rules) (log : Log) (command : ℕ)
+    (body : List ℕ) (m : Message) (place : ℕ) (h : PlacedStream) (answer : CreditAnswer)
     → IsBrought message log command body m → HasParts c log → m.command ≡ sendme_command → (m.stream ≡ 0 → ⊥)
     → m.place ≡ Some h.serial → held_at c.places place ≡ Some h
     → answer ≡ (if may_credit h then CreditAnswer.Raised else CreditAnswer.TooMuch) → answer ≡ CreditAnswer.Raised
@@ -169,8 +178,14 @@ raised_parts c new message rules log command body m place h answer b has is some
     does message rules log command body m b ∙ of_sendme rules log m is
     ∙ raised_does rules c.places log m place h answer has.places holds some named by raises in
     let are : ArePlaces new (after_cell rules log command body) =
-    subst (λ s. ArePlaces s (after_cell rules log command body)) (sym becomes) (sendme_credits c.places rules log (Forward command body) m place h has.places (found message log command body m b) is (above_zero m.stream some) named holds) in
+    subst (λ s. ArePlaces s (after_cell rules log command body)) (sym becomes)
+    (sendme_credits c.places rules log (Forward command body) m place h has.places (found message log command body m b) is
+    (above_zero m.stream some) named holds) in
     let keeps : KeepsStreams c.places new =
-    subst (λ s. KeepsStreams c.places s) (sym becomes) (changed_streams c.places place h (Some (after_credit h)) holds (same_held h (after_credit h) (sym (credited_serial h (may_credit h))))) in
+    subst (λ s. KeepsStreams c.places s) (sym becomes)
+    (changed_streams c.places place h (Some (after_credit h)) holds
+    (same_held h (after_credit h) (sym (credited_serial h (may_credit h))))) in
     cell_parts c (record c { places = new }) rules log command body no_effects has given refl refl refl refl refl refl
-    (none_packaged c.packager log has.packager) (stands_still c.windows log (after_cell rules log command body) has.windows (streams_window message rules log command body m b is some)) are keeps
+    (none_packaged c.packager log has.packager)
+    (stands_still c.windows log (after_cell rules log command body) has.windows
+    (streams_window message rules log command body m b is some)) are keeps

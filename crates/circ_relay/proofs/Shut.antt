@@ -34,7 +34,8 @@ tested_by packed granted false true is tells =
 
 -- The counts of the stream and of the circuit.
 
-stream_count : (c : Circuit) (log : Log) (key : StreamKey) (place : ℕ) (stream : PlacedStream) → IsAt c key place stream → HasParts c log
+stream_count : (c : Circuit) (log : Log) (key : StreamKey) (place : ℕ) (stream : PlacedStream) → IsAt c key place stream
+    → HasParts c log
     → stream.packed ≡ stream_packaged log key.serial
 stream_count c log key place stream at parts =
     (parts.places.streams place stream at.held).packed ∙ ap (λ n. stream_packaged log n) (named c key place stream at).1
@@ -47,7 +48,8 @@ circuit_grant_is : (c : Circuit) (rules : Rules) (log : Log) → IsMadeBy c rule
 unfolding window_of
 circuit_grant_is c rules log made parts = (λ i. granted_after (made.start i) (parts.windows.good i))
 
-stream_test : (c : Circuit) (log : Log) (key : StreamKey) (place : ℕ) (stream : PlacedStream) → IsAt c key place stream → HasParts c log
+stream_test : (c : Circuit) (log : Log) (key : StreamKey) (place : ℕ) (stream : PlacedStream) → IsAt c key place stream
+    → HasParts c log
     → nat_lt (stream_packaged log key.serial) (stream_grant log key.serial) ≡ may_package stream
 stream_test c log key place stream at parts =
     ap (λ n. nat_lt (stream_packaged log n) (stream_grant log n)) (sym (named c key place stream at).1)
@@ -64,7 +66,8 @@ circuit_test c rules log result made parts tells =
 
 -- Each answer.
 
-pub stream_shuts : (c : Circuit) (rules : Rules) (h : List Event) (key : StreamKey) (place : ℕ) (stream : PlacedStream) (count : ℕ)
+pub stream_shuts : (c : Circuit) (rules : Rules) (h : List Event) (key : StreamKey) (place : ℕ) (stream : PlacedStream)
+    (count : ℕ)
     → IsAt c key place stream → may_package stream ≡ false → count ≡ stream.packed → IsCircuit c rules h
     → Some (Stream, count) ≡ shut_window rules (log rules h) key.serial
 stream_shuts c rules h key place stream count at shut count_is is =
@@ -72,7 +75,8 @@ stream_shuts c rules h key place stream count at shut count_is is =
     stream_test c (log rules h) key place stream at is.parts ∙ shut in
     rw test (ap (λ n. Some (Stream, n)) (count_is ∙ stream_count c (log rules h) key place stream at is.parts))
 
-pub circuit_shuts : (c : Circuit) (rules : Rules) (h : List Event) (key : StreamKey) (place : ℕ) (stream : PlacedStream) (result : Bool) (count : ℕ)
+pub circuit_shuts : (c : Circuit) (rules : Rules) (h : List Event) (key : StreamKey) (place : ℕ) (stream : PlacedStream)
+    (result : Bool) (count : ℕ)
     → IsAt c key place stream → may_package stream ≡ true → (result ≡ true ↔ HasRoom c.windows) → result ≡ false
     → count ≡ c.windows.packed → IsCircuit c rules h
     → Some (CircuitShut, count) ≡ shut_window rules (log rules h) key.serial
@@ -83,7 +87,8 @@ circuit_shuts c rules h key place stream result count at may tells shut count_is
     circuit_test c rules (log rules h) result is.made is.parts tells ∙ shut in
     rw (test, closed) (ap (λ n. Some (CircuitShut, n)) (count_is ∙ circuit_count c (log rules h) is.parts))
 
-pub none_shuts : (c : Circuit) (rules : Rules) (h : List Event) (key : StreamKey) (place : ℕ) (stream : PlacedStream) (result : Bool)
+pub none_shuts : (c : Circuit) (rules : Rules) (h : List Event) (key : StreamKey) (place : ℕ) (stream : PlacedStream)
+    (result : Bool)
     → IsAt c key place stream → may_package stream ≡ true → (result ≡ true ↔ HasRoom c.windows) → result ≡ true
     → IsCircuit c rules h
     → None ≡ shut_window rules (log rules h) key.serial

@@ -29,7 +29,8 @@ to_equal : (made new : PlacesState) (rules : Rules) (log : Log) (e : Event) → 
     → ArePlaces made (entry_after rules log e ∷ log) → ArePlaces new (entry_after rules log e ∷ log)
 to_equal made new rules log e is are = subst (λ s. ArePlaces s (entry_after rules log e ∷ log)) (sym is) are
 
-pub begin_goes_on : (state new : PlacesState) (rules : Rules) (log : Log) (e : Event) (m : Message) (place id : ℕ) (to : Address) →
+pub begin_goes_on : (state new : PlacesState) (rules : Rules) (log : Log) (e : Event) (m : Message) (place id : ℕ) (to : Address)
+    →
     message_at log e ≡ Some m → m.command ≡ begin_command
     → (effects_after rules log e).edge ≡ Some (Reach (record { stream = id; serial = length (places log) }) to) →
     position is_free state.streams ≡ Some place →
@@ -37,35 +38,40 @@ pub begin_goes_on : (state new : PlacesState) (rules : Rules) (log : Log) (e : E
     → PlacesGoOn state new rules log e
 unfolding PlacesGoOn
 begin_goes_on state new rules log e m place id to found command order first is are =
-    to_equal (record (with_held state place (Some (begun id state.next_serial))) { next_serial = state.next_serial + 1 }) new rules log e is (begin_takes_a_place state rules log e m place id to are found command order first)
+    to_equal (record (with_held state place (Some (begun id state.next_serial))) { next_serial = state.next_serial + 1 }) new
+    rules log e is (begin_takes_a_place state rules log e m place id to are found command order first)
 
 pub connected_goes_on : (state new : PlacesState) (rules : Rules) (log : Log) (place : ℕ) (h : PlacedStream) →
     held_at state place ≡ Some h → h.phase ≡ Reaching → new ≡ with_held state place (Some (record h { phase = Joined }))
     → PlacesGoOn state new rules log (Connected h.serial)
 unfolding PlacesGoOn
 connected_goes_on state new rules log place h at reaching is are =
-    to_equal (with_held state place (Some (record h { phase = Joined }))) new rules log (Connected h.serial) is (connected_joins state rules log place h are at reaching)
+    to_equal (with_held state place (Some (record h { phase = Joined }))) new rules log (Connected h.serial) is
+    (connected_joins state rules log place h are at reaching)
 
 pub bytes_go_on : (state new : PlacesState) (rules : Rules) (log : Log) (place : ℕ) (h : PlacedStream) (bytes : List ℕ) →
     held_at state place ≡ Some h → new ≡ with_held state place (Some (after_packaging h))
     → PlacesGoOn state new rules log (Data h.serial bytes)
 unfolding PlacesGoOn
 bytes_go_on state new rules log place h bytes at is are =
-    to_equal (with_held state place (Some (after_packaging h))) new rules log (Data h.serial bytes) is (bytes_package state rules log place h bytes are at)
+    to_equal (with_held state place (Some (after_packaging h))) new rules log (Data h.serial bytes) is
+    (bytes_package state rules log place h bytes are at)
 
 pub drained_goes_on : (state new : PlacesState) (rules : Rules) (log : Log) (place : ℕ) (h : PlacedStream) →
     held_at state place ≡ Some h → may_drain h ≡ true → new ≡ with_held state place (Some (after_draining h))
     → PlacesGoOn state new rules log (Drained h.serial)
 unfolding PlacesGoOn
 drained_goes_on state new rules log place h at may is are =
-    to_equal (with_held state place (Some (after_draining h))) new rules log (Drained h.serial) is (drained_drains state rules log place h are at may)
+    to_equal (with_held state place (Some (after_draining h))) new rules log (Drained h.serial) is
+    (drained_drains state rules log place h are at may)
 
 pub ended_goes_on : (state new : PlacesState) (rules : Rules) (log : Log) (place : ℕ) (h : PlacedStream) (reason : ℕ) →
     is_closed log ≡ false → held_at state place ≡ Some h → new ≡ with_held state place (Some (record h { phase = Ending }))
     → PlacesGoOn state new rules log (Ended h.serial reason)
 unfolding PlacesGoOn
 ended_goes_on state new rules log place h reason live at is are =
-    to_equal (with_held state place (Some (record h { phase = Ending }))) new rules log (Ended h.serial reason) is (ended_ends state rules log place h reason are live at)
+    to_equal (with_held state place (Some (record h { phase = Ending }))) new rules log (Ended h.serial reason) is
+    (ended_ends state rules log place h reason are live at)
 
 pub freed_goes_on : (state new : PlacesState) (rules : Rules) (log : Log) (place : ℕ) (h : PlacedStream) →
     held_at state place ≡ Some h → new ≡ with_held state place None → PlacesGoOn state new rules log (Freed h.serial)
@@ -78,22 +84,27 @@ pub end_goes_on : (state new : PlacesState) (rules : Rules) (log : Log) (e : Eve
     new ≡ with_held state place (Some (record h { phase = Ending })) → PlacesGoOn state new rules log e
 unfolding PlacesGoOn
 end_goes_on state new rules log e m place h at found command named is are =
-    to_equal (with_held state place (Some (record h { phase = Ending }))) new rules log e is (end_ends state rules log e m place h are found command named at)
+    to_equal (with_held state place (Some (record h { phase = Ending }))) new rules log e is
+    (end_ends state rules log e m place h are found command named at)
 
-pub data_goes_on : (state new : PlacesState) (rules : Rules) (log : Log) (e : Event) (m : Message) (place : ℕ) (h : PlacedStream) →
+pub data_goes_on : (state new : PlacesState) (rules : Rules) (log : Log) (e : Event) (m : Message) (place : ℕ) (h : PlacedStream)
+    →
     held_at state place ≡ Some h → message_at log e ≡ Some m → m.command ≡ data_command → m.place ≡ Some h.serial →
     new ≡ with_held state place (Some (after_accepting h)) → PlacesGoOn state new rules log e
 unfolding PlacesGoOn
 data_goes_on state new rules log e m place h at found command named is are =
-    to_equal (with_held state place (Some (after_accepting h))) new rules log e is (data_accepts state rules log e m place h are found command named at)
+    to_equal (with_held state place (Some (after_accepting h))) new rules log e is
+    (data_accepts state rules log e m place h are found command named at)
 
-pub sendme_goes_on : (state new : PlacesState) (rules : Rules) (log : Log) (e : Event) (m : Message) (place : ℕ) (h : PlacedStream) →
+pub sendme_goes_on : (state new : PlacesState) (rules : Rules) (log : Log) (e : Event) (m : Message) (place : ℕ)
+    (h : PlacedStream) →
     held_at state place ≡ Some h → message_at log e ≡ Some m → m.command ≡ sendme_command → 0 < m.stream
     → m.place ≡ Some h.serial →
     new ≡ with_held state place (Some (after_credit h)) → PlacesGoOn state new rules log e
 unfolding PlacesGoOn
 sendme_goes_on state new rules log e m place h at found command stream named is are =
-    to_equal (with_held state place (Some (after_credit h))) new rules log e is (sendme_credits state rules log e m place h are found command stream named at)
+    to_equal (with_held state place (Some (after_credit h))) new rules log e is
+    (sendme_credits state rules log e m place h are found command stream named at)
 
 -- Every other event.
 

@@ -73,7 +73,8 @@ sendme-by state rules log e m place h are found command nonzero named at false f
     let none : entry.effects.edge ≡ None = ap (λ (x : Effects). x.edge) does in
     let makes_none : place_of entry.effects.edge ≡ None = ap place_of none in
     let credits_by : (serial : ℕ) → (is_accepted sendme_command entry && has_place serial entry.message) ≡ (h.serial == serial) =
-    λ serial. ap (λ (x : Option Message). (has_command sendme_command x && is_none entry.effects.close) && has_place serial x) found
+    λ serial. ap (λ (x : Option Message). (has_command sendme_command x && is_none entry.effects.close) && has_place serial x)
+    found
     ∙ ap (λ n. ((n == sendme_command) && is_none entry.effects.close) && has_place serial (Some m)) command
     ∙ ap (λ (x : Effects). is_none x.close && has_place serial (Some m)) does
     ∙ ap (is_serial serial) named in
@@ -84,7 +85,8 @@ sendme-by state rules log e m place h are found command nonzero named at false f
       found = place_stays entry log h.serial makes_none ∙ is.found;
       key = is.key;
       phase =
-          phase_stays entry log h.serial (no_report.connects h.serial) (no_report.frees h.serial) (ap (closes_place h.serial) none)
+          phase_stays entry log h.serial (no_report.connects h.serial) (no_report.frees h.serial)
+          (ap (closes_place h.serial) none)
           ∙ is.phase;
       packed = is.packed ∙ sym (packaged_stays entry log h.serial (no_report.packs h.serial));
       credits = ap (λ n. n + 1) is.credits ∙ sym (sendmes_more entry log h.serial (credits_by h.serial ∙ equal_to h.serial));
@@ -111,5 +113,6 @@ sendme_credits state rules log e m place h are found command stream named at =
     let may : may_credit h ≡ (if too_much log h.serial then false else true) =
     ap (λ n. nat_le (pack_grant h + 50) (500 + n)) is.packed
     ∙ ap (λ n. nat_le (500 + 50 * n + 50) (500 + stream_packaged log h.serial)) is.credits
-    ∙ at_most_by (stream_grant log h.serial + stream_step) (stream_start + stream_packaged log h.serial) (too_much log h.serial) refl in
+    ∙ at_most_by (stream_grant log h.serial + stream_step) (stream_start + stream_packaged log h.serial) (too_much log h.serial)
+    refl in
     sendme-by state rules log e m place h are found command nonzero named at (too_much log h.serial) refl may

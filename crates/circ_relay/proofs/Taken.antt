@@ -58,7 +58,8 @@ apart-held state log are i j x y n got also is named =
     let one : Names x n = names-held x n is in
     let other : Names y n = names-held y n named in
     are.once i j one.stream other.stream
-    (get_or_from_slice_get state.streams i x None got ∙ one.holds) (get_or_from_slice_get state.streams j y None also ∙ other.holds)
+    (get_or_from_slice_get state.streams i x None got ∙ one.holds)
+    (get_or_from_slice_get state.streams j y None also ∙ other.holds)
     (one.serial ∙ sym other.serial)
 
 apart-taken : (log : Log) → AreNamed log → AreApart (serial_taken log) (places log)
@@ -82,7 +83,8 @@ held-taken state log are n is =
       element = of_log.place;
       got = of_log.found;
       names = if-true (is_taken_phase (phase log of_log.place.key.serial)) of_log.place.key.serial
-          (ap (λ m. is_taken_phase (phase log m)) serial ∙ ap is_taken_phase of_log.phase ∙ not_free-taken (model_phase named.stream.phase) (held_lasts named.stream.phase))
+          (ap (λ m. is_taken_phase (phase log m)) serial ∙ ap is_taken_phase of_log.phase
+          ∙ not_free-taken (model_phase named.stream.phase) (held_lasts named.stream.phase))
           ∙ ap Some (serial ∙ named.serial);
     }
 
@@ -113,8 +115,10 @@ pub taken_by_the_log : (state : PlacesState) (log : Log) → ArePlaces state log
 unfolding taken_places
 taken_by_the_log state log are named =
     sym (length-named serial_held (λ held. not (is_free held)) tests-held state.streams)
-    ∙ same-count serial_held (serial_taken log) state.streams (places log) (apart-held state log are) (apart-taken log named) (held-taken state log are) (taken-held state log are named)
-    ∙ length-named (serial_taken log) (λ place. is_taken_phase (phase log place.key.serial)) (λ place. tests-if (is_taken_phase (phase log place.key.serial)) place.key.serial) (places log)
+    ∙ same-count serial_held (serial_taken log) state.streams (places log) (apart-held state log are) (apart-taken log named)
+    (held-taken state log are) (taken-held state log are named)
+    ∙ length-named (serial_taken log) (λ place. is_taken_phase (phase log place.key.serial))
+    (λ place. tests-if (is_taken_phase (phase log place.key.serial)) place.key.serial) (places log)
 
 -- The state is full.
 
@@ -148,6 +152,7 @@ pub full_by_the_log : (state : PlacesState) (log : Log) → ArePlaces state log 
 full_by_the_log state log are named whole =
     none-cond (nat_lt (position_or_len is_free state.streams) (length state.streams)) (position_or_len is_free state.streams)
     ∙ ap not (first-counted is_free state.streams)
-    ∙ full-by (length (filter is_free state.streams)) (taken_count state) (length state.streams) (nat_lt 0 (length (filter is_free state.streams))) refl
+    ∙ full-by (length (filter is_free state.streams)) (taken_count state) (length state.streams)
+    (nat_lt 0 (length (filter is_free state.streams))) refl
     (length-filter_both is_free (λ held. not (is_free held)) (λ held. refl) state.streams) whole
     ∙ ap (λ n. nat_le 32 n) (taken_by_the_log state log are named)

@@ -27,7 +27,8 @@ use Rattle.circ_relay.proofs.ProofOwed.{right_by_answer}
 
 -- Bytes of the edge.
 
-data_packs : (rules : Rules) (log : Log) (serial : ℕ) (bytes : List ℕ) (place : Place) → is_closed log ≡ false → place_at log serial ≡ Some place
+data_packs : (rules : Rules) (log : Log) (serial : ℕ) (bytes : List ℕ) (place : Place) → is_closed log ≡ false
+    → place_at log serial ≡ Some place
     → (effects_after rules log (Data serial bytes)).back ≡ Some (package_of log data_command place.key.stream bytes)
 unfolding open_effects
 data_packs rules log serial bytes place live found = rw (live, found) refl
@@ -35,7 +36,8 @@ data_packs rules log serial bytes place live found = rw (live, found) refl
 pub edge_data_moves : (rules : Rules) (log : Log) (serial : ℕ) (bytes : List ℕ) (place : Place) → is_closed log ≡ false
     → place_at log serial ≡ Some place
     → window_of (entry_after rules log (Data serial bytes) ∷ log)
-    ≡ after_packaging (window_of log) (back_digest log (own_bodies log ++ package_of log data_command place.key.stream bytes ∷ []))
+    ≡ after_packaging (window_of log)
+    (back_digest log (own_bodies log ++ package_of log data_command place.key.stream bytes ∷ []))
 edge_data_moves rules log serial bytes place live found =
     packaging_moves rules log (Data serial bytes) (package_of log data_command place.key.stream bytes)
     (data_packs rules log serial bytes place live found)
@@ -61,7 +63,8 @@ pub placeless_data_leaves : (rules : Rules) (log : Log) (serial : ℕ) (bytes : 
 unfolding open_effects
 placeless_data_leaves rules log serial bytes none =
     silent_leaves rules log (Data serial bytes) refl (no_message_by (is_closed log))
-    (open_or_closed (is_closed log) (edge_data_effects log bytes (place_at log serial)) (no_place_no_data log bytes (place_at log serial) none))
+    (open_or_closed (is_closed log) (edge_data_effects log bytes (place_at log serial))
+    (no_place_no_data log bytes (place_at log serial) none))
 
 -- A circuit that has closed.
 
@@ -113,12 +116,14 @@ answered BadForm w = refl
 
 pub circuit_sendme_moves : (rules : Rules) (log : Log) (event : Event) (m : Message) → message_at log event ≡ Some m
     → m.command ≡ sendme_command → m.stream ≡ 0
-    → window_of (entry_after rules log event ∷ log) ≡ window_after (answer_to rules.least (window_of log) m.payload) (window_of log)
+    → window_of (entry_after rules log event ∷ log) ≡ window_after (answer_to rules.least (window_of log) m.payload)
+    (window_of log)
 circuit_sendme_moves rules log event m found command stream =
     let does : effects_after rules log event ≡ (if is_right_sendme rules log m.payload then no_effects else closing 1) =
     read-effects rules log event m found ∙ sendme_does rules log m command stream in
     sendme_by rules log event m (is_right_sendme rules log m.payload) found
-    (good_by_effects (message_at log event) (effects_after rules log event) m (is_right_sendme rules log m.payload) found command stream does)
+    (good_by_effects (message_at log event) (effects_after rules log event) m (is_right_sendme rules log m.payload) found command
+    stream does)
     (sendme_is_no_data (message_at log event) (effects_after rules log event).close m found command)
     ∙ ap (λ b. if b then after_acknowledging (window_of log) else window_of log) (right_by_answer rules log m.payload)
     ∙ answered (answer_to rules.least (window_of log) m.payload) (window_of log)
@@ -168,7 +173,8 @@ pub closing_leaves : (rules : Rules) (log : Log) (event : Event) (reason : ℕ) 
 closing_leaves rules log event reason opened closes =
     let close : Option ℕ = (effects_after rules log event).close in
     others_leave rules log event opened (closing_packs_no_data rules log event reason closes)
-    (not_good_by (is_accepted sendme_command (entry_after rules log event)) (has_stream 0 (message_at log event)) (not_accepted_by (has_command sendme_command (message_at log event)) close reason closes))
+    (not_good_by (is_accepted sendme_command (entry_after rules log event)) (has_stream 0 (message_at log event))
+    (not_accepted_by (has_command sendme_command (message_at log event)) close reason closes))
     (not_accepted_by (has_command data_command (message_at log event)) close reason closes)
 
 -- Events that bring no message.

@@ -138,18 +138,22 @@ left_true false b both = both
 
 pub packaging_moves : (rules : Rules) (log : Log) (event : Event) (body : List ℕ)
     → packaged_by event (effects_after rules log event).back ≡ Some body → is_data_body (Some body) ≡ true
-    → window_of (entry_after rules log event ∷ log) ≡ after_packaging (window_of log) (back_digest log (own_bodies log ++ body ∷ []))
+    → window_of (entry_after rules log event ∷ log)
+    ≡ after_packaging (window_of log) (back_digest log (own_bodies log ++ body ∷ []))
 packaging_moves rules log event body packs counts =
     let is_data : packs_data (entry_after rules log event) ≡ true = ap is_data_body packs ∙ counts in
-    entry_packages (entry_after rules log event) log body (data_no_keys rules log event is_data) (data_no_message rules log event is_data) packs counts
+    entry_packages (entry_after rules log event) log body (data_no_keys rules log event is_data)
+    (data_no_message rules log event is_data) packs counts
 
 pub sendme_moves : (rules : Rules) (log : Log) (event : Event) → is_good_sendme (entry_after rules log event) ≡ true
     → window_of (entry_after rules log event ∷ log) ≡ after_acknowledging (window_of log)
 sendme_moves rules log event good =
     let entry : Entry = entry_after rules log event in
     let has : HasMessage (message_at log event) sendme_command =
-    message_of_command sendme_command (message_at log event) (is_none entry.effects.close) (left_true (is_accepted sendme_command entry) (has_stream 0 entry.message) good) in
-    entry_acknowledges entry log (message_no_keys log event has.message has.found) (message_no_data rules log event has.message has.found) good (sendme_no_data entry has)
+    message_of_command sendme_command (message_at log event) (is_none entry.effects.close)
+    (left_true (is_accepted sendme_command entry) (has_stream 0 entry.message) good) in
+    entry_acknowledges entry log (message_no_keys log event has.message has.found)
+    (message_no_data rules log event has.message has.found) good (sendme_no_data entry has)
 
 pub data_moves : (rules : Rules) (log : Log) (event : Event) → is_accepted data_command (entry_after rules log event) ≡ true
     → window_of (entry_after rules log event ∷ log) ≡ after_accepting (window_of log)
@@ -157,7 +161,8 @@ data_moves rules log event accepted =
     let entry : Entry = entry_after rules log event in
     let has : HasMessage (message_at log event) data_command =
     message_of_command data_command (message_at log event) (is_none entry.effects.close) accepted in
-    entry_accepts entry log (message_no_keys log event has.message has.found) (message_no_data rules log event has.message has.found) (data_no_sendme entry has) accepted
+    entry_accepts entry log (message_no_keys log event has.message has.found)
+    (message_no_data rules log event has.message has.found) (data_no_sendme entry has) accepted
 
 pub others_leave : (rules : Rules) (log : Log) (event : Event) → keys_in event ≡ None
     → packs_data (entry_after rules log event) ≡ false

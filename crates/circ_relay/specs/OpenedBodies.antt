@@ -10,7 +10,8 @@ use Rattle.circuit_model.specs.Opened.{plain_body, recognises, digest_with}
 -- The body without the layer, and the running digest with it where it is recognised.
 pub record IsOpened (opened : Opened) (log : Log) (body : List ℕ) : Type 0 where
   pub plain : opened.body ≡ plain_body log body
-  pub recognised : opened.recognised ≡ (if recognises log (plain_body log body) then Some (digest_with log (plain_body log body)) else None)
+  pub recognised : opened.recognised
+      ≡ (if recognises log (plain_body log body) then Some (digest_with log (plain_body log body)) else None)
 
 -- An opened body is DATA for a stream that is live.
 abbrev pub is_data_for_live : Opened → PlacesState → Bool

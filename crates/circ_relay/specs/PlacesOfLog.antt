@@ -77,7 +77,8 @@ pub record IsHeld (state : PlacesState) (serial : ℕ) : Type 0 where
 pub record ArePlaces (state : PlacesState) (log : Log) : Type 0 where
   pub next : state.next_serial ≡ length (places log)
   pub streams : (place : ℕ) (h : PlacedStream) → held_at state place ≡ Some h → IsOfLog log h
-  pub once : (one other : ℕ) (g h : PlacedStream) → held_at state one ≡ Some g → held_at state other ≡ Some h → g.serial ≡ h.serial
+  pub once : (one other : ℕ) (g h : PlacedStream) → held_at state one ≡ Some g → held_at state other ≡ Some h
+      → g.serial ≡ h.serial
       → one ≡ other
   pub whole : (serial : ℕ) → serial < length (places log) → phase log serial ≢ Free → IsHeld state serial
   pub untold : (serial : ℕ) → length (places log) ≤ serial → IsUntold log serial

@@ -40,7 +40,8 @@ impl Rules {
 }
 
 fn allowed_among(lines: &[Allow], host: &[u8], port: u16) -> Option<Dest>
-    ensures { option_map address_of result ≡ option_map (λ line. line.to) (find (allows (record { host = host.now; port = port })) (map allow_of lines.now)) }
+    ensures { option_map address_of result
+        ≡ option_map (λ line. line.to) (find (allows (record { host = host.now; port = port })) (map allow_of lines.now)) }
 {
     let (line, rest) = lines.split_first()?;
     if line.allows(host, port) {

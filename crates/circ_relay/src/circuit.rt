@@ -87,9 +87,11 @@ impl Circuit {
 
     /// The phase of the stream; `None` exactly where no place is taken with this StreamID and serial.
     pub fn phase(&self, key: StreamKey) -> Option<Phase>
-        ensures phase { result ≡ option_map (λ stream. stream.phase) (option_and_then (held_at self.now.places) (position (is_stream key.id key.serial) self.now.places.streams)) }
+        ensures phase { result ≡ option_map (λ stream. stream.phase)
+            (option_and_then (held_at self.now.places) (position (is_stream key.id key.serial) self.now.places.streams)) }
         ensures some { IfSome result (λ phase. HasStream self.now key phase) }
-        ensures none { IfNone result ((place : ℕ) (stream : PlacedStream) → held_at self.now.places place ≡ Some stream → stream.stream ≡ key.id → stream.serial ≢ key.serial) }
+        ensures none { IfNone result ((place : ℕ) (stream : PlacedStream) → held_at self.now.places place ≡ Some stream
+            → stream.stream ≡ key.id → stream.serial ≢ key.serial) }
     {
         self.places.phase(self.place_of(key)?)
     }

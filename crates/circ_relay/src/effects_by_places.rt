@@ -31,7 +31,8 @@ pub fn reports_of_a_held_stream()
     ensures bytes { (state : PlacesState) (rules : Rules) (log : Log) (place : ℕ) (h : PlacedStream) (bytes : List ℕ) →
         ArePlaces state log → IsFalse (is_closed log) →
         held_at state place ≡ Some h → effects_after rules log (Data h.serial bytes) ≡ packaging log data_command h.stream bytes }
-    ensures ended { (state : PlacesState) (rules : Rules) (log : Log) (place : ℕ) (h : PlacedStream) (reason : ℕ) → ArePlaces state log →
+    ensures ended { (state : PlacesState) (rules : Rules) (log : Log) (place : ℕ) (h : PlacedStream) (reason : ℕ)
+        → ArePlaces state log →
         IsFalse (is_closed log) →
         held_at state place ≡ Some h →
         effects_after rules log (Ended h.serial reason) ≡ record (ending log h.stream reason) { edge = Some (Close (stream_key h) reason) } }
@@ -46,7 +47,8 @@ pub fn messages_of_a_live_stream()
     ensures end { (rules : Rules) (log : Log) (e : Event) (m : Message) (serial : ℕ) →
         message_at log e ≡ Some m → m.command ≡ end_command → m.place ≡ Some serial →
         effects_after rules log e ≡ ordering (Close (record { stream = m.stream; serial = serial }) (end_reason m.payload)) }
-    ensures accepted { (state : PlacesState) (rules : Rules) (log : Log) (e : Event) (m : Message) (place : ℕ) (h : PlacedStream) →
+    ensures accepted { (state : PlacesState) (rules : Rules) (log : Log) (e : Event) (m : Message) (place : ℕ) (h : PlacedStream)
+        →
         ArePlaces state log →
         message_at log e ≡ Some m → m.command ≡ data_command → m.place ≡ Some h.serial → held_at state place ≡ Some h →
         IsTrue (may_accept h) →
@@ -61,7 +63,8 @@ pub fn messages_of_a_live_stream()
         message_at log e ≡ Some m → m.command ≡ sendme_command → 0 < m.stream → m.place ≡ Some h.serial →
         held_at state place ≡ Some h → IsTrue (may_credit h) →
         effects_after rules log e ≡ no_effects }
-    ensures too_much { (state : PlacesState) (rules : Rules) (log : Log) (e : Event) (m : Message) (place : ℕ) (h : PlacedStream) →
+    ensures too_much { (state : PlacesState) (rules : Rules) (log : Log) (e : Event) (m : Message) (place : ℕ) (h : PlacedStream)
+        →
         ArePlaces state log →
         message_at log e ≡ Some m → m.command ≡ sendme_command → 0 < m.stream → m.place ≡ Some h.serial →
         held_at state place ≡ Some h → IsFalse (may_credit h) →
@@ -77,13 +80,15 @@ pub fn a_begin_by_the_free_places()
         message_at log e ≡ Some m → m.command ≡ begin_command → 0 < m.stream → m.place ≡ None →
         begin_target m.payload ≡ Some target →
         position is_free state.streams ≡ None → effects_after rules log e ≡ ending log m.stream end_resource_limit }
-    ensures reach { (state : PlacesState) (rules : Rules) (log : Log) (e : Event) (m : Message) (target : Target) (place : ℕ) (to : Address) →
+    ensures reach { (state : PlacesState) (rules : Rules) (log : Log) (e : Event) (m : Message) (target : Target) (place : ℕ) (to : Address)
+        →
         ArePlaces state log → AreNamed log → length state.streams ≡ place_limit →
         message_at log e ≡ Some m → m.command ≡ begin_command → 0 < m.stream → m.place ≡ None →
         begin_target m.payload ≡ Some target →
         position is_free state.streams ≡ Some place → allowed_address rules target ≡ Some to →
         effects_after rules log e ≡ ordering (Reach (record { stream = m.stream; serial = state.next_serial }) to) }
-    ensures unallowed { (state : PlacesState) (rules : Rules) (log : Log) (e : Event) (m : Message) (target : Target) (place : ℕ) →
+    ensures unallowed { (state : PlacesState) (rules : Rules) (log : Log) (e : Event) (m : Message) (target : Target) (place : ℕ)
+        →
         ArePlaces state log → AreNamed log → length state.streams ≡ place_limit →
         message_at log e ≡ Some m → m.command ≡ begin_command → 0 < m.stream → m.place ≡ None →
         begin_target m.payload ≡ Some target →

@@ -84,7 +84,9 @@ impl Circuit {
 // CREATE2 for it.
 fn asked(payload: &[u8]) -> Option<(Dest, CellPayload)>
     requires { length payload.now ≤ 498 }
-    ensures some { IfSome result (λ extension. (request : Extend) × (extend_request payload.now ≡ Some request) × (request.to ≡ Some (address_of extension.0)) × (create2 request ≡ record { command = create2_command; body = extension.1 })) }
+    ensures some { IfSome result (λ extension. (request : Extend) × (extend_request payload.now ≡ Some request)
+        × (request.to ≡ Some (address_of extension.0))
+        × (create2 request ≡ record { command = create2_command; body = extension.1 })) }
     ensures none { IfNone result (option_and_then (λ (request : Extend). request.to) (extend_request payload.now) ≡ None) }
 {
     let request = read_extend2(payload)?;

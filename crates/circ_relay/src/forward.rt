@@ -43,8 +43,12 @@ impl Circuit {
         command: u8,
     ) -> Result<Effects, AllocError>
         requires { HasCalls self.old }
-        ensures effects { IfOk result (λ outcome. (h : List Event) (body : List ℕ) → IsCircuit self.old (rules_of rules.now) h → IsOpened opened.now (log (rules_of rules.now) h) body → effects_of outcome ≡ effects (rules_of rules.now) h (Forward command body)) }
-        ensures circuit { IfOk result (λ outcome. (h : List Event) (body : List ℕ) → IsCircuit self.old (rules_of rules.now) h → IsOpened opened.now (log (rules_of rules.now) h) body → outcome.close ≡ None → IsCircuit self.new (rules_of rules.now) (Forward command body ∷ h)) }
+        ensures effects { IfOk result (λ outcome. (h : List Event) (body : List ℕ) → IsCircuit self.old (rules_of rules.now) h
+            → IsOpened opened.now (log (rules_of rules.now) h) body
+            → effects_of outcome ≡ effects (rules_of rules.now) h (Forward command body)) }
+        ensures circuit { IfOk result (λ outcome. (h : List Event) (body : List ℕ) → IsCircuit self.old (rules_of rules.now) h
+            → IsOpened opened.now (log (rules_of rules.now) h) body → outcome.close ≡ None
+            → IsCircuit self.new (rules_of rules.now) (Forward command body ∷ h)) }
         ensures windows { self.new.windows.calls ≤ self.old.windows.calls + 1 }
         ensures places { self.new.places.calls ≤ self.old.places.calls + 1 }
         ensures packaged { self.new.packager.padding.count ≤ self.old.packager.padding.count + 1 }

@@ -41,7 +41,8 @@ pub fn places_go_on_with_reports()
 
 /// With the messages of a stream: an accepted BEGIN, and END, DATA and SENDME for a live one.
 pub fn places_go_on_with_messages()
-    ensures begin { (state new : PlacesState) (rules : Rules) (log : Log) (e : Event) (m : Message) (place id : ℕ) (to : Address) →
+    ensures begin { (state new : PlacesState) (rules : Rules) (log : Log) (e : Event) (m : Message) (place id : ℕ) (to : Address)
+        →
         message_at log e ≡ Some m → m.command ≡ begin_command →
         (effects_after rules log e).edge ≡ Some (Reach (record { stream = id; serial = length (places log) }) to) →
         position is_free state.streams ≡ Some place →

@@ -36,7 +36,8 @@ impl Circuit {
     // The place at which the StreamID is live.
     pub(crate) fn live_place(&self, stream: u16) -> Option<PlaceNo>
         ensures live { IfSome result (λ place. IsLive self.now.places place.0) }
-        ensures serial { IfSome result (λ place. (log : Log) (h : PlacedStream) → ArePlaces self.now.places log → AreNamed log → held_at self.now.places place.0 ≡ Some h → live_place log stream ≡ Some h.serial) }
+        ensures serial { IfSome result (λ place. (log : Log) (h : PlacedStream) → ArePlaces self.now.places log → AreNamed log
+            → held_at self.now.places place.0 ≡ Some h → live_place log stream ≡ Some h.serial) }
         ensures none { IfNone result ((log : Log) → ArePlaces self.now.places log → AreNamed log → live_place log stream ≡ None) }
         ensures found { is_some result ≡ is_some (position (is_live_as stream) self.now.places.streams) }
     {

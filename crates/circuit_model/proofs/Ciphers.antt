@@ -12,7 +12,11 @@ use Rattle.circuit_model.specs.Words.{log, entry_after}
 
 -- what comes out of a body is what the relay reads
 pub opened_is_read : (l : Log) (body : List ℕ) →
-    opened (next_layer l) body ≡ record { body = plain_body l body; recognised = if recognises l (plain_body l body) then Some (digest_with l (plain_body l body)) else None }
+    opened (next_layer l) body ≡ record {
+      body = plain_body l body;
+      recognised =
+          if recognises l (plain_body l body) then Some (digest_with l (plain_body l body)) else None;
+    }
 unfolding opened
 opened_is_read l body = refl
 
@@ -30,14 +34,16 @@ batch_opened rules events (cell ∷ cells) =
     let entry = entry_after rules (log rules events) (Forward cell.command cell.body) in
     let next = layer-next (log rules events) cell.command cell.body entry.message entry.effects in
     ap (λ l. opened (next_layer (log rules events)) cell.body ∷ opened_all l (map body_of cells)) (sym next)
-    ∙ ap (λ l. opened (next_layer (log rules events)) cell.body ∷ l) (batch_opened rules (Forward cell.command cell.body ∷ events) cells)
+    ∙ ap (λ l. opened (next_layer (log rules events)) cell.body ∷ l)
+    (batch_opened rules (Forward cell.command cell.body ∷ events) cells)
 
 pub batch_layer : (rules : Rules) (events : List Event) (cells : List CircuitCell)
     → after_opening_all (next_layer (log rules events)) (map body_of cells) ≡ next_layer (log rules (events_behind events cells))
 batch_layer rules events [] = refl
 batch_layer rules events (cell ∷ cells) =
     let entry = entry_after rules (log rules events) (Forward cell.command cell.body) in
-    ap (λ l. after_opening_all l (map body_of cells)) (sym (layer-next (log rules events) cell.command cell.body entry.message entry.effects))
+    ap (λ l. after_opening_all l (map body_of cells))
+    (sym (layer-next (log rules events) cell.command cell.body entry.message entry.effects))
     ∙ batch_layer rules (Forward cell.command cell.body ∷ events) cells
 
 -- sealed bodies are those that leave on leg 0

@@ -24,7 +24,8 @@ specifier-shrinks : (bytes : List ℕ) (read : Specifier × List ℕ) → specif
 unfolding specifier
 specifier-shrinks (kind ∷ size ∷ rest) read found =
     let is =
-    if-some (is_specifier_length kind size && nat_le size (length rest)) (record { kind = kind; value = take size rest }, drop size rest) read found in
+    if-some (is_specifier_length kind size && nat_le size (length rest))
+    (record { kind = kind; value = take size rest }, drop size rest) read found in
     let behind : length (drop size rest) ≡ length read.1 = ap (λ (r : Specifier × List ℕ). length r.1) is in
     omega (arith, length-drop size rest)
 specifier-shrinks (kind ∷ []) read found = cc
@@ -59,16 +60,19 @@ pub reply-shrinks : (bytes reply : List ℕ) → handshake_reply bytes ≡ Some 
 unfolding handshake_reply
 reply-shrinks bytes reply found =
     let is =
-    if-some (nat_le 2 (length bytes) && nat_le (2 + from_be_bytes w16 (take 2 bytes)) (length bytes)) (take (from_be_bytes w16 (take 2 bytes)) (drop 2 bytes)) reply found in
+    if-some (nat_le 2 (length bytes) && nat_le (2 + from_be_bytes w16 (take 2 bytes)) (length bytes))
+    (take (from_be_bytes w16 (take 2 bytes)) (drop 2 bytes)) reply found in
     let same : length (take (from_be_bytes w16 (take 2 bytes)) (drop 2 bytes)) ≡ length reply = ap length is in
     omega (arith, length-take (from_be_bytes w16 (take 2 bytes)) (drop 2 bytes), length-drop 2 bytes)
 
 request-shrinks_by : (b : Bool) (bytes : List ℕ) (request : ℕ × List ℕ) →
-    (if b then option_map (λ handshake. (from_be_bytes w16 (take 2 bytes), handshake)) (handshake_reply (drop 2 bytes)) else None) ≡ Some request
+    (if b then option_map (λ handshake. (from_be_bytes w16 (take 2 bytes), handshake)) (handshake_reply (drop 2 bytes)) else None)
+    ≡ Some request
     → length request.1 ≤ length bytes
 request-shrinks_by true bytes request found =
     let reply =
-    map-some (λ (handshake : List ℕ). (from_be_bytes w16 (take 2 bytes), handshake)) (handshake_reply (drop 2 bytes)) request found in
+    map-some (λ (handshake : List ℕ). (from_be_bytes w16 (take 2 bytes), handshake)) (handshake_reply (drop 2 bytes)) request
+    found in
     let short : length reply.0 ≤ length (drop 2 bytes) = reply-shrinks (drop 2 bytes) reply.0 reply.1 in
     let same : length reply.0 ≡ length request.1 = ap (λ (r : ℕ × List ℕ). length r.1) reply.2 in
     omega (arith, length-drop 2 bytes)

@@ -151,14 +151,17 @@ not_born-reply (Answered payload) other = refl
 not_born-reply Failed other = refl
 
 pushed_sealed : (key : List ℕ) (reply : List CircuitCell) (bodies : List (List ℕ)) (back : Option (List ℕ)) →
-    reply ++ all_sealed key 0 (pushed bodies back) ≡ (reply ++ all_sealed key 0 bodies) ++ option_to_list (option_map (sealed key (length bodies)) back)
+    reply ++ all_sealed key 0 (pushed bodies back) ≡ (reply ++ all_sealed key 0 bodies)
+    ++ option_to_list (option_map (sealed key (length bodies)) back)
 pushed_sealed key reply bodies None = simp append-nil
 pushed_sealed key reply bodies (Some body) =
     let place : 0 + length bodies ≡ length bodies = omega arith in
     rw (append_sealed key 0 bodies body, place) (simp append_assoc)
 
 pub client_leg_grows : (rules : Rules) (h : List Event) (e : Event) → keys_in e ≡ None →
-    leg_cells (log rules (e ∷ h)) 0 ≡ leg_cells (log rules h) 0 ++ option_to_list (option_map (sealed (born_keys (log rules h)).kb (length (back_bodies (log rules h)))) (effects rules h e).back)
+    leg_cells (log rules (e ∷ h)) 0 ≡ leg_cells (log rules h) 0
+    ++ option_to_list
+    (option_map (sealed (born_keys (log rules h)).kb (length (back_bodies (log rules h)))) (effects rules h e).back)
 client_leg_grows rules h e other =
     let l : Log = log rules h in
     let same : reply_in e ≡ None = not_born-reply e other in

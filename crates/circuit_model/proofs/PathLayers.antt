@@ -90,7 +90,8 @@ unfolding running_digest digest_message
 digest-same seed before x y same =
     let last : flat_map zeroed (x ∷ []) ≡ flat_map zeroed (y ∷ []) = ap (λ z. z ++ []) same in
     ap (λ z. sha1 (seed ++ z))
-    (flat_map-append zeroed before (x ∷ []) ∙ ap (λ z. flat_map zeroed before ++ z) last ∙ sym (flat_map-append zeroed before (y ∷ [])))
+    (flat_map-append zeroed before (x ∷ []) ∙ ap (λ z. flat_map zeroed before ++ z) last
+    ∙ sym (flat_map-append zeroed before (y ∷ [])))
 
 recognised-with : (seed : List ℕ) (before : List (List ℕ)) (body first : List ℕ) →
     take 2 (drop 1 body) ≡ 0 ∷ 0 ∷ [] → take 4 (drop 5 body) ≡ first →
@@ -99,7 +100,9 @@ unfolding is_recognised
 recognised-with seed before body first zero field digest = rw (zero, field, digest, same-bytes first) refl
 
 meant-here : (seed : List ℕ) (before : List (List ℕ)) (command stream : ℕ) (payload : List ℕ) →
-    is_recognised seed before (with_digest (relay_body command stream payload) (take 4 (running_digest seed (before ++ relay_body command stream payload ∷ [])))) ≡ true
+    is_recognised seed before
+    (with_digest (relay_body command stream payload)
+    (take 4 (running_digest seed (before ++ relay_body command stream payload ∷ [])))) ≡ true
 meant-here seed before command stream payload =
     let body : List ℕ = relay_body command stream payload in
     let first : List ℕ = take 4 (running_digest seed (before ++ body ∷ [])) in

@@ -46,5 +46,6 @@ allowed_name_reaches rules h e m asked allowed to found command stream free targ
     let below : nat_le 32 (taken_places l) ≡ false = grind arith in
     let does : effects_after rules l e ≡ ordering (Reach (record { stream = m.stream; serial = length (places l) }) to) =
     read-effects rules l e m found
-    ∙ does-begin rules l m to asked command nonzero free target below (address-any_case rules asked allowed host port ∙ address) in
+    ∙ does-begin rules l m to asked command nonzero free target below
+    (address-any_case rules asked allowed host port ∙ address) in
     rw does

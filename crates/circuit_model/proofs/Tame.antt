@@ -43,7 +43,8 @@ command-digested log (Some key) n command stream payload =
 
 pub command-package_of : (log : Log) (command stream : ℕ) (payload : List ℕ)
     → (relay_head (package_of log command stream payload)).command ≡ command
-command-package_of log command stream payload = command-digested log (born_pad log) (length (own_bodies log)) command stream payload
+command-package_of log command stream payload =
+    command-digested log (born_pad log) (length (own_bodies log)) command stream payload
 
 package-tame : (log : Log) (command stream : ℕ) (payload : List ℕ) → (command == data_command) ≡ false
     → IsTame (packaging log command stream payload)
@@ -70,7 +71,8 @@ reaching-tame log stream (Some to) = record { no_data = refl; no_cell = refl }
 beginning-tame : (rules : Rules) (log : Log) (stream : ℕ) (target : Option Target) → IsTame (beginning rules log stream target)
 beginning-tame rules log stream None = ending-tame log stream 13
 beginning-tame rules log stream (Some target) =
-    if-tame (nat_le place_limit (taken_places log)) _ _ (ending-tame log stream 11) (reaching-tame log stream (allowed_address rules target))
+    if-tame (nat_le place_limit (taken_places log)) _ _ (ending-tame log stream 11)
+    (reaching-tame log stream (allowed_address rules target))
 
 begin-tame : (rules : Rules) (log : Log) (m : Message) → IsTame (begin_effects rules log m)
 begin-tame rules log m =
@@ -93,11 +95,13 @@ end-tame m (Some serial) = record { no_data = refl; no_cell = refl }
 stream_sendme-tame : (log : Log) (place : Option ℕ) → IsTame (stream_sendme_at log place)
 stream_sendme-tame log None = nothing-tame
 stream_sendme-tame log (Some serial) =
-    if-tame (nat_lt (stream_start + stream_packaged log serial) (stream_grant log serial + stream_step)) _ _ (closing-tame 1) nothing-tame
+    if-tame (nat_lt (stream_start + stream_packaged log serial) (stream_grant log serial + stream_step)) _ _ (closing-tame 1)
+    nothing-tame
 
 sendme-tame : (rules : Rules) (log : Log) (m : Message) → IsTame (sendme_effects rules log m)
 sendme-tame rules log m =
-    if-tame (m.stream == 0) _ _ (if-tame (is_right_sendme rules log m.payload) _ _ nothing-tame (closing-tame 1)) (stream_sendme-tame log m.place)
+    if-tame (m.stream == 0) _ _ (if-tame (is_right_sendme rules log m.payload) _ _ nothing-tame (closing-tame 1))
+    (stream_sendme-tame log m.place)
 
 truncate-tame : (log : Log) → IsTame (truncate_effects log)
 truncate-tame log = record { no_data = (package-tame log truncated_command 0 (3 ∷ []) refl).no_data; no_cell = refl }

@@ -41,7 +41,8 @@ passed (hop ∷ hops) = record hop { sent_count = hop.sent_count + 1 } ∷ passe
 
 abbrev pub after_sending : List PathHop → PathHop → List ℕ → List PathHop
 after_sending others last body =
-    passed others ++ record last { sent_count = last.sent_count + 1; meant_bodies = last.meant_bodies ++ digested_for last body ∷ [] } ∷ []
+    passed others
+    ++ record last { sent_count = last.sent_count + 1; meant_bodies = last.meant_bodies ++ digested_for last body ∷ [] } ∷ []
 
 -- ---- towards the client
 

@@ -60,7 +60,8 @@ abbrev pub data_at : Log → Message → Option ℕ → Effects
 data_at log message None = acknowledging log message
 data_at log message (Some serial) =
     if nat_le (accept_grant log serial) (carried_count log serial) then closing destroy_protocol
-    else record (acknowledging log message) { edge = Some (Carry (record { stream = message.stream; serial = serial }) message.payload) }
+    else record (acknowledging log message)
+    { edge = Some (Carry (record { stream = message.stream; serial = serial }) message.payload) }
 
 abbrev pub data_effects : Log → Message → Effects
 data_effects log message = data_at log message message.place
@@ -79,7 +80,8 @@ end_effects message = end_at message message.place
 abbrev pub stream_sendme_at : Log → Option ℕ → Effects
 stream_sendme_at log None = no_effects
 stream_sendme_at log (Some serial) =
-    if nat_lt (stream_start + stream_packaged log serial) (stream_grant log serial + stream_step) then closing destroy_protocol else no_effects
+    if nat_lt (stream_start + stream_packaged log serial) (stream_grant log serial + stream_step) then closing destroy_protocol
+    else no_effects
 
 abbrev pub sendme_effects : Rules → Log → Message → Effects
 sendme_effects rules log message =

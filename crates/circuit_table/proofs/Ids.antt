@@ -22,7 +22,8 @@ either_way false x = refl
 
 on_channel-empty : (chan : ℕ) → on_channel empty chan ≡ empty
 on_channel-empty chan =
-    same_part _ _ (λ q. get-on_channel empty chan q ∙ ap (λ o. cond (nat_eq q.0 chan) o None) (get-empty pair_cmp q) ∙ either_way (nat_eq q.0 chan) None ∙ sym (get-empty pair_cmp q))
+    same_part _ _ (λ q. get-on_channel empty chan q ∙ ap (λ o. cond (nat_eq q.0 chan) o None) (get-empty pair_cmp q)
+    ∙ either_way (nat_eq q.0 chan) None ∙ sym (get-empty pair_cmp q))
 
 pub ids_of-empty : (chan : ℕ) → ids_of empty chan ≡ 0
 ids_of-empty chan = ap len (on_channel-empty chan) ∙ len-empty pair_cmp LegName
@@ -57,7 +58,8 @@ added_elsewhere true true leg x of = cc (of refl)
 added_elsewhere true false leg x of = refl
 
 inserted_part : (ports : Ports) (port : Port) (leg : LegName) (chan : ℕ) (q : Port)
-    → get (on_channel (insert ports port leg) chan) q ≡ cond (nat_eq q.0 chan) (cond (eq_by_cmp pair_cmp q port) (Some leg) (get ports q)) None
+    → get (on_channel (insert ports port leg) chan) q
+    ≡ cond (nat_eq q.0 chan) (cond (eq_by_cmp pair_cmp q port) (Some leg) (get ports q)) None
 inserted_part ports port leg chan q =
     get-on_channel (insert ports port leg) chan q ∙ ap (λ o. cond (nat_eq q.0 chan) o None)
     (get-insert pair_keys.total ports port leg q)
@@ -90,7 +92,8 @@ ids_of-insert ports port leg chan free =
     elim (nat_eq port.0 chan) as (λ b. nat_eq port.0 chan ≡ b → ids_of (insert ports port leg) chan ≡ cond b (ids_of ports chan + 1) (ids_of ports chan)) [
       | true ↦ λ at.
           let none : is_some (get (on_channel ports chan) port) ≡ false = ap is_some
-          (get-on_channel ports chan port ∙ ap (λ o. cond (nat_eq port.0 chan) o None) free ∙ either_way (nat_eq port.0 chan) None) in
+          (get-on_channel ports chan port ∙ ap (λ o. cond (nat_eq port.0 chan) o None) free
+          ∙ either_way (nat_eq port.0 chan) None) in
           ap len (on_channel-insert ports port leg chan at) ∙ len-insert pair_keys.total (on_channel ports chan) port leg
           ∙ ap (λ b. cond b (ids_of ports chan) (ids_of ports chan + 1)) none
       | false ↦ λ off. ap len (on_channel-insert_elsewhere ports port leg chan off)

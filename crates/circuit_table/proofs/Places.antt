@@ -41,7 +41,8 @@ ports_of-reordered old new before after slots places =
     same_map pair_keys.total pair_keys.exact _ _ (λ q.
     get-ports_of new after q
     ∙ ap (option_map (leg_at new)) (places q)
-    ∙ alike (leg_at new) (leg_at old) (place_of before q) (λ place _. same_legs old new place (ap (λ xs. slice_index_or xs place None) slots))
+    ∙ alike (leg_at new) (leg_at old) (place_of before q)
+    (λ place _. same_legs old new place (ap (λ xs. slice_index_or xs place None) slots))
     ∙ sym (get-ports_of old before q))
 
 -- What a look-up finds.
@@ -85,10 +86,13 @@ counts_more before after chan n moved more q = ap (λ o. unwrap_or o 0) (moved q
 pub counted_port : (legs : Slab LegName) (places : Index) (counts : Counts) (port : Port) (place : ℕ)
     → IsIndexed legs places counts → place_of places port ≡ Some place → 0 < count_of counts port.0
 counted_port legs places counts port place is used =
-    rw (is.counted port.0) (ids_of-used (ports_of legs places) port (leg_at legs place) (get-ports_of legs places port ∙ ap (option_map (leg_at legs)) used))
+    rw (is.counted port.0)
+    (ids_of-used (ports_of legs places) port (leg_at legs place)
+    (get-ports_of legs places port ∙ ap (option_map (leg_at legs)) used))
 
 module _ (old new : Slab LegName) (before after : Index) (port : Port) (place : ℕ) where
-  module _ (leg : LegName) (free : slab.get old place ≡ None) (updates : Updates old new place (Some leg)) (moved : (q : Port) → place_of after q ≡ cond (pair_eq port q) (Some place) (place_of before q)) where
+  module _ (leg : LegName) (free : slab.get old place ≡ None) (updates : Updates old new place (Some leg))
+      (moved : (q : Port) → place_of after q ≡ cond (pair_eq port q) (Some place) (place_of before q)) where
     module _ (has_leg : (q : Port) (at : ℕ) → place_of before q ≡ Some at → IsSome (slab.get old at)) where
       -- a place that was used is not the one that was free
       other_place : (q : Port) (at : ℕ) → place_of before q ≡ Some at → at ≢ place
@@ -96,7 +100,8 @@ module _ (old new : Slab LegName) (before after : Index) (port : Port) (place : 
           let gone : IsSome {T = LegName} None = subst IsSome (ap (slab.get old) same ∙ free) (has_leg q at used) in cc
 
       read_after : (q : Port) (here : Bool)
-          → option_map (leg_at new) (cond here (Some place) (place_of before q)) ≡ cond here (Some leg) (get (ports_of old before) q)
+          → option_map (leg_at new) (cond here (Some place) (place_of before q))
+          ≡ cond here (Some leg) (get (ports_of old before) q)
       read_after q true = ap (λ o. Some (unwrap_or o (record { 0 = 0 }, 0))) updates.changed
       read_after q false =
           alike (leg_at new) (leg_at old) (place_of before q)
@@ -131,7 +136,9 @@ module _ (old new : Slab LegName) (before after : Index) (port : Port) (place : 
 
         pub is_indexed-inserted : (counts_before counts_after : Counts) → get (ports_of old before) port ≡ None
             → ((chan : ℕ) → count_of counts_before chan ≡ ids_of (ports_of old before) chan)
-            → ((chan : ℕ) → count_of counts_after chan ≡ cond (nat_eq port.0 chan) (count_of counts_before chan + 1) (count_of counts_before chan))
+            → ((chan : ℕ)
+            → count_of counts_after chan ≡ cond (nat_eq port.0 chan) (count_of counts_before chan + 1)
+            (count_of counts_before chan))
             → IsIndexed new after counts_after
         is_indexed-inserted counts_before counts_after none counted more =
             record {
@@ -145,7 +152,9 @@ module _ (old new : Slab LegName) (before after : Index) (port : Port) (place : 
                   ∙ sym (ap (λ m. ids_of m chan) ports_of-inserted ∙ ids_of-insert (ports_of old before) port leg chan none);
             }
 
-  module _ (used : place_of before port ≡ Some place) (updates : Updates old new place None) (moved : (q : Port) → place_of after q ≡ cond (pair_eq port q) None (place_of before q)) (apart : (p q : Port) (at : ℕ) → place_of before p ≡ Some at → place_of before q ≡ Some at → p ≡ q) where
+  module _ (used : place_of before port ≡ Some place) (updates : Updates old new place None)
+      (moved : (q : Port) → place_of after q ≡ cond (pair_eq port q) None (place_of before q))
+      (apart : (p q : Port) (at : ℕ) → place_of before p ≡ Some at → place_of before q ≡ Some at → p ≡ q) where
     -- another port has another place
     place_of_other : (q : Port) (at : ℕ) → pair_eq port q ≡ false → place_of before q ≡ Some at → at ≢ place
     place_of_other q at differs is same =
@@ -157,7 +166,8 @@ module _ (old new : Slab LegName) (before after : Index) (port : Port) (place : 
         → option_map (leg_at new) (cond here None (place_of before q)) ≡ cond here None (get (ports_of old before) q)
     read_without q true is = refl
     read_without q false differs =
-        alike (leg_at new) (leg_at old) (place_of before q) (λ at there. same_legs old new at (updates.others at (place_of_other q at differs there)))
+        alike (leg_at new) (leg_at old) (place_of before q)
+        (λ at there. same_legs old new at (updates.others at (place_of_other q at differs there)))
         ∙ sym (get-ports_of old before q)
 
     -- the map without the port
@@ -184,7 +194,9 @@ module _ (old new : Slab LegName) (before after : Index) (port : Port) (place : 
 
       pub is_indexed-removed : (counts_before counts_after : Counts)
           → ((chan : ℕ) → count_of counts_before chan ≡ ids_of (ports_of old before) chan)
-          → ((chan : ℕ) → count_of counts_after chan ≡ cond (nat_eq chan port.0) (count_of counts_before chan - 1) (count_of counts_before chan))
+          → ((chan : ℕ)
+          → count_of counts_after chan ≡ cond (nat_eq chan port.0) (count_of counts_before chan - 1)
+          (count_of counts_before chan))
           → IsIndexed new after counts_after
       is_indexed-removed counts_before counts_after counted less =
           record {
@@ -197,7 +209,8 @@ module _ (old new : Slab LegName) (before after : Index) (port : Port) (place : 
                 ∙ ap (λ n. cond (nat_eq chan port.0) (n - 1) n) (counted chan)
                 ∙ ap (λ b. cond b (ids_of (ports_of old before) chan - 1) (ids_of (ports_of old before) chan))
                 (nat_eq_equiv.symm chan port.0)
-                ∙ sym (ap (λ m. ids_of m chan) ports_of-removed ∙ ids_of-remove (ports_of old before) port (leg_at old place) chan found_leg);
+                ∙ sym (ap (λ m. ids_of m chan) ports_of-removed ∙ ids_of-remove (ports_of old before) port (leg_at old place) chan
+                found_leg);
           }
 
 -- A port that is free stays free.

@@ -16,7 +16,8 @@ answers = map answer_of
 
 times-cons : (k : ℕ) (x : ℕ) (xs : List ℕ) → times k (x ∷ xs) ≡ times k (x ∷ []) + times k xs
 times-cons k x xs =
-    let a = sum_by-cons (λ (y : ℕ). cond (y == k) 1 0) x xs in let b = sum_by-cons (λ (y : ℕ). cond (y == k) 1 0) x [] in omega arith
+    let a = sum_by-cons (λ (y : ℕ). cond (y == k) 1 0) x xs in let b = sum_by-cons (λ (y : ℕ). cond (y == k) 1 0) x [] in
+    omega arith
 
 -- answers that are places are each number of a range, once
 pub times-CountsFrom : (k n : ℕ) (h : List Up) → CountsFrom n h
@@ -32,12 +33,15 @@ times-CountsFrom k n (x ∷ xs) all =
 pub times-Interleaves : (k : ℕ) (xs ys zs : List Up) → Interleaves xs ys zs
     → times k (answers zs) ≡ times k (answers xs) + times k (answers ys)
 times-Interleaves k xs ys [] i =
-    let a : times k (answers xs) ≡ 0 = ap (λ (l : List Up). times k (answers l)) i.0 in let b : times k (answers ys) ≡ 0 = ap (λ (l : List Up). times k (answers l)) i.1 in omega arith
+    let a : times k (answers xs) ≡ 0 = ap (λ (l : List Up). times k (answers l)) i.0 in let b : times k (answers ys) ≡ 0 =
+    ap (λ (l : List Up). times k (answers l)) i.1 in omega arith
 times-Interleaves k xs ys (z ∷ zs) i = ⊎_elim
-    (λ (t : (rest : List Up) × (xs ≡ z ∷ rest) × Interleaves rest ys zs). let r = times-Interleaves k t.0 ys zs t.2 in let a = times-cons k z.answer (answers zs) in let b = times-cons k z.answer (answers t.0) in
+    (λ (t : (rest : List Up) × (xs ≡ z ∷ rest) × Interleaves rest ys zs). let r = times-Interleaves k t.0 ys zs t.2 in let a =
+    times-cons k z.answer (answers zs) in let b = times-cons k z.answer (answers t.0) in
     let e : times k (answers xs) ≡ times k (z.answer ∷ answers t.0) =
     ap (λ (l : List Up). times k (answers l)) t.1 in omega arith)
-    (λ (t : (rest : List Up) × (ys ≡ z ∷ rest) × Interleaves xs rest zs). let r = times-Interleaves k xs t.0 zs t.2 in let a = times-cons k z.answer (answers zs) in let b = times-cons k z.answer (answers t.0) in
+    (λ (t : (rest : List Up) × (ys ≡ z ∷ rest) × Interleaves xs rest zs). let r = times-Interleaves k xs t.0 zs t.2 in let a =
+    times-cons k z.answer (answers zs) in let b = times-cons k z.answer (answers t.0) in
     let e : times k (answers ys) ≡ times k (z.answer ∷ answers t.0) =
     ap (λ (l : List Up). times k (answers l)) t.1 in omega arith) i
 
@@ -45,7 +49,8 @@ times-Interleaves k xs ys (z ∷ zs) i = ⊎_elim
 pub made_both : (a b m n s t u : ℕ) → (a ≡ m) ⊎ (2 ^ 62 ≤ s) → (b ≡ n) ⊎ (2 ^ 62 ≤ t) → s ≤ u → t ≤ u
     → (a + b ≡ m + n) ⊎ (2 ^ 62 ≤ u)
 made_both a b m n s t u p q l k =
-    ⊎_elim (λ (e : a ≡ m). ⊎_elim (λ (f : b ≡ n). inl (omega arith)) (λ (f : 2 ^ 62 ≤ t). inr (omega arith)) q) (λ (e : 2 ^ 62 ≤ s). inr (omega arith)) p
+    ⊎_elim (λ (e : a ≡ m). ⊎_elim (λ (f : b ≡ n). inl (omega arith)) (λ (f : 2 ^ 62 ≤ t). inr (omega arith)) q)
+    (λ (e : 2 ^ 62 ≤ s). inr (omega arith)) p
 
 -- fewer turns than the history has room for were all made
 pub made_all : (a m s : ℕ) → (a ≡ m) ⊎ (2 ^ 62 ≤ s) → s ≡ a → a ≤ m → m < 2 ^ 62 → a ≡ m

@@ -82,7 +82,8 @@ fn take_in(lock: &TurnLock<Counter>, all: &mut Turns, other: Turns) -> Result<()
     requires answers { HasAllAnswers all.old × HasAllAnswers other }
     ensures own { IfOk result (λ _. lock_of all.new.pass ≡ lock_of all.old.pass) }
     ensures parts { IfOk result (λ _. (known all.new.pass).parts ≡ (known all.old.pass).parts + (known other.pass).parts) }
-    ensures opening { IfOk result (λ _. ((known all.new.pass).opening ≡ (known all.old.pass).opening) × ((known all.new.pass).seats ≡ (known all.old.pass).seats)) }
+    ensures opening { IfOk result (λ _. ((known all.new.pass).opening ≡ (known all.old.pass).opening)
+        × ((known all.new.pass).seats ≡ (known all.old.pass).seats)) }
     ensures answers { IfOk result (λ _. HasAllAnswers all.new) }
     ensures turns { IfOk result (λ _. (m n : ℕ) → MadeTurns m all.old → MadeTurns n other → MadeTurns (m + n) all.new) }
 {
@@ -128,12 +129,16 @@ pub fn count_in_four_threads<R: Threads + Wait + Sync>(
     let ((first, second), (third, fourth)) = join(
         rt,
         || -> (Result<Turns, AllocError>, Result<Turns, AllocError>)
-            requires { (lock_of first ≡ lock_id shared.now) × (lock_of second ≡ lock_id shared.now) × (own_steps (known first) ≡ []) × (own_steps (known second) ≡ []) }
-            ensures { IfOk result.0 (λ t. IsSamePass first t.pass × HasItsAnswers t × MadeTurns times t) × IfOk result.1 (λ t. IsSamePass second t.pass × HasItsAnswers t × MadeTurns times t) }
+            requires { (lock_of first ≡ lock_id shared.now) × (lock_of second ≡ lock_id shared.now)
+                × (own_steps (known first) ≡ []) × (own_steps (known second) ≡ []) }
+            ensures { IfOk result.0 (λ t. IsSamePass first t.pass × HasItsAnswers t × MadeTurns times t)
+                × IfOk result.1 (λ t. IsSamePass second t.pass × HasItsAnswers t × MadeTurns times t) }
         { count_two(rt, shared, first, second, times, alloc) },
         || -> (Result<Turns, AllocError>, Result<Turns, AllocError>)
-            requires { (lock_of third ≡ lock_id shared.now) × (lock_of fourth ≡ lock_id shared.now) × (own_steps (known third) ≡ []) × (own_steps (known fourth) ≡ []) }
-            ensures { IfOk result.0 (λ t. IsSamePass third t.pass × HasItsAnswers t × MadeTurns times t) × IfOk result.1 (λ t. IsSamePass fourth t.pass × HasItsAnswers t × MadeTurns times t) }
+            requires { (lock_of third ≡ lock_id shared.now) × (lock_of fourth ≡ lock_id shared.now)
+                × (own_steps (known third) ≡ []) × (own_steps (known fourth) ≡ []) }
+            ensures { IfOk result.0 (λ t. IsSamePass third t.pass × HasItsAnswers t × MadeTurns times t)
+                × IfOk result.1 (λ t. IsSamePass fourth t.pass × HasItsAnswers t × MadeTurns times t) }
         { count_two(rt, shared, third, fourth, times, alloc) },
     );
     let mut all = first?;

@@ -44,7 +44,9 @@ opened layer body =
     let plain = layered layer.key layer.position body in
     record {
       body = plain;
-      recognised = if is_recognised layer.seed layer.absorbed plain then Some (running_digest layer.seed (layer.absorbed ++ plain ∷ [])) else None;
+      recognised =
+          if is_recognised layer.seed layer.absorbed plain then Some (running_digest layer.seed (layer.absorbed ++ plain ∷ []))
+          else None;
     }
 
 -- The layer behind it. A body that is not recognised leaves the running digest as it was.

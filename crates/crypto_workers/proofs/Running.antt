@@ -19,8 +19,10 @@ pub record Running (worker : ℕ) (before now : List Step) : Type 0 where
 -- a job was claimed, and given back or not
 pub claimed : (worker : ℕ) (note : ClaimNote) (before steps middle after : List Step) (result : Option LoopEnd)
     → steps ≡ Claim worker (Some note) ∷ [] → Adds before steps middle
-    → MatchOption result ((a : BackAnswer) × Adds middle (GiveBack note None a ∷ []) after) (λ end. (end ≡ LoopEnd.Spent) × (after ≡ middle))
-    → MatchOption result ((r : WorkerRound) × Adds before (work_steps worker r) after) (λ end. (steps : List Step) × (after ≡ before ++ steps) × IsLastClaim worker end steps)
+    → MatchOption result ((a : BackAnswer) × Adds middle (GiveBack note None a ∷ []) after)
+    (λ end. (end ≡ LoopEnd.Spent) × (after ≡ middle))
+    → MatchOption result ((r : WorkerRound) × Adds before (work_steps worker r) after)
+    (λ end. (steps : List Step) × (after ≡ before ++ steps) × IsLastClaim worker end steps)
 claimed worker note before steps middle after None is claim (a, back) = (
   Worked note a,
   record {

@@ -24,7 +24,8 @@ pub(crate) fn round<P: CorePort<Job = Job, Done = Done>, G: Gate>(
     requires worker { worker < 64 }
     ensures own { P.is_own port.now pass.new }
     ensures spent { result ≡ Some LoopEnd.Spent → P.is_spent pass.new }
-    ensures steps { MatchOption result ((r : WorkerRound) × Adds (P.mine pass.old) (round_steps worker r) (P.mine pass.new)) (λ end. (steps : List Step) × (P.mine pass.new ≡ P.mine pass.old ++ steps) × IsLastPart worker end steps) }
+    ensures steps { MatchOption result ((r : WorkerRound) × Adds (P.mine pass.old) (round_steps worker r) (P.mine pass.new))
+        (λ end. (steps : List Step) × (P.mine pass.new ≡ P.mine pass.old ++ steps) × IsLastPart worker end steps) }
 {
     match port.halted(pass) {
         Turn::Did(false) => claim_and_work(port, pass, worker, gate),
@@ -44,7 +45,8 @@ fn claim_and_work<P: CorePort<Job = Job, Done = Done>, G: Gate>(
     requires worker { worker < 64 }
     ensures own { P.is_own port.now pass.new }
     ensures spent { result ≡ Some LoopEnd.Spent → P.is_spent pass.new }
-    ensures steps { MatchOption result ((r : WorkerRound) × Adds (P.mine pass.old) (work_steps worker r) (P.mine pass.new)) (λ end. (steps : List Step) × (P.mine pass.new ≡ P.mine pass.old ++ steps) × IsLastClaim worker end steps) }
+    ensures steps { MatchOption result ((r : WorkerRound) × Adds (P.mine pass.old) (work_steps worker r) (P.mine pass.new))
+        (λ end. (steps : List Step) × (P.mine pass.new ≡ P.mine pass.old ++ steps) × IsLastClaim worker end steps) }
 {
     match port.claim(pass, worker) {
         Turn::Did(ClaimAnswer::Job(job)) => work_and_return(port, pass, worker, gate, job),
@@ -69,7 +71,8 @@ fn work_and_return<P: CorePort<Job = Job, Done = Done>, G: Gate>(
     requires gave { P.gave pass.old job }
     ensures own { P.is_own port.now pass.new }
     ensures spent { result ≡ Some LoopEnd.Spent → P.is_spent pass.new }
-    ensures steps { MatchOption result ((a : BackAnswer) × Adds (P.mine pass.old) (GiveBack job.note None a ∷ []) (P.mine pass.new)) (λ end. (end ≡ LoopEnd.Spent) × (P.mine pass.new ≡ P.mine pass.old)) }
+    ensures steps { MatchOption result ((a : BackAnswer) × Adds (P.mine pass.old) (GiveBack job.note None a ∷ []) (P.mine pass.new))
+        (λ end. (end ≡ LoopEnd.Spent) × (P.mine pass.new ≡ P.mine pass.old)) }
 {
     gate.pass(worker, 0);
     let done = work(job);

@@ -197,7 +197,8 @@ gap legs leg place ordered searched = searched (searchable legs leg ordered)
 exact : (a b : ReadyLeg) → ready_cmp a b ≡ Equal → a ≡ b
 exact a b tied =
     let parts = exact_pairs nat_cmp (λ (p q : ℕ × ℕ). ordering_then (nat_cmp p.0 q.0) (nat_cmp p.1 q.1)) exact_unsigned
-    (exact_pairs nat_cmp nat_cmp exact_unsigned exact_unsigned) (a.count, (a.circ, a.number)) (b.count, (b.circ, b.number)) tied in
+    (exact_pairs nat_cmp nat_cmp exact_unsigned exact_unsigned) (a.count, (a.circ, a.number)) (b.count, (b.circ, b.number))
+    tied in
     λ i. record { count = (parts i).0; circ = (parts i).1.0; number = (parts i).1.1 }
 
 -- a leg that stands in the list is found, at a place where it stands

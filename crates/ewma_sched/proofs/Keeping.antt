@@ -30,7 +30,8 @@ idle_elsewhere chan other (Some x) lies apart =
 some_apart : {A : Type 0} (x : A) → ◌≡◌ {A = Option A} None (Some x) → ⊥
 some_apart x e = cc
 
-module _ {old new : Legs} {leg : LegName} {leg_before leg_after : Option CountedLeg} (change : Changes old new leg leg_before leg_after) where
+module _ {old new : Legs} {leg : LegName} {leg_before leg_after : Option CountedLeg}
+    (change : Changes old new leg leg_before leg_after) where
   -- the changed leg, and the others
   pub at_leg : leg_in new leg ≡ leg_after
   at_leg = change.after leg ∙ ap (λ b. cond b leg_after (leg_in old leg)) (eq-itself pair_keys leg)
@@ -51,7 +52,8 @@ module _ {old new : Legs} {leg : LegName} {leg_before leg_after : Option Counted
   roster_elsewhere chan other now later lay lies apart le None table =
       let idle_was = idle_elsewhere chan other leg_before lay apart in
       let idle_becomes = idle_elsewhere chan other leg_after lies apart in
-      let idle_same : idle_on other new + idle_of other leg_before ≡ idle_on other old + idle_of other leg_after = change.idle other in
+      let idle_same : idle_on other new + idle_of other leg_before ≡ idle_on other old + idle_of other leg_after =
+      change.idle other in
       let idle = table.idle in
       record {
         none = λ name x is. by_name (λ n. leg_in new n ≡ Some x → x.chan ≢ other) name
@@ -65,7 +67,8 @@ module _ {old new : Legs} {leg : LegName} {leg_before leg_after : Option Counted
       = table.names leg ∙ ap (waits_on other) change.before ∙ waits_elsewhere chan other leg_before lay apart in
       let idle_was = idle_elsewhere chan other leg_before lay apart in
       let idle_becomes = idle_elsewhere chan other leg_after lies apart in
-      let idle_same : idle_on other new + idle_of other leg_before ≡ idle_on other old + idle_of other leg_after = change.idle other in
+      let idle_same : idle_on other new + idle_of other leg_before ≡ idle_on other old + idle_of other leg_after =
+      change.idle other in
       record {
         tick = omega (arith, table.tick);
         order = table.order;
@@ -108,7 +111,8 @@ RosterChanges old new chan roster_after =
 pub keeps_by : {legs legs' : Legs} {rosters rosters' : Rosters} (chan now later : ℕ) (roster_after : Option Roster)
     → IsTable legs rosters now → RosterChanges rosters rosters' chan roster_after
     → ((leg : LegName) (x : CountedLeg) → leg_in legs' leg ≡ Some x → x.count.tick ≤ later)
-    → ((other : ℕ) → other ≢ chan → (roster : Option Roster) → KeepsRoster legs now other roster → KeepsRoster legs' later other roster)
+    → ((other : ℕ) → other ≢ chan → (roster : Option Roster) → KeepsRoster legs now other roster
+    → KeepsRoster legs' later other roster)
     → KeepsRoster legs' later chan roster_after
     → IsTable legs' rosters' later
 keeps_by {legs' = legs'} {rosters = rosters} chan now later roster_after table roster ticks elsewhere here =

@@ -22,14 +22,16 @@ pub put_moves : {E : Type 0} (old new : Legs) (name : LegName) (y : CountedLeg) 
     → IfOk r (λ o. MatchOption o (IsPermutation ((name, y) ∷ old) new) (λ _. new ≡ set_value (pair_eq name) old y))
     → IsPermutation ((name, y) ∷ old) new
 put_moves old new name y (Ok o) fine was absent moved =
-    subst (λ p. MatchOption p (IsPermutation ((name, y) ∷ old) new) (λ _. new ≡ set_value (pair_eq name) old y)) (was ∙ absent) moved
+    subst (λ p. MatchOption p (IsPermutation ((name, y) ∷ old) new) (λ _. new ≡ set_value (pair_eq name) old y)) (was ∙ absent)
+    moved
 put_moves old new name y (Err e) fine was absent moved = absurd (let never : ⊥ = cc in never)
 
 pub on_ok : {T E : Type 0} {P : Type 0} (r : Result T E) → IsOk r → OnOk r P → P
 on_ok (Ok x) fine given = given
 on_ok (Err e) fine given = absurd (let never : ⊥ = cc in never)
 
-pub joined_table : (legs legs' : Legs) (rosters rosters' : Rosters) (now tick chan : ℕ) (name : LegName) (x : CountedLeg) (roster : Roster)
+pub joined_table : (legs legs' : Legs) (rosters rosters' : Rosters) (now tick chan : ℕ) (name : LegName) (x : CountedLeg)
+    (roster : Roster)
     → IsTable legs rosters now → now ≤ tick → roster_in rosters chan ≡ Some roster
     → RosterChanges rosters rosters' chan (Some (record roster { idle = roster.idle + 1 }))
     → x.chan ≡ chan → x.has_cells ≡ false → x.count.tick ≡ tick
@@ -54,7 +56,9 @@ pub rested_by : (old new : Legs) (name : LegName) (some : Bool) (x : CountedLeg)
     → Becomes old new name (option_map (queued_as some) (leg_in old name)) → leg_in new name ≡ Some x → x.has_cells ≡ some
 rested_by old new name some x becomes there =
     queued_is (leg_in old name) some x
-    (sym (becomes name ∙ ap (λ b. cond {A = Option CountedLeg} b (option_map (queued_as some) (leg_in old name)) (leg_in old name)) (eq-itself pair_keys name))
+    (sym (becomes name
+    ∙ ap (λ b. cond {A = Option CountedLeg} b (option_map (queued_as some) (leg_in old name)) (leg_in old name))
+    (eq-itself pair_keys name))
     ∙ there)
 
 pub becomes_gone : (old mid new : Legs) (name : LegName) (o : Option CountedLeg) → Becomes old mid name o
@@ -82,7 +86,8 @@ becomes_absent old mid new name o first absent same other =
           ∙ sym (ap (λ b. cond {A = Option CountedLeg} b None (leg_in old other)) apart)
     ]
 
-pub left_table : (legs legs' : Legs) (rosters rosters' : Rosters) (now : ℕ) (name : LegName) (x : CountedLeg) (roster : Roster) (idle : ℕ)
+pub left_table : (legs legs' : Legs) (rosters rosters' : Rosters) (now : ℕ) (name : LegName) (x : CountedLeg) (roster : Roster)
+    (idle : ℕ)
     → IsTable legs rosters now → roster_in rosters x.chan ≡ Some roster
     → RosterChanges rosters rosters' x.chan (Some (record roster { idle = idle }))
     → x.has_cells ≡ false → Changes legs legs' name (Some x) None → idle + 1 ≡ roster.idle → IsTable legs' rosters' now

@@ -82,7 +82,8 @@ front_of_roster legs chan now roster first rest is ticked was =
     let x = some.0 in
     let has : HasCount (Some x) roster.tick first.count
     = subst (λ o. HasCount o roster.tick first.count) some.1
-    (subst (λ l. All (λ w. HasCount (leg_in legs (w.circ, w.number)) roster.tick w.count) l) was is.counts 0 first (omega arith)) in
+    (subst (λ l. All (λ w. HasCount (leg_in legs (w.circ, w.number)) roster.tick w.count) l) was is.counts 0 first
+    (omega arith)) in
     let value = x.count.value in
     let from = x.count.tick in
     let counted : first.count ≡ halved value (now - from) = has.1 ∙ ap (λ t. halved value (t - from)) ticked in

@@ -64,7 +64,8 @@ pub becomes_queued : (old new : Legs) (name : LegName) (x : CountedLeg) (some : 
     → Becomes old new name (option_map (queued_as some) (leg_in old name))
 becomes_queued old new name x some change other =
     change.after other
-    ∙ ap (λ o. cond {A = Option CountedLeg} (pair_eq name other) (option_map (queued_as some) o) (leg_in old other)) (sym change.before)
+    ∙ ap (λ o. cond {A = Option CountedLeg} (pair_eq name other) (option_map (queued_as some) o) (leg_in old other))
+    (sym change.before)
 
 mapped_same : (some : Bool) (o : Option CountedLeg) → MatchOption o (true ≡ true) (λ x. x.has_cells ≡ some)
     → option_map (queued_as some) o ≡ o
@@ -81,8 +82,10 @@ becomes_same old new name some same known other =
           same.legs other
           ∙ ap (leg_in old) (sym (same_key pair_keys name other named))
           ∙ sym still
-          ∙ sym (ap (λ b. cond {A = Option CountedLeg} b (option_map (queued_as some) (leg_in old name)) (leg_in old other)) named)
+          ∙ sym (ap (λ b. cond {A = Option CountedLeg} b (option_map (queued_as some) (leg_in old name)) (leg_in old other))
+          named)
       | inr apart ↦
           same.legs other
-          ∙ sym (ap (λ b. cond {A = Option CountedLeg} b (option_map (queued_as some) (leg_in old name)) (leg_in old other)) apart)
+          ∙ sym (ap (λ b. cond {A = Option CountedLeg} b (option_map (queued_as some) (leg_in old name)) (leg_in old other))
+          apart)
     ]

@@ -50,7 +50,8 @@ module _ (legs : Legs) (chan : ℕ) where
             count_moved (has_name name) (map halve roster.ready_queue.items) next.ready_queue.items moved
             ∙ count_map (has_name name) halve (λ w. refl) roster.ready_queue.items ∙ is.names name;
         counts =
-            subst (λ t. All (λ w. HasCount (leg_in legs (w.circ, w.number)) t w.count) next.ready_queue.items) (sym ticked) at_tick;
+            subst (λ t. All (λ w. HasCount (leg_in legs (w.circ, w.number)) t w.count) next.ready_queue.items) (sym ticked)
+            at_tick;
         idle = idle ∙ is.idle;
         room = omega arith;
       }

@@ -23,7 +23,8 @@ use Rattle.ewma_sched.proofs.Standing.{ready_at}
 pub served_roster : (old new : Legs) (chan now : ℕ) (roster next : Roster) (served_leg : ReadyLeg) (x : CountedLeg)
     → IsRoster old now chan roster → roster.tick ≡ now → Serves roster.ready_queue.items next.ready_queue.items served_leg
     → x.chan ≡ chan → x.has_cells ≡ true
-    → Changes old new (served_leg.circ, served_leg.number) (Some x) (Some (record x { count = record { value = served_leg.count; tick = now } }))
+    → Changes old new (served_leg.circ, served_leg.number) (Some x)
+    (Some (record x { count = record { value = served_leg.count; tick = now } }))
     → IsInOrder next.ready_queue.items → next.idle ≡ roster.idle → next.tick ≡ roster.tick
     → deque_len next.ready_queue ≡ deque_len roster.ready_queue
     → deque_capacity roster.ready_queue ≤ deque_capacity next.ready_queue
@@ -45,8 +46,10 @@ served_roster old new chan now roster next served_leg x is ticked serves on queu
     ∙ ap (count_by (has_name name)) (sym serves.was) in
     let weighs : waits_on chan (Some x) ≡ 1 = waits_one chan x on queued in
     let gone : count_by (has_name leg) rest ≡ 0
-    = (let all : count_by (has_name leg) roster.ready_queue.items ≡ 1 = is.names leg ∙ ap (waits_on chan) change.before ∙ weighs in
-    let parts : count_by (has_name leg) roster.ready_queue.items ≡ cond {A = ℕ} (has_name leg first) 1 0 + count_by (has_name leg) rest
+    = (let all : count_by (has_name leg) roster.ready_queue.items ≡ 1 =
+    is.names leg ∙ ap (waits_on chan) change.before ∙ weighs in
+    let parts : count_by (has_name leg) roster.ready_queue.items ≡ cond {A = ℕ} (has_name leg first) 1 0
+    + count_by (has_name leg) rest
     = ap (count_by (has_name leg)) serves.was ∙ count_cons (has_name leg) first rest in
     let here : cond {A = ℕ} (has_name leg first) 1 0 ≡ 1
     = ap (λ b. cond {A = ℕ} b 1 0) (sym (named leg) ∙ eq-itself pair_keys leg) in
@@ -56,7 +59,8 @@ served_roster old new chan now roster next served_leg x is ticked serves on queu
     = subst (λ t. All (λ w. HasCount (leg_in old (w.circ, w.number)) t w.count) (first ∷ rest)) (sym same)
     (subst (λ l. All (λ w. HasCount (leg_in old (w.circ, w.number)) roster.tick w.count) l) serves.was is.counts) in
     let later_ones : All HasIts rest
-    = others_stay change next.tick rest gone (All-tail (λ w. HasCount (leg_in old (w.circ, w.number)) next.tick w.count) first rest old_counts) in
+    = others_stay change next.tick rest gone
+    (All-tail (λ w. HasCount (leg_in old (w.circ, w.number)) next.tick w.count) first rest old_counts) in
     let none : next.tick - now ≡ 0 = omega arith in
     let front : HasIts served_leg
     = subst (λ o. HasCount o next.tick served_leg.count) (sym (at_leg change))
@@ -74,7 +78,8 @@ served_roster old new chan now roster next served_leg x is ticked serves on queu
           counted name ∙ is.names name
           ∙ sym (same_weight change chan (waits_one chan charged on queued ∙ sym weighs) name);
       counts =
-          All-permutation HasIts (served_leg ∷ rest) next.ready_queue.items serves.moved (All-cons HasIts served_leg rest front later_ones);
+          All-permutation HasIts (served_leg ∷ rest) next.ready_queue.items serves.moved
+          (All-cons HasIts served_leg rest front later_ones);
       idle = omega arith;
       room = omega arith;
     }
@@ -93,7 +98,8 @@ began_roster old new chan now roster next leg x is ticked counted on queued chan
     let gone : count_by (has_name leg) roster.ready_queue.items ≡ 0
     = is.names leg ∙ ap (waits_on chan) change.before ∙ waits_none chan x queued in
     let split : (name : LegName)
-    → count_by (has_name name) next.ready_queue.items ≡ cond {A = ℕ} (has_name name entry) 1 0 + count_by (has_name name) roster.ready_queue.items
+    → count_by (has_name name) next.ready_queue.items ≡ cond {A = ℕ} (has_name name entry) 1 0
+    + count_by (has_name name) roster.ready_queue.items
     = λ name.
     count_moved (has_name name) (entry ∷ roster.ready_queue.items) next.ready_queue.items moved
     ∙ count_cons (has_name name) entry roster.ready_queue.items in
@@ -118,10 +124,12 @@ began_roster old new chan now roster next leg x is ticked counted on queued chan
           ∙ ap (λ n. 1 + n) gone ∙ sym (ap (waits_on chan) (at_leg change) ∙ waits_one chan begun on refl))
           (λ off.
           split name ∙ ap (λ b. cond {A = ℕ} b 1 0 + count_by (has_name name) roster.ready_queue.items) (apart_back leg name off)
-          ∙ (let e : 0 + count_by (has_name name) roster.ready_queue.items ≡ count_by (has_name name) roster.ready_queue.items = omega arith in e)
+          ∙ (let e : 0 + count_by (has_name name) roster.ready_queue.items ≡ count_by (has_name name) roster.ready_queue.items =
+          omega arith in e)
           ∙ is.names name ∙ ap (waits_on chan) (sym (at_other change name off)));
       counts =
-          All-permutation HasIts (entry ∷ roster.ready_queue.items) next.ready_queue.items moved (All-cons HasIts entry roster.ready_queue.items front behind);
+          All-permutation HasIts (entry ∷ roster.ready_queue.items) next.ready_queue.items moved
+          (All-cons HasIts entry roster.ready_queue.items front behind);
       idle = omega arith;
       room = room;
     }
@@ -138,7 +146,8 @@ ended_roster old new chan now roster next leg x is on queued change moved ordere
     let entry = ready_at leg x roster.tick in
     let resting : CountedLeg = record x { has_cells = false } in
     let split : (name : LegName)
-    → cond {A = ℕ} (has_name name entry) 1 0 + count_by (has_name name) next.ready_queue.items ≡ count_by (has_name name) roster.ready_queue.items
+    → cond {A = ℕ} (has_name name entry) 1 0 + count_by (has_name name) next.ready_queue.items
+    ≡ count_by (has_name name) roster.ready_queue.items
     = λ name.
     sym (count_cons (has_name name) entry next.ready_queue.items)
     ∙ count_moved (has_name name) roster.ready_queue.items (entry ∷ next.ready_queue.items) moved in
@@ -150,7 +159,8 @@ ended_roster old new chan now roster next leg x is on queued change moved ordere
     omega arith) in
     let old_counts : All (λ w. HasCount (leg_in old (w.circ, w.number)) next.tick w.count) next.ready_queue.items
     = All-tail (λ w. HasCount (leg_in old (w.circ, w.number)) next.tick w.count) entry next.ready_queue.items
-    (All-permutation (λ w. HasCount (leg_in old (w.circ, w.number)) next.tick w.count) roster.ready_queue.items (entry ∷ next.ready_queue.items) moved
+    (All-permutation (λ w. HasCount (leg_in old (w.circ, w.number)) next.tick w.count) roster.ready_queue.items
+    (entry ∷ next.ready_queue.items) moved
     (subst (λ t. All (λ w. HasCount (leg_in old (w.circ, w.number)) t w.count) roster.ready_queue.items) (sym same) is.counts)) in
     let idle_same : idle_on chan new + idle_count chan x ≡ idle_on chan old + idle_count chan resting = change.idle chan in
     let was_idle = idle_none chan x queued in
@@ -164,7 +174,8 @@ ended_roster old new chan now roster next leg x is on queued change moved ordere
           by_name change (λ n. count_by (has_name n) next.ready_queue.items ≡ waits_on chan (leg_in new n)) name
           (gone ∙ sym (ap (waits_on chan) (at_leg change) ∙ waits_none chan resting refl))
           (λ off.
-          (let e : 0 + count_by (has_name name) next.ready_queue.items ≡ count_by (has_name name) next.ready_queue.items = omega arith in sym e)
+          (let e : 0 + count_by (has_name name) next.ready_queue.items ≡ count_by (has_name name) next.ready_queue.items =
+          omega arith in sym e)
           ∙ ap (λ b. cond {A = ℕ} b 1 0 + count_by (has_name name) next.ready_queue.items) (sym (apart_back leg name off))
           ∙ split name ∙ is.names name ∙ ap (waits_on chan) (sym (at_other change name off)));
       counts = others_stay change next.tick next.ready_queue.items gone old_counts;

@@ -47,16 +47,20 @@ module _ (legs legs' : Legs) (chan tick : ℕ) (next last : Roster) (served_leg 
   abbrev Counted : Type 0
   Counted =
       MatchOption (leg_in legs (served_leg.circ, served_leg.number)) (SameLegs legs legs')
-      (λ x. Changes legs legs' (served_leg.circ, served_leg.number) (Some x) (Some (record x { count = record { value = served_leg.count; tick = tick } })))
+      (λ x. Changes legs legs' (served_leg.circ, served_leg.number) (Some x)
+      (Some (record x { count = record { value = served_leg.count; tick = tick } })))
 
   there : leg_in legs (served_leg.circ, served_leg.number) ≡ Some front.state
   unfolding front
   there = ap (λ w. leg_in legs (w.circ, w.number)) one.serves.charged ∙ front.there
 
   counted : Counted
-      → Changes legs legs' (served_leg.circ, served_leg.number) (Some front.state) (Some (record front.state { count = record { value = served_leg.count; tick = tick } }))
+      → Changes legs legs' (served_leg.circ, served_leg.number) (Some front.state)
+      (Some (record front.state { count = record { value = served_leg.count; tick = tick } }))
   counted h =
-      subst (λ o. MatchOption o (SameLegs legs legs') (λ x. Changes legs legs' (served_leg.circ, served_leg.number) (Some x) (Some (record x { count = record { value = served_leg.count; tick = tick } })))) there h
+      subst (λ o. MatchOption o (SameLegs legs legs')
+      (λ x. Changes legs legs' (served_leg.circ, served_leg.number) (Some x)
+      (Some (record x { count = record { value = served_leg.count; tick = tick } })))) there h
 
   pub served_charges : Counted → Charges legs legs' tick (served_leg.circ, served_leg.number)
   served_charges h =
@@ -66,7 +70,8 @@ module _ (legs legs' : Legs) (chan tick : ℕ) (next last : Roster) (served_leg 
       record {
         state = x;
         change =
-            subst (λ v. Changes legs legs' (served_leg.circ, served_leg.number) (Some x) (Some (record x { count = record { value = v; tick = tick } }))) count (counted h);
+            subst (λ v. Changes legs legs' (served_leg.circ, served_leg.number) (Some x)
+            (Some (record x { count = record { value = v; tick = tick } }))) count (counted h);
       }
 
   pub served_table : (rosters rosters' : Rosters) (now : ℕ) → IsTable legs rosters now → now ≤ tick → Counted
@@ -79,5 +84,6 @@ module _ (legs legs' : Legs) (chan tick : ℕ) (next last : Roster) (served_leg 
       let same : record x { count = record { value = served_leg.count; tick = tick } } ≡ y = cc in
       let t : tick ≡ y.count.tick = ap (λ z. z.count.tick) same in omega arith))
       (λ other apart l k. roster_elsewhere change chan other now tick front.waits.chan front.waits.chan apart le l k)
-      (served_roster legs legs' chan tick next last served_leg x is ticked one.serves front.waits.chan front.waits.has_cells change
+      (served_roster legs legs' chan tick next last served_leg x is ticked one.serves front.waits.chan front.waits.has_cells
+      change
       one.order one.idle one.ticked one.len one.capacity)

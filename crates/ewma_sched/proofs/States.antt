@@ -92,7 +92,8 @@ module _ (old new : Legs) (now : ℕ) where
       ∙ ap (option_map (state_of now)) (changed other)
       ∙ mapped_cond (state_of now) (pair_eq leg other) (Some x) (leg_in old other)
       ∙ sym (finite.get-insert pair_keys.total (states old now).legs leg (state_of now x) other
-      ∙ ap (λ b. cond {A = Option ScheduledLeg} b (Some (state_of now x)) (leg_at (states old now) other)) (sym (agrees_back pair_keys leg other))
+      ∙ ap (λ b. cond {A = Option ScheduledLeg} b (Some (state_of now x)) (leg_at (states old now) other))
+      (sym (agrees_back pair_keys leg other))
       ∙ ap (λ o. cond {A = Option ScheduledLeg} (pair_eq leg other) (Some (state_of now x)) o) (states_at old now other)))
 
   module _ (tick : ℕ) (le : now ≤ tick)
@@ -113,8 +114,10 @@ module _ (old new : Legs) (now : ℕ) where
         ∙ ap (option_map (state_of tick)) (changed other)
         ∙ mapped_cond (state_of tick) (pair_eq leg other) (Some x) (leg_in old other)
         ∙ sym (finite.get-insert pair_keys.total s.legs leg (state_of tick x) other
-        ∙ ap (λ b. cond {A = Option ScheduledLeg} b (Some (state_of tick x)) (leg_at s other)) (sym (agrees_back pair_keys leg other))
-        ∙ ap (λ o. cond {A = Option ScheduledLeg} (pair_eq leg other) (Some (state_of tick x)) o) (later_at old now tick other le ticks)))
+        ∙ ap (λ b. cond {A = Option ScheduledLeg} b (Some (state_of tick x)) (leg_at s other))
+        (sym (agrees_back pair_keys leg other))
+        ∙ ap (λ o. cond {A = Option ScheduledLeg} (pair_eq leg other) (Some (state_of tick x)) o)
+        (later_at old now tick other le ticks)))
 
 -- a leg that has a state is kept
 pub kept_leg : (tick : ℕ) (o : Option CountedLeg) (y : ScheduledLeg) → option_map (state_of tick) o ≡ Some y

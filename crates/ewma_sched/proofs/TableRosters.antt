@@ -28,7 +28,8 @@ pub roster_written : (old new : Rosters) (chan : ℕ) (roster next : Roster) →
     → new ≡ set_value (eqb chan) old next → RosterChanges old new chan (Some next)
 roster_written old new chan roster next there is other =
     ap (λ l. roster_in l other) is
-    ∙ lookup-set_value nat_eq_equiv (eqb chan) (nat_eq_equiv.congr chan) other next old (is_there (roster_in old chan) roster there)
+    ∙ lookup-set_value nat_eq_equiv (eqb chan) (nat_eq_equiv.congr chan) other next old
+    (is_there (roster_in old chan) roster there)
 
 -- only the tick in force is another
 pub table_later : (legs : Legs) (rosters rosters' : Rosters) (now later : ℕ) → IsTable legs rosters now → now ≤ later

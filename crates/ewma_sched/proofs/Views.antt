@@ -107,7 +107,11 @@ module _ (old : Legs) (now tick : ℕ) (le : now ≤ tick) (ticks : CountedBy ol
             let x = table.0 in
             subst (λ z. IsServedFirst leg (state_of tick first.state) other z) table.2
             (first.first other x table.1
-            (record { chan = ap (λ z. z.chan) table.2 ∙ waits.chan; has_cells = ap (λ z. z.has_cells) table.2 ∙ waits.has_cells }));
+            (record {
+              chan = ap (λ z. z.chan) table.2 ∙ waits.chan;
+              has_cells =
+                  ap (λ z. z.has_cells) table.2 ∙ waits.has_cells;
+            }));
       }
 
   pub count_view : (leg : LegName) (x : CountedLeg) → leg_in old leg ≡ Some x

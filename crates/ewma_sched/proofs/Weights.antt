@@ -33,7 +33,8 @@ idle_none chan x queued =
 pub apart_back : (p q : LegName) → pair_eq p q ≡ false → pair_eq q p ≡ false
 apart_back p q apart = sym (names_equiv.symm p q) ∙ apart
 
-module _ {old new : Legs} {leg : LegName} {leg_before leg_after : Option CountedLeg} (change : Changes old new leg leg_before leg_after) where
+module _ {old new : Legs} {leg : LegName} {leg_before leg_after : Option CountedLeg}
+    (change : Changes old new leg leg_before leg_after) where
   -- legs of other names have their counts
   pub others_stay : (tick : ℕ) (waiting_legs : List ReadyLeg) → count_by (has_name leg) waiting_legs ≡ 0
       → All (λ w. HasCount (leg_in old (w.circ, w.number)) tick w.count) waiting_legs

@@ -23,7 +23,8 @@ pub(crate) type Legs = HashMap<LegName, CountedLeg>;
 
 /// Gives a leg another count.
 pub(crate) fn set_count(legs: &mut Legs, name: LegName, count: Count)
-    ensures { MatchOption (leg_in legs.old.entries name) (SameLegs legs.old.entries legs.new.entries) (λ x. Changes legs.old.entries legs.new.entries name (Some x) (Some (record x { count = count }))) }
+    ensures { MatchOption (leg_in legs.old.entries name) (SameLegs legs.old.entries legs.new.entries)
+        (λ x. Changes legs.old.entries legs.new.entries name (Some x) (Some (record x { count = count }))) }
 {
     if let Some(leg) = legs.get_mut(&name) {
         leg.count = count;

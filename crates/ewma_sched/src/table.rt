@@ -62,7 +62,8 @@ impl LegTable {
         requires room { RosterHasRoom (roster_in self.old.rosters.entries chan) }
         requires spare { 1 ≤ spare self.old.legs }
         ensures table { IsTable self.new.legs.entries self.new.rosters.entries self.new.tick }
-        ensures leg { Changes self.old.legs.entries self.new.legs.entries name None (Some (record { chan = chan; count = record { value = 0; tick = tick }; has_cells = false })) }
+        ensures leg { Changes self.old.legs.entries self.new.legs.entries name None
+            (Some (record { chan = chan; count = record { value = 0; tick = tick }; has_cells = false })) }
         ensures tick { self.new.tick ≡ tick }
     {
         self.tick = tick;
@@ -119,7 +120,8 @@ impl LegTable {
         ensures tick { self.new.tick ≡ self.old.tick }
         ensures room { KeepsRoom self.old.rosters.entries self.new.rosters.entries }
         ensures spare { spare self.old.legs ≤ spare self.new.legs }
-        ensures leg { Becomes self.old.legs.entries self.new.legs.entries name (option_map (queued_as some) (leg_in self.old.legs.entries name)) }
+        ensures leg { Becomes self.old.legs.entries self.new.legs.entries name
+            (option_map (queued_as some) (leg_in self.old.legs.entries name)) }
     {
         let Some(leg) = set_queued(&mut self.legs, name, some) else {
             return;

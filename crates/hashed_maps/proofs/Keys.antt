@@ -22,7 +22,8 @@ pair_keys =
       total = then_total (on_total (λ p. p.0) nat_cmp_total) (on_total (λ p. p.1) nat_cmp_total);
       exact = exact_pairs nat_cmp nat_cmp exact_unsigned exact_unsigned;
       agrees =
-          λ p q. both_tied (nat_eq p.0 q.0) (nat_eq p.1 q.1) (nat_cmp p.0 q.0) (nat_cmp p.1 q.1) (unsigned_ties p.0 q.0) (unsigned_ties p.1 q.1);
+          λ p q. both_tied (nat_eq p.0 q.0) (nat_eq p.1 q.1) (nat_cmp p.0 q.0) (nat_cmp p.1 q.1) (unsigned_ties p.0 q.0)
+          (unsigned_ties p.1 q.1);
     }
 
 Equal-from_test : (r : Ordering) → is_eq r ≡ true → r ≡ Ordering.Equal

@@ -44,7 +44,8 @@ pub opened_other : (opener : OpenerState) (next : StreamPlace) (layer : OpeningL
 unfolding opened
 opened_other opener next layer body plain took other = rw (← layer_off opener next layer body plain took, other) refl
 
-pub state_recognised : (opener : OpenerState) (next : StreamPlace) (digest : HashState) (layer : OpeningLayer) (body plain : List ℕ)
+pub state_recognised : (opener : OpenerState) (next : StreamPlace) (digest : HashState) (layer : OpeningLayer)
+    (body plain : List ℕ)
     → TookOff opener next layer body plain → is_recognised layer.seed layer.absorbed plain ≡ true
     → digest ≡ hash_state (digest_message layer.seed (layer.absorbed ++ plain ∷ []))
     → record { stream = next; digest = digest } ≡ opener_of (after_opening layer body)

@@ -11,7 +11,8 @@ use Rattle.hop_crypto.specs.declared.cipher.Cipher.TheVariants.{Forth, Back}
 
 -- One body through an opener.
 pub IsWorked-opened : (start end : OpenerState) (body : List ℕ) (out : Opened)
-    → ((layer : OpeningLayer) → start ≡ opener_of layer → opened layer body ≡ record { body = out.body; recognised = out.recognised })
+    → ((layer : OpeningLayer) → start ≡ opener_of layer
+    → opened layer body ≡ record { body = out.body; recognised = out.recognised })
     → ((layer : OpeningLayer) → start ≡ opener_of layer → end ≡ opener_of (after_opening layer body))
     → IsWorked (Forth start) (body ∷ []) (out ∷ []) (Forth end)
 IsWorked-opened start end body out output state = λ layer stands.
@@ -31,7 +32,9 @@ IsWorked-append (Forth start) middle end xs ys os ps first second = λ layer sta
     let f = first layer stands in
     let P : Cipher → Type 0 = λ c. IsWorked c ys ps end in
     let s = subst P f.1 second (after_opening_all layer xs) refl in (
-      rw (opened_all-append layer xs ys) (rw (map-append opened_from) (ap (λ (o : List Opened). o ++ ps) f.0 ∙ ap (λ (o : List Opened). map opened_from (opened_all layer xs) ++ o) s.0)),
+      rw (opened_all-append layer xs ys)
+          (rw (map-append opened_from)
+          (ap (λ (o : List Opened). o ++ ps) f.0 ∙ ap (λ (o : List Opened). map opened_from (opened_all layer xs) ++ o) s.0)),
       rw (after_opening_all-append layer xs ys) s.1,
     )
 IsWorked-append (Back start) middle end xs ys os ps first second =
@@ -40,7 +43,9 @@ IsWorked-append (Back start) middle end xs ys os ps first second =
     let long : start.position + 509 * length xs + 509 * length ys ≡ start.position + 509 * length (xs ++ ys) =
     omega (arith, length-append xs ys) in (
       rw (sealed_all-append start.key start.position xs ys)
-          (rw (map-append sealed_from) (ap (λ (o : List Opened). o ++ ps) first.0 ∙ ap (λ (o : List Opened). map sealed_from (sealed_all start.key start.position xs) ++ o) s.0)),
+          (rw (map-append sealed_from)
+          (ap (λ (o : List Opened). o ++ ps) first.0
+          ∙ ap (λ (o : List Opened). map sealed_from (sealed_all start.key start.position xs) ++ o) s.0)),
       s.1 ∙ ap (λ (p : ℕ). Back (record { key = start.key; position = p })) long,
     )
 

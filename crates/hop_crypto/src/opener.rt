@@ -99,10 +99,14 @@ impl Opener {
 // The running digest behind `plain` and its 20 bytes, where that body is recognised.
 #[tactic(auto, unfolding(crypto_spec::specs::HopLayer::is_recognised))]
 fn recognise(running: &Running, plain: &[u8; 509]) -> Option<(Running, [u8; 20])>
-    ensures digest { IfSome result (λ r. (seed : List ℕ) (bodies : List (List ℕ)) → HasAbsorbed running.now seed bodies → HasAbsorbed r.0 seed (bodies ++ plain.now ∷ [])) }
-    ensures bytes { IfSome result (λ r. (seed : List ℕ) (bodies : List (List ℕ)) → HasAbsorbed running.now seed bodies → r.1 ≡ running_digest seed (bodies ++ plain.now ∷ [])) }
-    ensures some { IfSome result (λ r. (seed : List ℕ) (bodies : List (List ℕ)) → HasAbsorbed running.now seed bodies → is_recognised seed bodies plain.now ≡ true) }
-    ensures none { IfNone result ((seed : List ℕ) (bodies : List (List ℕ)) → HasAbsorbed running.now seed bodies → is_recognised seed bodies plain.now ≡ false) }
+    ensures digest { IfSome result (λ r. (seed : List ℕ) (bodies : List (List ℕ)) → HasAbsorbed running.now seed bodies
+        → HasAbsorbed r.0 seed (bodies ++ plain.now ∷ [])) }
+    ensures bytes { IfSome result (λ r. (seed : List ℕ) (bodies : List (List ℕ)) → HasAbsorbed running.now seed bodies
+        → r.1 ≡ running_digest seed (bodies ++ plain.now ∷ [])) }
+    ensures some { IfSome result (λ r. (seed : List ℕ) (bodies : List (List ℕ)) → HasAbsorbed running.now seed bodies
+        → is_recognised seed bodies plain.now ≡ true) }
+    ensures none { IfNone result ((seed : List ℕ) (bodies : List (List ℕ)) → HasAbsorbed running.now seed bodies
+        → is_recognised seed bodies plain.now ≡ false) }
 {
     if plain[1..3] != [0, 0] {
         return None;

@@ -70,4 +70,5 @@ created2_is_read hdata fits = reply_is_read hdata (replicate (509 - length (hand
 pub create2_is_read : (htype : ℕ) (hdata : List ℕ) → htype < 2 ^ 16 → length hdata ≤ 505
     → handshake_request (create2_payload htype hdata) ≡ Some (htype, hdata)
 create2_is_read htype hdata type_fits fits =
-    request_is_read htype hdata (replicate (509 - length (to_be_bytes w16 htype ++ handshake_reply_payload hdata)) 0) type_fits (omega arith)
+    request_is_read htype hdata (replicate (509 - length (to_be_bytes w16 htype ++ handshake_reply_payload hdata)) 0) type_fits
+    (omega arith)

@@ -29,7 +29,8 @@ phase_by_last version (Some end) = phase_after_arrival version (arrival version 
 
 stands_by : (opener : Bool) (version : ℕ) (c : WireCell) (cells : List WireCell) (a : Arrival) → arrival version c ≡ a
     → side_after_all (side opener (AwaitsNetinfo version)) cells ≡ side opener (phase_by_last version (last_cell version cells))
-    → side_after_all (side opener (phase_after_arrival version a)) cells ≡ side opener (phase_by_last version (cond (is_last a) (Some c) (last_cell version cells)))
+    → side_after_all (side opener (phase_after_arrival version a)) cells
+    ≡ side opener (phase_by_last version (cond (is_last a) (Some c) (last_cell version cells)))
 stands_by opener version c cells Netinfo e later =
     stays_open opener cells ∙ sym (ap (λ a. side opener (phase_after_arrival version a)) e)
 stands_by opener version c cells InBetween e later = later

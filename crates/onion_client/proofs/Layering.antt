@@ -22,7 +22,8 @@ pub record AreOn (start hops : List Hop) (first body : List ℕ) (i : ℕ) : Typ
   pub put : body ≡ with_layers (drop i start) first
 
 set-one_more : (hops : List Hop) (i : ℕ) (d : Hop) → i < length hops →
-    set (take (suc i) hops ++ map stepped_forth (drop (suc i) hops)) i (stepped_forth (get_or hops i d)) ≡ take i hops ++ map stepped_forth (drop i hops)
+    set (take (suc i) hops ++ map stepped_forth (drop (suc i) hops)) i (stepped_forth (get_or hops i d)) ≡ take i hops
+    ++ map stepped_forth (drop i hops)
 set-one_more [] i d within = absurd (omega arith)
 set-one_more (hop ∷ hops) zero d within = refl
 set-one_more (hop ∷ hops) (suc i) d within = ap (λ rest. hop ∷ rest) (set-one_more hops i d (omega arith))
@@ -34,7 +35,8 @@ get-one_more (hop ∷ hops) zero d within = refl
 get-one_more (hop ∷ hops) (suc i) d within = get-one_more hops i d (omega arith)
 
 layers-one_more : (hops : List Hop) (i : ℕ) (d : Hop) (body : List ℕ) → i < length hops →
-    layered (get_or hops i d).forth.stream.key (get_or hops i d).forth.stream.position (with_layers (drop (suc i) hops) body) ≡ with_layers (drop i hops) body
+    layered (get_or hops i d).forth.stream.key (get_or hops i d).forth.stream.position (with_layers (drop (suc i) hops) body)
+    ≡ with_layers (drop i hops) body
 layers-one_more [] i d body within = absurd (omega arith)
 layers-one_more (hop ∷ hops) zero d body within = refl
 layers-one_more (hop ∷ hops) (suc i) d body within = layers-one_more hops i d body (omega arith)
@@ -46,7 +48,8 @@ pub more_on : (start hops : List Hop) (first body next : List ℕ) (i : ℕ) (d 
     AreOn start (set hops i (record { forth = forth; back = (get_or hops i d).back })) first next i
 more_on start hops first body next i d forth on forth-is next-is =
     let within : i < length start = omega (arith, on.within) in
-    let here : get_or hops i d ≡ get_or start i d = ap (λ (hs : List Hop). get_or hs i d) on.moved ∙ get-one_more start i d within in
+    let here : get_or hops i d ≡ get_or start i d =
+    ap (λ (hs : List Hop). get_or hs i d) on.moved ∙ get-one_more start i d within in
     let made : OpenerState → Hop = λ f. record { forth = f; back = (get_or hops i d).back } in
     record {
       within = omega (arith, on.within);
@@ -69,17 +72,20 @@ layers-of_path (hop ∷ path) body = ap (λ (b : List ℕ). layered hop.keys.kf 
 step-of_hop : (hop : PathHop) → stepped_forth (hop_of hop) ≡ hop_of (with_sent hop)
 step-of_hop hop =
     let on : 509 * hop.sent_count + 509 ≡ 509 * (hop.sent_count + 1) = omega arith in
-    let at : ℕ → Hop = λ n. record (hop_of hop) { forth = record (sealing_of hop) { stream = record { key = hop.keys.kf; position = n } } } in
+    let at : ℕ → Hop =
+    λ n. record (hop_of hop) { forth = record (sealing_of hop) { stream = record { key = hop.keys.kf; position = n } } } in
     ap at on
 
 steps-of_path : (path : List PathHop) → map stepped_forth (map hop_of path) ≡ map hop_of (passed path)
 steps-of_path [] = refl
 steps-of_path (hop ∷ path) =
-    ap (λ (h : Hop). h ∷ map stepped_forth (map hop_of path)) (step-of_hop hop) ∙ ap (λ (hs : List Hop). hop_of (with_sent hop) ∷ hs) (steps-of_path path)
+    ap (λ (h : Hop). h ∷ map stepped_forth (map hop_of path)) (step-of_hop hop)
+    ∙ ap (λ (hs : List Hop). hop_of (with_sent hop) ∷ hs) (steps-of_path path)
 
 -- The last hop of a path.
 
-get-last : (hop : PathHop) (path : List PathHop) (d : Hop) → get_or (map hop_of (hop ∷ path)) (length path) d ≡ hop_of (last_of hop path)
+get-last : (hop : PathHop) (path : List PathHop) (d : Hop)
+    → get_or (map hop_of (hop ∷ path)) (length path) d ≡ hop_of (last_of hop path)
 get-last hop [] d = refl
 get-last hop (next ∷ path) d = get-last next path d
 
@@ -91,7 +97,8 @@ set-last hop last (next ∷ path) = ap (λ (rest : List Hop). hop_of hop ∷ res
 layered-meant : (path : List PathHop) (last : PathHop) (new_body body : List ℕ) →
     layered_for (path ++ with_meant last new_body ∷ []) body ≡ layered_for (path ++ last ∷ []) body
 layered-meant [] last new_body body = refl
-layered-meant (hop ∷ path) last new_body body = ap (λ (b : List ℕ). layered hop.keys.kf (509 * hop.sent_count) b) (layered-meant path last new_body body)
+layered-meant (hop ∷ path) last new_body body =
+    ap (λ (b : List ℕ). layered hop.keys.kf (509 * hop.sent_count) b) (layered-meant path last new_body body)
 
 passed-last : (path : List PathHop) (last : PathHop) → passed (path ++ last ∷ []) ≡ passed path ++ with_sent last ∷ []
 passed-last [] last = refl
@@ -100,15 +107,18 @@ passed-last (hop ∷ path) last = ap (λ (rest : List PathHop). with_sent hop �
 -- A body was given its Digest by the layer at this place.
 pub record Digested (layer forth : OpenerState) (body full_body digest : List ℕ) : Type 0 where
   pub given_is : (hop : PathHop) → layer ≡ sealing_of hop → full_body ≡ digested_for hop body
-  pub digest_is : (hop : PathHop) → layer ≡ sealing_of hop → digest ≡ running_digest hop.keys.df (hop.meant_bodies ++ full_body ∷ [])
+  pub digest_is : (hop : PathHop) → layer ≡ sealing_of hop
+      → digest ≡ running_digest hop.keys.df (hop.meant_bodies ++ full_body ∷ [])
   pub state : (hop : PathHop) → layer ≡ sealing_of hop → forth ≡ sealing_of (with_meant hop full_body)
 
 -- The hop at place n has this layer instead.
 abbrev pub with_forth : List Hop → ℕ → Hop → OpenerState → List Hop
 with_forth hops n d forth = set hops n (record { forth = forth; back = (get_or hops n d).back })
 
-module _ (hop : PathHop) (path : List PathHop) (start : List Hop) (n : ℕ) (d : Hop) (forth : OpenerState) (body full_body digest : List ℕ)
-    (told : Digested (get_or start n d).forth forth body full_body digest) (stands : start ≡ map hop_of (hop ∷ path)) (at_last : n ≡ length path) where
+module _ (hop : PathHop) (path : List PathHop) (start : List Hop) (n : ℕ) (d : Hop) (forth : OpenerState)
+    (body full_body digest : List ℕ)
+    (told : Digested (get_or start n d).forth forth body full_body digest) (stands : start ≡ map hop_of (hop ∷ path))
+    (at_last : n ≡ length path) where
   last_here : get_or start n d ≡ hop_of (last_of hop path)
   last_here =
       ap (λ (hs : List Hop). get_or hs n d) stands
@@ -148,30 +158,37 @@ module _ (hop : PathHop) (path : List PathHop) (start : List Hop) (n : ℕ) (d :
   digest_here : digest ≡ digest_on (hop ∷ path) body
   digest_here =
       let last = last_of hop path in
-      told.digest_is last last_layer ∙ ap (λ (b : List ℕ). running_digest last.keys.df (last.meant_bodies ++ b ∷ [])) (told.given_is last last_layer)
+      told.digest_is last last_layer ∙ ap (λ (b : List ℕ). running_digest last.keys.df (last.meant_bodies ++ b ∷ []))
+      (told.given_is last last_layer)
 
-last_place : (hop : PathHop) (path : List PathHop) (start : List Hop) (n : ℕ) → start ≡ map hop_of (hop ∷ path) → n ≡ length start - 1 → n ≡ length path
+last_place : (hop : PathHop) (path : List PathHop) (start : List Hop) (n : ℕ) → start ≡ map hop_of (hop ∷ path)
+    → n ≡ length start - 1 → n ≡ length path
 last_place hop path start n stands last = omega (arith, ap (λ (hs : List Hop). length hs) stands, length-of_path (hop ∷ path))
 
 none_left : (start : List Hop) → start ≡ [] → 0 < length start → ⊥
 none_left start empty some = omega (arith, ap (λ (hs : List Hop). length hs) empty)
 
-pub sealed_by : (path : List PathHop) (start : List Hop) (n : ℕ) (d : Hop) (forth : OpenerState) (body full_body digest : List ℕ) →
-    Digested (get_or start n d).forth forth body full_body digest → start ≡ map hop_of path → n ≡ length start - 1 → 0 < length start →
+pub sealed_by : (path : List PathHop) (start : List Hop) (n : ℕ) (d : Hop) (forth : OpenerState) (body full_body digest : List ℕ)
+    →
+    Digested (get_or start n d).forth forth body full_body digest → start ≡ map hop_of path → n ≡ length start - 1
+    → 0 < length start →
     with_layers (with_forth start n d forth) full_body ≡ sealed_on path body
 sealed_by [] start n d forth body full_body digest told stands last some = absurd (none_left start stands some)
 sealed_by (hop ∷ path) start n d forth body full_body digest told stands last some =
     sealed_here hop path start n d forth body full_body digest told stands (last_place hop path start n stands last)
 
 pub sent_by : (path : List PathHop) (start : List Hop) (n : ℕ) (d : Hop) (forth : OpenerState) (body full_body digest : List ℕ) →
-    Digested (get_or start n d).forth forth body full_body digest → start ≡ map hop_of path → n ≡ length start - 1 → 0 < length start →
+    Digested (get_or start n d).forth forth body full_body digest → start ≡ map hop_of path → n ≡ length start - 1
+    → 0 < length start →
     map stepped_forth (with_forth start n d forth) ≡ map hop_of (sent_on path body)
 sent_by [] start n d forth body full_body digest told stands last some = absurd (none_left start stands some)
 sent_by (hop ∷ path) start n d forth body full_body digest told stands last some =
     sent_here hop path start n d forth body full_body digest told stands (last_place hop path start n stands last)
 
-pub digest_by : (path : List PathHop) (start : List Hop) (n : ℕ) (d : Hop) (forth : OpenerState) (body full_body digest : List ℕ) →
-    Digested (get_or start n d).forth forth body full_body digest → start ≡ map hop_of path → n ≡ length start - 1 → 0 < length start →
+pub digest_by : (path : List PathHop) (start : List Hop) (n : ℕ) (d : Hop) (forth : OpenerState) (body full_body digest : List ℕ)
+    →
+    Digested (get_or start n d).forth forth body full_body digest → start ≡ map hop_of path → n ≡ length start - 1
+    → 0 < length start →
     digest ≡ digest_on path body
 digest_by [] start n d forth body full_body digest told stands last some = absurd (none_left start stands some)
 digest_by (hop ∷ path) start n d forth body full_body digest told stands last some =

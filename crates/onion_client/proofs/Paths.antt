@@ -29,10 +29,12 @@ closed_outcome p (Send stream bytes) shut = rw shut refl
 closed_outcome p (Finish stream reason) shut = rw shut refl
 closed_outcome p (Drained stream) shut = rw shut refl
 
-pub closed_answers_gone : (start : Start) (h : List Call) (call : Call) → (path start h).is_closed ≡ true → answer start h call ≡ Gone
+pub closed_answers_gone : (start : Start) (h : List Call) (call : Call) → (path start h).is_closed ≡ true
+    → answer start h call ≡ Gone
 closed_answers_gone start h call shut = ap (λ (o : Outcome). o.answer) (closed_outcome (path start h) call shut)
 
-pub closed_stays : (start : Start) (h : List Call) (call : Call) → (path start h).is_closed ≡ true → path start (call ∷ h) ≡ path start h
+pub closed_stays : (start : Start) (h : List Call) (call : Call) → (path start h).is_closed ≡ true
+    → path start (call ∷ h) ≡ path start h
 closed_stays start h call shut = ap (λ (o : Outcome). o.state) (closed_outcome (path start h) call shut)
 
 same_number : (n : ℕ) → (n == n) ≡ true
@@ -41,13 +43,19 @@ same_number n = eq-eqb n n refl
 first_cell : Start → ℕ → List ℕ → Outcome
 first_cell start command payload = outcome (started start) (Take (cell_with start.circuit command payload))
 
-first_outcome : (start : Start) (payload : List ℕ) → bytes_eq (take 20 (drop 20 payload)) (kdf_tor start.x (take 20 payload)).kh ≡ true →
+first_outcome : (start : Start) (payload : List ℕ) → bytes_eq (take 20 (drop 20 payload)) (kdf_tor start.x (take 20 payload)).kh
+    ≡ true →
     first_cell start created_fast_command payload
-    ≡ record { answer = Hop 1; state = record (started start) { hops = fresh_hop (layer_keys_of (kdf_tor start.x (take 20 payload))) ∷ []; awaited_x = None } }
+    ≡ record {
+      answer = Hop 1;
+      state =
+          record (started start) { hops = fresh_hop (layer_keys_of (kdf_tor start.x (take 20 payload))) ∷ []; awaited_x = None };
+    }
 unfolding first_cell taking_on
 first_outcome start payload same = rw (same_number start.circuit, same) refl
 
-bad_first_outcome : (start : Start) (payload : List ℕ) → bytes_eq (take 20 (drop 20 payload)) (kdf_tor start.x (take 20 payload)).kh ≡ false →
+bad_first_outcome : (start : Start) (payload : List ℕ)
+    → bytes_eq (take 20 (drop 20 payload)) (kdf_tor start.x (take 20 payload)).kh ≡ false →
     first_cell start created_fast_command payload
     ≡ closing (started start) (BadKeys (kdf_tor start.x (take 20 payload)).kh (take 20 (drop 20 payload)))
 unfolding first_cell taking_on
@@ -57,17 +65,21 @@ early_outcome : (start : Start) (body : List ℕ) → first_cell start relay_com
 unfolding first_cell taking_on
 early_outcome start body = rw (same_number start.circuit) refl
 
-pub first_hop : (start : Start) (payload : List ℕ) → bytes_eq (take 20 (drop 20 payload)) (kdf_tor start.x (take 20 payload)).kh ≡ true →
+pub first_hop : (start : Start) (payload : List ℕ) → bytes_eq (take 20 (drop 20 payload)) (kdf_tor start.x (take 20 payload)).kh
+    ≡ true →
     answer start [] (Take (cell_with start.circuit created_fast_command payload)) ≡ Hop 1
 unfolding first_cell
 first_hop start payload same = ap (λ (o : Outcome). o.answer) (first_outcome start payload same)
 
-pub bad_first_hop : (start : Start) (payload : List ℕ) → bytes_eq (take 20 (drop 20 payload)) (kdf_tor start.x (take 20 payload)).kh ≡ false →
-    answer start [] (Take (cell_with start.circuit created_fast_command payload)) ≡ Closed (BadKeys (kdf_tor start.x (take 20 payload)).kh (take 20 (drop 20 payload)))
+pub bad_first_hop : (start : Start) (payload : List ℕ)
+    → bytes_eq (take 20 (drop 20 payload)) (kdf_tor start.x (take 20 payload)).kh ≡ false →
+    answer start [] (Take (cell_with start.circuit created_fast_command payload))
+    ≡ Closed (BadKeys (kdf_tor start.x (take 20 payload)).kh (take 20 (drop 20 payload)))
 unfolding first_cell
 bad_first_hop start payload other = ap (λ (o : Outcome). o.answer) (bad_first_outcome start payload other)
 
-pub relay_before_hop : (start : Start) (body : List ℕ) → answer start [] (Take (cell_with start.circuit relay_command body)) ≡ Closed Unrecognised
+pub relay_before_hop : (start : Start) (body : List ℕ)
+    → answer start [] (Take (cell_with start.circuit relay_command body)) ≡ Closed Unrecognised
 unfolding first_cell
 relay_before_hop start body = ap (λ (o : Outcome). o.answer) (early_outcome start body)
 
@@ -77,7 +89,8 @@ stream_outcome : (p : PathState) (id : ℕ) (bytes : List ℕ) (stream : PlacedS
 stream_outcome p id bytes stream unclosed live full = rw (unclosed, live, full) refl
 
 circuit_outcome : (p : PathState) (id : ℕ) (bytes : List ℕ) (stream : PlacedStream) →
-    p.is_closed ≡ false → stream_of id p.streams ≡ Some stream → may_package stream ≡ true → circuit_may_package circuit_start p.window ≡ false →
+    p.is_closed ≡ false → stream_of id p.streams ≡ Some stream → may_package stream ≡ true
+    → circuit_may_package circuit_start p.window ≡ false →
     outcome p (Send id bytes) ≡ record { answer = Shut Circuit (length p.window.packaged); state = p }
 circuit_outcome p id bytes stream unclosed live may full = rw (unclosed, live, may, full) refl
 

@@ -44,21 +44,33 @@ some_is : (b : Bool) (x y : List ℕ) → (if b then Some x else None) ≡ Some 
 some_is true x y some = cc
 some_is false x y some = cc
 
-body_is : (p : PathHop) (body next : List ℕ) (result : Option (List ℕ)) → opened (back_layer p) body ≡ record { body = next; recognised = result } → peeled p body ≡ next
+body_is : (p : PathHop) (body next : List ℕ) (result : Option (List ℕ))
+    → opened (back_layer p) body ≡ record { body = next; recognised = result } → peeled p body ≡ next
 unfolding opened
 body_is p body next result told = ap (λ (o : OpenedBody). o.body) told
 
-other_is : (p : PathHop) (body next : List ℕ) → opened (back_layer p) body ≡ record { body = next; recognised = None } → is_recognised p.keys.db p.hop_bodies (peeled p body) ≡ false
+other_is : (p : PathHop) (body next : List ℕ) → opened (back_layer p) body ≡ record { body = next; recognised = None }
+    → is_recognised p.keys.db p.hop_bodies (peeled p body) ≡ false
 unfolding opened
-other_is p body next told = not_some (is_recognised p.keys.db p.hop_bodies (peeled p body)) (running_digest p.keys.db (p.hop_bodies ++ peeled p body ∷ [])) (ap (λ (o : OpenedBody). o.recognised) told)
+other_is p body next told =
+    not_some (is_recognised p.keys.db p.hop_bodies (peeled p body))
+    (running_digest p.keys.db (p.hop_bodies ++ peeled p body ∷ [])) (ap (λ (o : OpenedBody). o.recognised) told)
 
-this_is : (p : PathHop) (body next digest : List ℕ) → opened (back_layer p) body ≡ record { body = next; recognised = Some digest } → is_recognised p.keys.db p.hop_bodies (peeled p body) ≡ true
+this_is : (p : PathHop) (body next digest : List ℕ)
+    → opened (back_layer p) body ≡ record { body = next; recognised = Some digest }
+    → is_recognised p.keys.db p.hop_bodies (peeled p body) ≡ true
 unfolding opened
-this_is p body next digest told = is_some (is_recognised p.keys.db p.hop_bodies (peeled p body)) (running_digest p.keys.db (p.hop_bodies ++ peeled p body ∷ [])) digest (ap (λ (o : OpenedBody). o.recognised) told)
+this_is p body next digest told =
+    is_some (is_recognised p.keys.db p.hop_bodies (peeled p body)) (running_digest p.keys.db (p.hop_bodies ++ peeled p body ∷ []))
+    digest (ap (λ (o : OpenedBody). o.recognised) told)
 
-digest_is : (p : PathHop) (body next digest : List ℕ) → opened (back_layer p) body ≡ record { body = next; recognised = Some digest } → running_digest p.keys.db (p.hop_bodies ++ peeled p body ∷ []) ≡ digest
+digest_is : (p : PathHop) (body next digest : List ℕ)
+    → opened (back_layer p) body ≡ record { body = next; recognised = Some digest }
+    → running_digest p.keys.db (p.hop_bodies ++ peeled p body ∷ []) ≡ digest
 unfolding opened
-digest_is p body next digest told = some_is (is_recognised p.keys.db p.hop_bodies (peeled p body)) (running_digest p.keys.db (p.hop_bodies ++ peeled p body ∷ [])) digest (ap (λ (o : OpenedBody). o.recognised) told)
+digest_is p body next digest told =
+    some_is (is_recognised p.keys.db p.hop_bodies (peeled p body)) (running_digest p.keys.db (p.hop_bodies ++ peeled p body ∷ []))
+    digest (ap (λ (o : OpenedBody). o.recognised) told)
 
 -- The hop behind a body.
 
@@ -68,34 +80,51 @@ came p = record p { came_count = p.came_count + 1 }
 abbrev came_for : PathHop → List ℕ → PathHop
 came_for p plain = record p { came_count = p.came_count + 1; hop_bodies = p.hop_bodies ++ plain ∷ [] }
 
-behind_other : (p : PathHop) (body : List ℕ) → is_recognised p.keys.db p.hop_bodies (peeled p body) ≡ false → opener_of (after_opening (back_layer p) body) ≡ peeling_of (came p)
+behind_other : (p : PathHop) (body : List ℕ) → is_recognised p.keys.db p.hop_bodies (peeled p body) ≡ false
+    → opener_of (after_opening (back_layer p) body) ≡ peeling_of (came p)
 unfolding after_opening
 behind_other p body other =
     let on : 509 * p.came_count + 509 ≡ 509 * (p.came_count + 1) = omega arith in
-    let at : ℕ → Bool → OpenerState = λ n b. opener_of (record (back_layer p) { position = n; absorbed = if b then p.hop_bodies ++ peeled p body ∷ [] else p.hop_bodies }) in
-    ap (λ (n : ℕ). at n (is_recognised p.keys.db p.hop_bodies (peeled p body))) on ∙ ap (λ (b : Bool). at (509 * (p.came_count + 1)) b) other
+    let at : ℕ → Bool → OpenerState =
+    λ n b. opener_of
+    (record (back_layer p) { position = n; absorbed = if b then p.hop_bodies ++ peeled p body ∷ [] else p.hop_bodies }) in
+    ap (λ (n : ℕ). at n (is_recognised p.keys.db p.hop_bodies (peeled p body))) on
+    ∙ ap (λ (b : Bool). at (509 * (p.came_count + 1)) b) other
 
-behind_this : (p : PathHop) (body : List ℕ) → is_recognised p.keys.db p.hop_bodies (peeled p body) ≡ true → opener_of (after_opening (back_layer p) body) ≡ peeling_of (came_for p (peeled p body))
+behind_this : (p : PathHop) (body : List ℕ) → is_recognised p.keys.db p.hop_bodies (peeled p body) ≡ true
+    → opener_of (after_opening (back_layer p) body) ≡ peeling_of (came_for p (peeled p body))
 unfolding after_opening
 behind_this p body this =
     let on : 509 * p.came_count + 509 ≡ 509 * (p.came_count + 1) = omega arith in
-    let at : ℕ → Bool → OpenerState = λ n b. opener_of (record (back_layer p) { position = n; absorbed = if b then p.hop_bodies ++ peeled p body ∷ [] else p.hop_bodies }) in
-    ap (λ (n : ℕ). at n (is_recognised p.keys.db p.hop_bodies (peeled p body))) on ∙ ap (λ (b : Bool). at (509 * (p.came_count + 1)) b) this
+    let at : ℕ → Bool → OpenerState =
+    λ n b. opener_of
+    (record (back_layer p) { position = n; absorbed = if b then p.hop_bodies ++ peeled p body ∷ [] else p.hop_bodies }) in
+    ap (λ (n : ℕ). at n (is_recognised p.keys.db p.hop_bodies (peeled p body))) on
+    ∙ ap (λ (b : Bool). at (509 * (p.came_count + 1)) b) this
 
-coming_other : (p : PathHop) (rest : List PathHop) (body next : List ℕ) → is_recognised p.keys.db p.hop_bodies (peeled p body) ≡ false → peeled p body ≡ next → after_coming (p ∷ rest) body ≡ came p ∷ after_coming rest next
+coming_other : (p : PathHop) (rest : List PathHop) (body next : List ℕ)
+    → is_recognised p.keys.db p.hop_bodies (peeled p body) ≡ false → peeled p body ≡ next
+    → after_coming (p ∷ rest) body ≡ came p ∷ after_coming rest next
 coming_other p rest body next other off =
     ap (λ (b : Bool). if b then came_for p (peeled p body) ∷ rest else came p ∷ after_coming rest (peeled p body)) other
     ∙ ap (λ (x : List ℕ). came p ∷ after_coming rest x) off
 
-coming_this : (p : PathHop) (rest : List PathHop) (body : List ℕ) → is_recognised p.keys.db p.hop_bodies (peeled p body) ≡ true → after_coming (p ∷ rest) body ≡ came_for p (peeled p body) ∷ rest
-coming_this p rest body this = ap (λ (b : Bool). if b then came_for p (peeled p body) ∷ rest else came p ∷ after_coming rest (peeled p body)) this
+coming_this : (p : PathHop) (rest : List PathHop) (body : List ℕ) → is_recognised p.keys.db p.hop_bodies (peeled p body) ≡ true
+    → after_coming (p ∷ rest) body ≡ came_for p (peeled p body) ∷ rest
+coming_this p rest body this =
+    ap (λ (b : Bool). if b then came_for p (peeled p body) ∷ rest else came p ∷ after_coming rest (peeled p body)) this
 
-from_other : (n : ℕ) (p : PathHop) (rest : List PathHop) (body next : List ℕ) → is_recognised p.keys.db p.hop_bodies (peeled p body) ≡ false → peeled p body ≡ next → recognised_from n (p ∷ rest) body ≡ recognised_from (n + 1) rest next
+from_other : (n : ℕ) (p : PathHop) (rest : List PathHop) (body next : List ℕ)
+    → is_recognised p.keys.db p.hop_bodies (peeled p body) ≡ false → peeled p body ≡ next
+    → recognised_from n (p ∷ rest) body ≡ recognised_from (n + 1) rest next
 from_other n p rest body next other off =
-    ap (λ (b : Bool). if b then Some (record { hop = n; body = peeled p body }) else recognised_from (n + 1) rest (peeled p body)) other
+    ap (λ (b : Bool). if b then Some (record { hop = n; body = peeled p body }) else recognised_from (n + 1) rest (peeled p body))
+    other
     ∙ ap (λ (x : List ℕ). recognised_from (n + 1) rest x) off
 
-from_this : (n : ℕ) (p : PathHop) (rest : List PathHop) (body next : List ℕ) → is_recognised p.keys.db p.hop_bodies (peeled p body) ≡ true → peeled p body ≡ next → recognised_from n (p ∷ rest) body ≡ Some (record { hop = n; body = next })
+from_this : (n : ℕ) (p : PathHop) (rest : List PathHop) (body next : List ℕ)
+    → is_recognised p.keys.db p.hop_bodies (peeled p body) ≡ true → peeled p body ≡ next
+    → recognised_from n (p ∷ rest) body ≡ Some (record { hop = n; body = next })
 from_this n p rest body next this off =
     let made : List ℕ → FromHop = λ x. record { hop = n; body = x } in
     ap (λ (b : Bool). if b then Some (made (peeled p body)) else recognised_from (n + 1) rest (peeled p body)) this
@@ -121,7 +150,8 @@ module _ (path : List PathHop) (hops : List Hop) (first body next : List ℕ) (i
   layer_here : (get_or hops i d).back ≡ opener_of (back_layer at.hop)
   layer_here = ap (λ (h : Hop). h.back) hop_here
 
-  changed : (q : PathHop) → sealing_of at.hop ≡ sealing_of q → back ≡ peeling_of q → with_back hops i d back ≡ map hop_of (off.gone ++ q ∷ at.rest)
+  changed : (q : PathHop) → sealing_of at.hop ≡ sealing_of q → back ≡ peeling_of q
+      → with_back hops i d back ≡ map hop_of (off.gone ++ q ∷ at.rest)
   changed q forth-is back-is =
       let made : OpenerState → OpenerState → Hop = λ f b. record { forth = f; back = b } in
       ap (λ (h : Hop). set hops i (made h.forth back)) hop_here
@@ -158,26 +188,34 @@ module _ (path : List PathHop) (hops : List Hop) (first body next : List ℕ) (i
             ∙ ap (λ (ps : List PathHop). recognised_from (suc i + 1) ps next) (sym at.behind);
       }
 
-  pub found_from : (digest : List ℕ) → Took (get_or hops i d).back back body next (Some digest) → recognised_from 1 path first ≡ Some (record { hop = i + 1; body = next })
+  pub found_from : (digest : List ℕ) → Took (get_or hops i d).back back body next (Some digest)
+      → recognised_from 1 path first ≡ Some (record { hop = i + 1; body = next })
   found_from digest took =
       let told = took.told (back_layer at.hop) layer_here in
       off.from
       ∙ ap (λ (ps : List PathHop). recognised_from (i + 1) ps body) at.here
-      ∙ from_this (i + 1) at.hop at.rest body next (this_is at.hop body next digest told) (body_is at.hop body next (Some digest) told)
+      ∙ from_this (i + 1) at.hop at.rest body next (this_is at.hop body next digest told)
+      (body_is at.hop body next (Some digest) told)
 
-  pub found_state : (digest : List ℕ) → Took (get_or hops i d).back back body next (Some digest) → with_back hops i d back ≡ map hop_of (after_coming path first)
+  pub found_state : (digest : List ℕ) → Took (get_or hops i d).back back body next (Some digest)
+      → with_back hops i d back ≡ map hop_of (after_coming path first)
   found_state digest took =
       let told = took.told (back_layer at.hop) layer_here in
-      let this : is_recognised at.hop.keys.db at.hop.hop_bodies (peeled at.hop body) ≡ true = this_is at.hop body next digest told in
-      changed (came_for at.hop (peeled at.hop body)) refl (took.state (back_layer at.hop) layer_here ∙ behind_this at.hop body this)
+      let this : is_recognised at.hop.keys.db at.hop.hop_bodies (peeled at.hop body) ≡ true =
+      this_is at.hop body next digest told in
+      changed (came_for at.hop (peeled at.hop body)) refl
+      (took.state (back_layer at.hop) layer_here ∙ behind_this at.hop body this)
       ∙ ap (λ (ps : List PathHop). map hop_of (off.gone ++ ps)) (sym (coming_this at.hop at.rest body this))
       ∙ ap (λ (ps : List PathHop). map hop_of (off.gone ++ after_coming ps body)) (sym at.here)
       ∙ ap (λ (ps : List PathHop). map hop_of ps) (sym off.coming)
 
-  hop_digest : (digest : List ℕ) → Took (get_or hops i d).back back body next (Some digest) → digest ≡ running_digest at.hop.keys.db (at.hop.hop_bodies ++ next ∷ [])
+  hop_digest : (digest : List ℕ) → Took (get_or hops i d).back back body next (Some digest)
+      → digest ≡ running_digest at.hop.keys.db (at.hop.hop_bodies ++ next ∷ [])
   hop_digest digest took =
       let told = took.told (back_layer at.hop) layer_here in
-      sym (digest_is at.hop body next digest told) ∙ ap (λ (x : List ℕ). running_digest at.hop.keys.db (at.hop.hop_bodies ++ x ∷ [])) (body_is at.hop body next (Some digest) told)
+      sym (digest_is at.hop body next digest told)
+      ∙ ap (λ (x : List ℕ). running_digest at.hop.keys.db (at.hop.hop_bodies ++ x ∷ []))
+      (body_is at.hop body next (Some digest) told)
 
 last_digest : (path : List PathHop) (i : ℕ) (at : HopAt path i) (next digest : List ℕ) → i + 1 ≡ length path →
     digest ≡ running_digest at.hop.keys.db (at.hop.hop_bodies ++ next ∷ []) → digest ≡ digest_from path next
@@ -186,8 +224,10 @@ last_digest (q ∷ path) i at next digest last is =
     let same : last_of q path ≡ at.hop = last-at q path i at.hop at.rest at.here (omega arith) in
     is ∙ ap (λ (p : PathHop). running_digest p.keys.db (p.hop_bodies ++ next ∷ [])) (sym same)
 
-pub found_digest : (path : List PathHop) (hops : List Hop) (first body next : List ℕ) (i : ℕ) (d : Hop) (back : OpenerState) (digest : List ℕ) →
-    IsOff path hops first body i → HopAt path i → Took (get_or hops i d).back back body next (Some digest) → i + 1 ≡ length path → digest ≡ digest_from path next
+pub found_digest : (path : List PathHop) (hops : List Hop) (first body next : List ℕ) (i : ℕ) (d : Hop) (back : OpenerState)
+    (digest : List ℕ) →
+    IsOff path hops first body i → HopAt path i → Took (get_or hops i d).back back body next (Some digest) → i + 1 ≡ length path
+    → digest ≡ digest_from path next
 found_digest path hops first body next i d back digest off at took last =
     last_digest path i at next digest last (hop_digest path hops first body next i d back off at digest took)
 

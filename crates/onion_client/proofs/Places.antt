@@ -16,7 +16,8 @@ at-drop (hop ∷ hops) (suc i) d = at-drop hops i d
 same-at : (hops others : List Hop) (i : ℕ) (d : Hop) → drop i hops ≡ drop i others → get_or hops i d ≡ get_or others i d
 same-at hops others i d same = sym (at-drop hops i d) ∙ ap (λ (hs : List Hop). get_or hs 0 d) same ∙ at-drop others i d
 
-pub keystream_at : (start hops : List Hop) (i : ℕ) (d : Hop) → All HasKeystream start → drop i hops ≡ drop i start → i < length start →
+pub keystream_at : (start hops : List Hop) (i : ℕ) (d : Hop) → All HasKeystream start → drop i hops ≡ drop i start
+    → i < length start →
     (get_or hops i d).back.stream.position < 2 ^ 100
 keystream_at start hops i d room same within =
     let there : HasKeystream (get_or start i d) = room i d within in
@@ -62,7 +63,8 @@ pub hop_of_path_at : (path : List PathHop) (start : List Hop) (i : ℕ) → star
 hop_of_path_at path start i stands within =
     hop_at path i (omega (arith, ap (λ (hs : List Hop). length hs) stands, length-of_path path))
 
-pub last-at : (q : PathHop) (path : List PathHop) (i : ℕ) (p : PathHop) (rest : List PathHop) → drop i (q ∷ path) ≡ p ∷ rest → i ≡ length path → last_of q path ≡ p
+pub last-at : (q : PathHop) (path : List PathHop) (i : ℕ) (p : PathHop) (rest : List PathHop) → drop i (q ∷ path) ≡ p ∷ rest
+    → i ≡ length path → last_of q path ≡ p
 last-at q [] zero p rest here last = cc
 last-at q [] (suc i) p rest here last = absurd (omega arith)
 last-at q (next ∷ path) zero p rest here last = absurd (omega arith)

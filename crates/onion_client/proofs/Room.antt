@@ -11,11 +11,13 @@ one_more : (hops : List Hop) (hop : Hop) → All HasKeystream hops → HasKeystr
 one_more [] hop all there zero d within = there
 one_more [] hop all there (suc k) d within = absurd (omega arith)
 one_more (first ∷ hops) hop all there zero d within = all zero d (omega arith)
-one_more (first ∷ hops) hop all there (suc k) d within = one_more hops hop (λ j e below. all (suc j) e (omega arith)) there k d (omega arith)
+one_more (first ∷ hops) hop all there (suc k) d within =
+    one_more hops hop (λ j e below. all (suc j) e (omega arith)) there k d (omega arith)
 
 fresh_room : (keys : LayerKeys) → HasKeystream (hop_of (fresh_hop keys))
 fresh_room keys = record { forth = omega arith; back = omega arith }
 
-pub room_joined : (hops more : List Hop) (keys : LayerKeys) → more ≡ hops ++ hop_of (fresh_hop keys) ∷ [] → All HasKeystream hops → All HasKeystream more
+pub room_joined : (hops more : List Hop) (keys : LayerKeys) → more ≡ hops ++ hop_of (fresh_hop keys) ∷ [] → All HasKeystream hops
+    → All HasKeystream more
 room_joined hops more keys grown all =
     subst (λ (hs : List Hop). All HasKeystream hs) (sym grown) (one_more hops (hop_of (fresh_hop keys)) all (fresh_room keys))

@@ -46,7 +46,8 @@ impl Layer {
     pub fn seal(&mut self, body: &mut [u8; 509])
         requires { self.old.stream.position < 2 ^ 100 }
         ensures body { (hop : PathHop) → self.old ≡ sealing_of hop → body.new ≡ sealed_for [] hop body.old }
-        ensures state { (hop : PathHop) → self.old ≡ sealing_of hop → self.new ≡ sealing_of (with_sent (with_meant hop (digested_for hop body.old))) }
+        ensures state { (hop : PathHop) → self.old ≡ sealing_of hop
+            → self.new ≡ sealing_of (with_sent (with_meant hop (digested_for hop body.old))) }
     {
         let _digest = self.give_digest(body);
         self.put_on(body);
@@ -55,7 +56,8 @@ impl Layer {
     // Gives a body that is meant for this hop its Digest; the 20 bytes of the running digest with it.
     pub(crate) fn give_digest(&mut self, body: &mut [u8; 509]) -> [u8; 20]
         ensures body { (hop : PathHop) → self.old ≡ sealing_of hop → body.new ≡ digested_for hop body.old }
-        ensures digest { (hop : PathHop) → self.old ≡ sealing_of hop → result ≡ running_digest hop.keys.df (hop.meant_bodies ++ body.new ∷ []) }
+        ensures digest { (hop : PathHop) → self.old ≡ sealing_of hop
+            → result ≡ running_digest hop.keys.df (hop.meant_bodies ++ body.new ∷ []) }
         ensures state { (hop : PathHop) → self.old ≡ sealing_of hop → self.new ≡ sealing_of (with_meant hop body.new) }
         ensures stream { self.new.stream ≡ self.old.stream }
     {

@@ -79,7 +79,8 @@ impl Layers {
         requires keystream { All HasKeystream self.old.items }
         ensures body { (hops : List PathHop) → self.old.items ≡ map hop_of hops → body.new ≡ sealed_on hops body.old }
         ensures digest { (hops : List PathHop) → self.old.items ≡ map hop_of hops → result ≡ digest_on hops body.old }
-        ensures state { (hops : List PathHop) → self.old.items ≡ map hop_of hops → self.new.items ≡ map hop_of (sent_on hops body.old) }
+        ensures state { (hops : List PathHop) → self.old.items ≡ map hop_of hops
+            → self.new.items ≡ map hop_of (sent_on hops body.old) }
         ensures spare { self.new.spare ≡ self.old.spare }
     {
         seal_all(&mut self.hops, body)
@@ -90,9 +91,12 @@ impl Layers {
     /// which is then without layers. `None` exactly where no hop recognises it.
     pub fn take_off(&mut self, body: &mut [u8; 509]) -> Option<(usize, [u8; 20])>
         requires { All HasKeystream self.old.items }
-        ensures from { (hops : List PathHop) → self.old.items ≡ map hop_of hops → recognised_as hops body.old ≡ option_map (λ r. record { hop = r.0 + 1; body = body.new }) result }
-        ensures digest { IfSome result (λ r. (hops : List PathHop) → self.old.items ≡ map hop_of hops → r.0 + 1 ≡ length hops → r.1 ≡ digest_from hops body.new) }
-        ensures state { (hops : List PathHop) → self.old.items ≡ map hop_of hops → self.new.items ≡ map hop_of (after_coming hops body.old) }
+        ensures from { (hops : List PathHop) → self.old.items ≡ map hop_of hops
+            → recognised_as hops body.old ≡ option_map (λ r. record { hop = r.0 + 1; body = body.new }) result }
+        ensures digest { IfSome result (λ r. (hops : List PathHop) → self.old.items ≡ map hop_of hops → r.0 + 1 ≡ length hops
+            → r.1 ≡ digest_from hops body.new) }
+        ensures state { (hops : List PathHop) → self.old.items ≡ map hop_of hops
+            → self.new.items ≡ map hop_of (after_coming hops body.old) }
         ensures spare { self.new.spare ≡ self.old.spare }
     {
         take_off_until(&mut self.hops, body)
@@ -129,8 +133,10 @@ fn put_on_all(hops: &mut [Hop], body: &mut [u8; 509])
 // Takes the layers off a body until a hop recognises it.
 fn take_off_until(hops: &mut [Hop], body: &mut [u8; 509]) -> Option<(usize, [u8; 20])>
     requires { All HasKeystream hops.old }
-    ensures from { (path : List PathHop) → hops.old ≡ map hop_of path → recognised_as path body.old ≡ option_map (λ r. record { hop = r.0 + 1; body = body.new }) result }
-    ensures digest { IfSome result (λ r. (path : List PathHop) → hops.old ≡ map hop_of path → r.0 + 1 ≡ length path → r.1 ≡ digest_from path body.new) }
+    ensures from { (path : List PathHop) → hops.old ≡ map hop_of path
+        → recognised_as path body.old ≡ option_map (λ r. record { hop = r.0 + 1; body = body.new }) result }
+    ensures digest { IfSome result (λ r. (path : List PathHop) → hops.old ≡ map hop_of path → r.0 + 1 ≡ length path
+        → r.1 ≡ digest_from path body.new) }
     ensures state { (path : List PathHop) → hops.old ≡ map hop_of path → hops.new ≡ map hop_of (after_coming path body.old) }
 {
     for i in 0..hops.len() {

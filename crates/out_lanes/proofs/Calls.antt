@@ -47,7 +47,8 @@ module _ {K X : Type 0} {R : K → K → Ordering} where
         others = λ q differs. ap (λ m. line_at m q) same;
       }
 
-module _ {K X S : Type 0} {R : K → K → Ordering} {eq : K → K → Bool} (keys : OrdersKeys R eq) (m : HashMap K (Roomy X) S) (key : K) {old : FinMap R (Roomy X)} (seen : from_entries {R = R} m.entries ≡ old) where
+module _ {K X S : Type 0} {R : K → K → Ordering} {eq : K → K → Bool} (keys : OrdersKeys R eq) (m : HashMap K (Roomy X) S)
+    (key : K) {old : FinMap R (Roomy X)} (seen : from_entries {R = R} m.entries ≡ old) where
   -- A key without a list.
   pub none_at : None ≡ lookup (eq key) m.entries → line_at old key ≡ nothing
   none_at absent = ap (λ o. line_at o key) (sym seen) ∙ line_absent keys m.entries key (sym absent)
@@ -56,13 +57,15 @@ module _ {K X S : Type 0} {R : K → K → Ordering} {eq : K → K → Bool} (ke
   pub one_at : (old_line : Roomy X) → Some old_line ≡ lookup (eq key) m.entries → line_at old key ≡ old_line
   one_at old_line found = ap (λ o. line_at o key) (sym seen) ∙ line_found keys m.entries key old_line (sym found)
 
-module _ {K X S : Type 0} {R : K → K → Ordering} {eq : K → K → Bool} (keys : OrdersKeys R eq) (m n : HashMap K (Roomy X) S) (key : K) {old : FinMap R (Roomy X)} (seen : from_entries {R = R} m.entries ≡ old) where
+module _ {K X S : Type 0} {R : K → K → Ordering} {eq : K → K → Bool} (keys : OrdersKeys R eq) (m n : HashMap K (Roomy X) S)
+    (key : K) {old : FinMap R (Roomy X)} (seen : from_entries {R = R} m.entries ≡ old) where
   pub empties : Updates eq m n key None → Empties old (from_entries {R = R} n.entries) key
   empties updates =
       let w = removed keys m n key updates in
       subst (λ o. Empties o (from_entries {R = R} n.entries) key) seen (record { nothing = w.is_line; others = w.others })
 
-  module _ (old_line new_line : Roomy X) (writes : WritesThrough eq (eq key) m new_line n) (found : Some old_line ≡ lookup (eq key) m.entries) where
+  module _ (old_line new_line : Roomy X) (writes : WritesThrough eq (eq key) m new_line n)
+      (found : Some old_line ≡ lookup (eq key) m.entries) where
     w : Rewrites (from_entries {R = R} m.entries) (from_entries {R = R} n.entries) key old_line new_line
     w = written keys m n key old_line new_line writes found
 
@@ -100,7 +103,9 @@ module _ {K X S : Type 0} {R : K → K → Ordering} {eq : K → K → Bool} (ke
         })
 
 -- A list is new at a key that had none.
-module _ {K X S : Type 0} {R : K → K → Ordering} {eq : K → K → Bool} (keys : OrdersKeys R eq) (start m n : HashMap K (Roomy X) S) (key : K) {old : FinMap R (Roomy X)} (seen : from_entries {R = R} start.entries ≡ old) (new_line : Roomy X) (same : m ≡ start) (updates : Updates eq m n key (Some new_line)) (absent : None ≡ lookup (eq key) start.entries) where
+module _ {K X S : Type 0} {R : K → K → Ordering} {eq : K → K → Bool} (keys : OrdersKeys R eq) (start m n : HashMap K (Roomy X) S)
+    (key : K) {old : FinMap R (Roomy X)} (seen : from_entries {R = R} start.entries ≡ old) (new_line : Roomy X) (same : m ≡ start)
+    (updates : Updates eq m n key (Some new_line)) (absent : None ≡ lookup (eq key) start.entries) where
   pub reserves-added : {T E : Type 0} (more : ℕ) (x : T) → new_line.items ≡ [] → more ≤ new_line.spare
       → Reserves {E = E} old (from_entries {R = R} n.entries) key more (Ok x)
   reserves-added {T} {E} more x items ok =

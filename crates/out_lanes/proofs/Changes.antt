@@ -13,7 +13,8 @@ use Rattle.hashed_maps.proofs.Entries.{get-entries}
 use Rattle.out_lanes.specs.Lines.{line_at, nothing, OthersStay}
 
 -- A map in which the list at one key changes.
-pub record Rewrites {K X : Type 0} {R : K → K → Ordering} (old new : FinMap R (Roomy X)) (key : K) (old_line new_line : Roomy X) : Type 0 where
+pub record Rewrites {K X : Type 0} {R : K → K → Ordering} (old new : FinMap R (Roomy X)) (key : K)
+    (old_line new_line : Roomy X) : Type 0 where
   pub was_line : line_at old key ≡ old_line
   pub is_line : line_at new key ≡ new_line
   pub others : OthersStay old new key
@@ -31,7 +32,8 @@ module _ {K X : Type 0} {R : K → K → Ordering} {eq : K → K → Bool} (keys
       → line_at (from_entries {R = R} lines) key ≡ nothing
   line_absent lines key none = line_at-entries lines key ∙ ap (λ o. unwrap_or o nothing) none
 
-  module _ (before after : List (K × Roomy X)) (key : K) (now : Option (Roomy X)) (moved : (q : K) → lookup (eq q) after ≡ cond (eq key q) now (lookup (eq q) before)) where
+  module _ (before after : List (K × Roomy X)) (key : K) (now : Option (Roomy X))
+      (moved : (q : K) → lookup (eq q) after ≡ cond (eq key q) now (lookup (eq q) before)) where
     line_after : line_at (from_entries {R = R} after) key ≡ unwrap_or now nothing
     line_after =
         line_at-entries after key
@@ -51,19 +53,22 @@ module _ {K X : Type 0} {R : K → K → Ordering} {eq : K → K → Bool} (keys
         → Rewrites (from_entries {R = R} before) (from_entries {R = R} after) key old_line (unwrap_or now nothing)
     rewrites old_line is = record { was_line = is; is_line = line_after; others = others_after }
 
-module _ {K X S : Type 0} {R : K → K → Ordering} {eq : K → K → Bool} (keys : OrdersKeys R eq) (m n : HashMap K (Roomy X) S) (key : K) where
+module _ {K X S : Type 0} {R : K → K → Ordering} {eq : K → K → Bool} (keys : OrdersKeys R eq) (m n : HashMap K (Roomy X) S)
+    (key : K) where
   -- a list that was found is written
   pub written : (old_line new_line : Roomy X) → WritesThrough eq (eq key) m new_line n → Some old_line ≡ lookup (eq key) m.entries
       → Rewrites (from_entries {R = R} m.entries) (from_entries {R = R} n.entries) key old_line new_line
   written old_line new_line writes found =
-      rewrites keys m.entries n.entries key (Some new_line) ((writes.3 (subst IsSome found refl)).0) old_line (line_found keys m.entries key old_line (sym found))
+      rewrites keys m.entries n.entries key (Some new_line) ((writes.3 (subst IsSome found refl)).0) old_line
+      (line_found keys m.entries key old_line (sym found))
 
   -- where it is written as it was, the map stays
   pub rewritten : (old_line new_line : Roomy X) → WritesThrough eq (eq key) m new_line n
       → Some old_line ≡ lookup (eq key) m.entries → new_line ≡ old_line
       → from_entries {R = R} n.entries ≡ from_entries m.entries
   rewritten old_line new_line writes found same =
-      ap (from_entries {R = R}) (writes.0 ∙ ap (set_value (eq key) m.entries) same ∙ set_value_same (eq key) m.entries old_line (sym found))
+      ap (from_entries {R = R})
+      (writes.0 ∙ ap (set_value (eq key) m.entries) same ∙ set_value_same (eq key) m.entries old_line (sym found))
 
   -- a list is new at a key that had none
   pub added : (start : HashMap K (Roomy X) S) (new_line : Roomy X) → m ≡ start → Updates eq m n key (Some new_line)
@@ -71,12 +76,14 @@ module _ {K X S : Type 0} {R : K → K → Ordering} {eq : K → K → Bool} (ke
       → Rewrites (from_entries {R = R} start.entries) (from_entries {R = R} n.entries) key nothing new_line
   added start new_line same updates absent =
       let none : None ≡ lookup (eq key) m.entries = subst (λ o. None ≡ lookup (eq key) o.entries) (sym same) absent in
-      let w = rewrites keys m.entries n.entries key (Some new_line) updates.0 nothing (line_absent keys m.entries key (sym none)) in
+      let w = rewrites keys m.entries n.entries key (Some new_line) updates.0 nothing
+      (line_absent keys m.entries key (sym none)) in
       subst (λ o. Rewrites (from_entries {R = R} o.entries) (from_entries {R = R} n.entries) key nothing new_line) same w
 
   -- a list goes
   pub removed : Updates eq m n key None
-      → Rewrites (from_entries {R = R} m.entries) (from_entries {R = R} n.entries) key (line_at (from_entries {R = R} m.entries) key) nothing
+      → Rewrites (from_entries {R = R} m.entries) (from_entries {R = R} n.entries) key
+      (line_at (from_entries {R = R} m.entries) key) nothing
   removed updates = rewrites keys m.entries n.entries key None updates.0 _ refl
 
 -- What a failure says, said otherwise.

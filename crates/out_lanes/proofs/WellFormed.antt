@@ -58,12 +58,14 @@ module _ {S : Type 0} (m n : HashMap LegName (Roomy Cell) S) (key : LegName) (we
       → AreWellFormed n.entries
   are-written old_queue new_queue writes found keeps =
       are-moved m.entries n.entries key (Some new_queue) were ((writes.3 (subst IsSome found refl)).0)
-      (λ queue same. let it : new_queue ≡ queue = cc in subst (λ q. EachWellFormed q.items) it (keeps (were key old_queue (sym found))))
+      (λ queue same. let it : new_queue ≡ queue =
+      cc in subst (λ q. EachWellFormed q.items) it (keeps (were key old_queue (sym found))))
 
   pub are-added : (new_queue : Roomy Cell) → Updates pair_eq m n key (Some new_queue) → EachWellFormed new_queue.items
       → AreWellFormed n.entries
   are-added new_queue updates each =
-      are-moved m.entries n.entries key (Some new_queue) were updates.0 (λ queue same. let it : new_queue ≡ queue = cc in subst (λ q. EachWellFormed q.items) it each)
+      are-moved m.entries n.entries key (Some new_queue) were updates.0 (λ queue same. let it : new_queue ≡ queue = cc in
+      subst (λ q. EachWellFormed q.items) it each)
 
   pub are-removed : Updates pair_eq m n key None → AreWellFormed n.entries
   are-removed updates = are-moved m.entries n.entries key None were updates.0 (λ queue same. absurd (cc))

@@ -19,7 +19,8 @@ module _ {K X : Type 0} {R : K → K → Ordering} where
   OthersStay old new key = (other : K) → other ≢ key → line_at new other ≡ line_at old other
 
 -- The list at the key has room for so many more items, or memory is wanting and nothing changed.
-pub record Reserves {K X T E : Type 0} {R : K → K → Ordering} (old new : FinMap R (Roomy X)) (key : K) (more : ℕ) (r : Result T E) : Type 0 where
+pub record Reserves {K X T E : Type 0} {R : K → K → Ordering} (old new : FinMap R (Roomy X)) (key : K) (more : ℕ)
+    (r : Result T E) : Type 0 where
   pub items : (line_at new key).items ≡ (line_at old key).items
   pub ok : OnOk r (more ≤ (line_at new key).spare)
   pub kept : (line_at old key).spare ≤ (line_at new key).spare
@@ -34,11 +35,12 @@ pub record AddsLast {K X : Type 0} {R : K → K → Ordering} (old new : FinMap 
   pub others : OthersStay old new key
 
 -- The first item of the list at the key leaves it, and its place is spare.
-pub record TakesFirst {K X : Type 0} {R : K → K → Ordering} (old new : FinMap R (Roomy X)) (key : K) (first : Option X) : Type 0 where
-  pub item : first ≡ slice_get (line_at old key).items 0
-  pub items : (line_at new key).items ≡ drop 1 (line_at old key).items
-  pub capacity : capacity (line_at new key) ≡ capacity (line_at old key)
-  pub others : OthersStay old new key
+pub record TakesFirst {K X : Type 0} {R : K → K → Ordering} (old new : FinMap R (Roomy X)) (key : K) (first : Option X) : Type 0
+  where
+    pub item : first ≡ slice_get (line_at old key).items 0
+    pub items : (line_at new key).items ≡ drop 1 (line_at old key).items
+    pub capacity : capacity (line_at new key) ≡ capacity (line_at old key)
+    pub others : OthersStay old new key
 
 -- The list at the key goes, and its room.
 pub record Empties {K X : Type 0} {R : K → K → Ordering} (old new : FinMap R (Roomy X)) (key : K) : Type 0 where
@@ -47,4 +49,5 @@ pub record Empties {K X : Type 0} {R : K → K → Ordering} (old new : FinMap R
 
 abbrev pub roomy_code : {X : Type 0} → Coded X → Coded (Roomy X)
 roomy_code {X} items =
-    code_by (List X × ℕ) (coded× (coded_list items) coded_ℕ) (λ line. (line.items, line.spare)) (λ p. record { items = p.0; spare = p.1 }) (λ _. refl)
+    code_by (List X × ℕ) (coded× (coded_list items) coded_ℕ) (λ line. (line.items, line.spare))
+    (λ p. record { items = p.0; spare = p.1 }) (λ _. refl)

@@ -84,4 +84,5 @@ channel_lanes_code = code coded_ℕ (roomy_code destroy_code)
 
 abbrev pub lanes_state_code : Coded LanesState
 lanes_state_code =
-    code_by (CellQueues × ChannelLanes) (coded× cell_queues_code channel_lanes_code) (λ w. (w.queues, w.lanes)) (λ p. record { queues = p.0; lanes = p.1 }) (λ _. refl)
+    code_by (CellQueues × ChannelLanes) (coded× cell_queues_code channel_lanes_code) (λ w. (w.queues, w.lanes))
+    (λ p. record { queues = p.0; lanes = p.1 }) (λ _. refl)

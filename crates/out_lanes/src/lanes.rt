@@ -132,7 +132,8 @@ impl Lanes {
     /// A DESTROY for a CircID waits on a channel, behind those that wait already, in a spare place.
     pub fn destroy(&mut self, chan: ChanNo, id: u32, reason: u8)
         requires { 0 < (lane_on self.old chan.0).spare }
-        ensures items { (lane_on self.new chan.0).items ≡ (lane_on self.old chan.0).items ++ record { id = id; reason = reason } ∷ [] }
+        ensures items { (lane_on self.new chan.0).items ≡ (lane_on self.old chan.0).items ++ record { id = id; reason = reason }
+            ∷ [] }
         ensures spare { (lane_on self.new chan.0).spare + 1 ≡ (lane_on self.old chan.0).spare }
         ensures others { LaneChanges self.old self.new chan.0 }
     {

@@ -26,7 +26,8 @@ count_of-oldest t (y ∷ log) x = counted-before (t x) (t y) (count_of t log) (c
 pub count_of-log_of : (t : ModelEntry → Bool) (entries : List Entry)
     → count_of t (log_of entries) ≡ count_by (λ e. t (entry_of e)) entries
 count_of-log_of t entries =
-    is_count_by (λ xs. count_of t (log_of xs)) (λ e. t (entry_of e)) refl (λ x xs. count_of-oldest t (log_of xs) (entry_of x)) entries
+    is_count_by (λ xs. count_of t (log_of xs)) (λ e. t (entry_of e)) refl (λ x xs. count_of-oldest t (log_of xs) (entry_of x))
+    entries
 
 swapped : (a b : Bool) → (a || (b || false)) ≡ (b || a)
 swapped true true = refl
@@ -58,7 +59,8 @@ log_of_pushed entries entry =
 
 -- The first part lets `grind` find the entry that was read.
 pub log_of_more : (entries : List Entry) (i : ℕ) (d : Entry) → i < length entries →
-    (get_or entries i d ≡ get_or entries i d) × (log_of (take (i + 1) entries) ≡ entry_of (get_or entries i d) ∷ log_of (take i entries))
+    (get_or entries i d ≡ get_or entries i d)
+    × (log_of (take (i + 1) entries) ≡ entry_of (get_or entries i d) ∷ log_of (take i entries))
 log_of_more entries i d inside = (refl, rw (take_more entries i d inside) (log_of_pushed (take i entries) (get_or entries i d)))
 
 pub in_order_more : (events : List Event) (i : ℕ) (d : Event) → i < length events →

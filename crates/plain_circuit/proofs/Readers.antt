@@ -22,8 +22,10 @@ position_within stream running entries reader short =
 -- One more entry was read.
 pub read_on : (entries : List Entry) (i : ℕ) (d : Entry) → i < length entries
     → (bodies : List (List ℕ)) (stream : StreamState) (running : HashState)
-    → bodies ≡ recognised_with (log_of (take i entries)) (recognised_bodies (log_of (take i entries))) (get_or entries i d).event.now
-    → ((entry : ModelEntry) → entry.event ≡ (get_or entries i d).event.now → IsReader stream running (entry ∷ log_of (take i entries)))
+    → bodies ≡ recognised_with (log_of (take i entries)) (recognised_bodies (log_of (take i entries)))
+    (get_or entries i d).event.now
+    → ((entry : ModelEntry) → entry.event ≡ (get_or entries i d).event.now
+    → IsReader stream running (entry ∷ log_of (take i entries)))
     → (bodies ≡ recognised_bodies (log_of (take (i + 1) entries))) × IsReader stream running (log_of (take (i + 1) entries))
 read_on entries i d inside bodies stream running adds next =
     rw ((log_of_more entries i d inside).1) (adds, next (entry_of (get_or entries i d)) refl)

@@ -150,7 +150,8 @@ pub fn digest_of(seed: &[u8; 20], bodies: &[[u8; 509]]) -> [u8; 20]
 /// Whether a plain body is recognised whose running digest with it is this one: its field Recognized
 /// is zero, and its Digest is the first four bytes.
 pub fn is_recognised_by(plain: &[u8; 509], digest: &[u8; 20]) -> bool
-    ensures { result ≡ bytes_eq (take 2 (drop 1 plain.now)) (0 ∷ 0 ∷ []) && bytes_eq (take 4 (drop 5 plain.now)) (take 4 digest.now) }
+    ensures { result ≡ bytes_eq (take 2 (drop 1 plain.now)) (0 ∷ 0 ∷ []) && bytes_eq (take 4 (drop 5 plain.now))
+        (take 4 digest.now) }
 {
     let is_zero = plain[1..3] == [0, 0];
     let fits = plain[5..9] == digest[..4];
@@ -195,8 +196,10 @@ impl Reader {
     #[tactic(auto, unfolding(crypto_spec::specs::HopLayer::layered, crypto_spec::specs::HopLayer::is_recognised))]
     fn open(&mut self, body: &[u8; 509]) -> Option<[u8; 509]>
         requires { self.old.stream.position < 2 ^ 100 }
-        ensures more { (seed : List ℕ) (bodies : List (List ℕ)) → HasAbsorbed self.old.running seed bodies → pushed bodies result ≡ with_recognised seed bodies (layered self.old.stream.key self.old.stream.position body.now) }
-        ensures digest { (seed : List ℕ) (bodies : List (List ℕ)) → HasAbsorbed self.old.running seed bodies → HasAbsorbed self.new.running seed (pushed bodies result) }
+        ensures more { (seed : List ℕ) (bodies : List (List ℕ)) → HasAbsorbed self.old.running seed bodies
+            → pushed bodies result ≡ with_recognised seed bodies (layered self.old.stream.key self.old.stream.position body.now) }
+        ensures digest { (seed : List ℕ) (bodies : List (List ℕ)) → HasAbsorbed self.old.running seed bodies
+            → HasAbsorbed self.new.running seed (pushed bodies result) }
         ensures key { self.new.stream.key ≡ self.old.stream.key }
         ensures position { self.new.stream.position ≡ self.old.stream.position + 509 }
     {
@@ -216,7 +219,8 @@ impl Reader {
         requires reader { IsReader self.old.stream self.old.running (log_of log.now) }
         requires recognised { bodies.now ≡ recognised_bodies (log_of log.now) }
         ensures more { pushed bodies.now result ≡ recognised_with (log_of log.now) bodies.now event.now }
-        ensures next { (entry : ModelEntry) → entry.event ≡ event.now → IsReader self.new.stream self.new.running (entry ∷ log_of log.now) }
+        ensures next { (entry : ModelEntry) → entry.event ≡ event.now
+            → IsReader self.new.stream self.new.running (entry ∷ log_of log.now) }
     {
         match event {
             Event::Born(_, keys, _) => {

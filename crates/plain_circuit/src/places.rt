@@ -118,7 +118,8 @@ pub fn places(alloc: Global, log: &[Entry<'_>]) -> Result<Vec<Place>, AllocError
 
 /// The first of these places that is live with this StreamID.
 fn live_among(log: &[Entry<'_>], places: &[Place], stream: u16) -> Option<usize>
-    ensures { result ≡ option_map (λ place. place.key.serial) (find (λ place. (place.key.stream == stream) && is_live (log_of log.now) place) places.now) }
+    ensures { result ≡ option_map (λ place. place.key.serial)
+        (find (λ place. (place.key.stream == stream) && is_live (log_of log.now) place) places.now) }
 {
     let (place, rest) = places.split_first()?;
     if place.key.stream == stream && is_live(log, place) {

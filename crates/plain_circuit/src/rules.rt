@@ -38,7 +38,8 @@ fn allows(host: &[u8], port: u16, line: &Allow) -> bool
 
 /// The address of the first of these lines that has this host and port.
 fn allowed_among(lines: &[Allow], host: &[u8], port: u16) -> Option<Address>
-    ensures { result ≡ option_map (λ line. line.to) (find (allows (record { host = host.now; port = port })) (map allow_of lines.now)) }
+    ensures { result
+        ≡ option_map (λ line. line.to) (find (allows (record { host = host.now; port = port })) (map allow_of lines.now)) }
 {
     let (line, rest) = lines.split_first()?;
     if allows(host, port, line) {

@@ -115,12 +115,14 @@ written_at n front from k place =
 
 pub relay_body_padded : (command stream : ℕ) (payload from : List ℕ) → stream < 2 ^ 16 → length payload ≤ 498
     → with_padding (relay_body command stream payload) from
-    ≡ relay_head_bytes command stream (length payload) ++ payload ++ replicate (min 4 (498 - length payload)) 0 ++ drop (15 + length payload) from
+    ≡ relay_head_bytes command stream (length payload) ++ payload ++ replicate (min 4 (498 - length payload)) 0
+    ++ drop (15 + length payload) from
 unfolding with_padding relay_body
 relay_body_padded command stream payload from stream_fits short =
     let head = relay_head_bytes command stream (length payload) in
     let body = head ++ payload ++ replicate (498 - length payload) 0 in
     let place : 15 + length payload ≡ length (head ++ payload) + 4 =
     omega (arith, length-append head payload, head_long command stream (length payload)) in
-    ap (λ (h : RelayHead). take (15 + h.length) body ++ drop (15 + h.length) from) (relay_body_head command stream payload stream_fits (omega arith))
+    ap (λ (h : RelayHead). take (15 + h.length) body ++ drop (15 + h.length) from)
+    (relay_body_head command stream payload stream_fits (omega arith))
     ∙ written_at (15 + length payload) (head ++ payload) from (498 - length payload) place

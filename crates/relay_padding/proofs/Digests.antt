@@ -19,14 +19,16 @@ unfolding digest_message
 message-same seed before x y same =
     let last : flat_map zeroed (x ∷ []) ≡ flat_map zeroed (y ∷ []) = ap (λ z. z ++ []) same in
     ap (λ z. seed ++ z)
-    (flat_map-append zeroed before (x ∷ []) ∙ ap (λ z. flat_map zeroed before ++ z) last ∙ sym (flat_map-append zeroed before (y ∷ [])))
+    (flat_map-append zeroed before (x ∷ []) ∙ ap (λ z. flat_map zeroed before ++ z) last
+    ∙ sym (flat_map-append zeroed before (y ∷ [])))
 
 -- a body that was given its Digest
 pub stands_with_digest : (state : HashState) (seed : List ℕ) (before : List (List ℕ)) (body sent : List ℕ) (a b c d : ℕ) →
     length body ≡ 509 → sent ≡ with_digest body (a ∷ b ∷ c ∷ d ∷ []) →
     HasAbsorbed state seed (before ++ body ∷ []) → HasAbsorbed state seed (before ++ sent ∷ [])
 stands_with_digest state seed before body sent a b c d long s e =
-    e ∙ ap hash_state (rw s (message-same seed before body (with_digest body (a ∷ b ∷ c ∷ d ∷ [])) (zeroed-digest body a b c d long)))
+    e ∙ ap hash_state
+    (rw s (message-same seed before body (with_digest body (a ∷ b ∷ c ∷ d ∷ [])) (zeroed-digest body a b c d long)))
 
 pub digest_with_digest : (seed : List ℕ) (before : List (List ℕ)) (body sent : List ℕ) (a b c d : ℕ) →
     length body ≡ 509 → sent ≡ with_digest body (a ∷ b ∷ c ∷ d ∷ []) →

@@ -194,10 +194,12 @@ front_two a b tail n e =
 pub front : (a tail : List ℕ) (n : ℕ) → n ≡ length a → take n (a ++ tail) ≡ a
 front a tail n e = ap (λ (k : ℕ). take k (a ++ tail)) e ∙ take-append_seam a tail
 
-pub block_text : (block_bytes first_bytes b : List ℕ) (f t : ℕ) → length block_bytes ≡ 64 → f ≤ 64 → f ≡ t % 64 → first_bytes ≡ take (64 - f) b →
+pub block_text : (block_bytes first_bytes b : List ℕ) (f t : ℕ) → length block_bytes ≡ 64 → f ≤ 64 → f ≡ t % 64
+    → first_bytes ≡ take (64 - f) b →
     take f block_bytes ++ (first_bytes ++ drop (64 - f) (drop f block_bytes)) ≡ take (t % 64) block_bytes ++ take (64 - t % 64) b
 block_text block_bytes first_bytes b f t long le is_f is =
-    let none : drop (64 - f) (drop f block_bytes) ≡ [] = drop_of_length-le (drop f block_bytes) (omega (arith, length-drop f block_bytes)) in
+    let none : drop (64 - f) (drop f block_bytes) ≡ [] =
+    drop_of_length-le (drop f block_bytes) (omega (arith, length-drop f block_bytes)) in
     ap (λ (x : List ℕ). take f block_bytes ++ (first_bytes ++ x)) none
     ∙ ap (λ (x : List ℕ). take f block_bytes ++ x) (append-nil first_bytes ∙ is)
     ∙ ap (λ (k : ℕ). take k block_bytes ++ take (64 - k) b) is_f

@@ -13,7 +13,8 @@ pub digest_message_next : (seed : List ℕ) (bodies : List (List ℕ)) (body : L
     digest_message seed (bodies ++ body ∷ []) ≡ digest_message seed bodies ++ zeroed body
 unfolding digest_message
 digest_message_next seed bodies body =
-    rw (flat_map-append zeroed bodies (body ∷ [])) (simp append-nil (sym (append_assoc seed (flat_map zeroed bodies) (zeroed body))))
+    rw (flat_map-append zeroed bodies (body ∷ []))
+    (simp append-nil (sym (append_assoc seed (flat_map zeroed bodies) (zeroed body))))
 
 -- A body that comes in three pieces, with its digest field as zero: n is what it has behind it.
 pub zeroed_in_pieces : (m body : List ℕ) (n : ℕ) → length body ≡ 9 + n →

@@ -80,7 +80,8 @@ impl Variables {
     // After a round of a stage (step 3).
     #[inline(always)]
     fn after_round(self, stage: Stage, word: u32) -> Variables
-        ensures { list_of result ≡ round (list_of self) (round_fn (first_of stage) self.b self.c self.d) (round_constant (first_of stage)) word }
+        ensures { list_of result ≡ round (list_of self) (round_fn (first_of stage) self.b self.c self.d)
+            (round_constant (first_of stage)) word }
     {
         let Variables { a, b, c, d, e } = self;
         let mixed = stage.mix(b, c, d);

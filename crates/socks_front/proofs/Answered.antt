@@ -183,7 +183,8 @@ methods_spelled version count bytes wish is fits e =
           ∙ ap (λ n. 5 ∷ n ∷ bytes) (sym counted)
           ∙ ap (λ l. 5 ∷ length (take count bytes) ∷ l) (sym (take-append-drop count bytes))
           ∙ ap (λ l. 5 ∷ length (take count bytes) ∷ (take count bytes ++ l)) request.spelling
-          ∙ ap (λ l. 5 ∷ length (take count bytes) ∷ (take count bytes ++ (5 ∷ command_byte request.command ∷ request.reserved ∷ l))) to.spelling;
+          ∙ ap (λ l. 5 ∷ length (take count bytes)
+          ∷ (take count bytes ++ (5 ∷ command_byte request.command ∷ request.reserved ∷ l))) to.spelling;
       offered = offers.0;
       is_destination = to.is_destination;
       port_fits = to.port_fits;

@@ -70,7 +70,8 @@ wrong_stays size bytes more e = elim (or_cases (nat_eq size 0) (list_any is_zero
 -- What a name and the bytes behind it come to, by the test of the name.
 abbrev name_by : Bool → SocksCommand → ℕ → List ℕ → Outcome
 name_by wrong command size bytes =
-    cond wrong (Refuses Host) (cond (leb size (length bytes)) (port_outcome command (take size bytes) (drop size bytes)) Unfinished)
+    cond wrong (Refuses Host)
+    (cond (leb size (length bytes)) (port_outcome command (take size bytes) (drop size bytes)) Unfinished)
 
 abbrev is_wrong : ℕ → List ℕ → Bool
 is_wrong size bytes = nat_eq size 0 || list_any is_zero_byte (take size bytes)
@@ -99,7 +100,8 @@ name_end command (size ∷ bytes) more e = name_by_end (is_wrong size bytes) com
 
 kind_end : (is_ipv4 is_name : Bool) (command : SocksCommand) (kind : ℕ) (bytes more : List ℕ)
     → is_end (cond is_ipv4 (ipv4_outcome command bytes) (cond is_name (name_outcome command bytes) (Refuses (Kind kind)))) ≡ true
-    → cond is_ipv4 (ipv4_outcome command (bytes ++ more)) (cond is_name (name_outcome command (bytes ++ more)) (Refuses (Kind kind)))
+    → cond is_ipv4 (ipv4_outcome command (bytes ++ more))
+    (cond is_name (name_outcome command (bytes ++ more)) (Refuses (Kind kind)))
     ≡ cond is_ipv4 (ipv4_outcome command bytes) (cond is_name (name_outcome command bytes) (Refuses (Kind kind)))
 kind_end true is_name command kind bytes more e = ip_end command bytes more e
 kind_end false true command kind bytes more e = name_end command bytes more e
@@ -145,13 +147,16 @@ unfolding methods_outcome
 methods_end count bytes more e =
     let offers : List ℕ → Bool = λ l. list_any is_no_authentication l in
     let parts =
-    whole_end (leb count (length bytes)) (cond (offers (take count bytes)) (request_outcome (drop count bytes)) (Refuses NoMethod)) e in
+    whole_end (leb count (length bytes))
+    (cond (offers (take count bytes)) (request_outcome (drop count bytes)) (Refuses NoMethod)) e in
     let same = same_front count bytes more parts.0 in
-    ap (λ b. cond b (cond (offers (take count (bytes ++ more))) (request_outcome (drop count (bytes ++ more))) (Refuses NoMethod)) Unfinished) same.still
+    ap (λ b. cond b (cond (offers (take count (bytes ++ more))) (request_outcome (drop count (bytes ++ more))) (Refuses NoMethod))
+    Unfinished) same.still
     ∙ ap (λ l. cond (offers l) (request_outcome (drop count (bytes ++ more))) (Refuses NoMethod)) same.front
     ∙ ap (λ l. cond (offers (take count bytes)) (request_outcome l) (Refuses NoMethod)) same.behind
     ∙ offered_end (offers (take count bytes)) (drop count bytes) more parts.1
-    ∙ sym (ap (λ b. cond b (cond (offers (take count bytes)) (request_outcome (drop count bytes)) (Refuses NoMethod)) Unfinished) parts.0)
+    ∙ sym (ap (λ b. cond b (cond (offers (take count bytes)) (request_outcome (drop count bytes)) (Refuses NoMethod)) Unfinished)
+    parts.0)
 
 offer_end : (bytes more : List ℕ) → is_end (offer_outcome bytes) ≡ true → offer_outcome (bytes ++ more) ≡ offer_outcome bytes
 offer_end [] more e = absurd cc

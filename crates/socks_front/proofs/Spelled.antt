@@ -45,7 +45,8 @@ named_read command name behind some plain =
     let rest : drop n all ≡ behind = drop_at name behind n refl in
     let whole : leb n (length all) ≡ true = le-leb n (length all) (omega arith) in
     let right : (nat_eq n 0 || list_any is_zero_byte (take n all)) ≡ false =
-    or_from (nat_eq n 0) (list_any is_zero_byte (take n all)) (ne_eqb n 0 (λ e. omega arith)) (ap (list_any is_zero_byte) same ∙ plain) in
+    or_from (nat_eq n 0) (list_any is_zero_byte (take n all)) (ne_eqb n 0 (λ e. omega arith))
+    (ap (list_any is_zero_byte) same ∙ plain) in
     ap (λ b. cond b (Refuses Host) (cond (leb n (length all)) (port_outcome command (take n all) (drop n all)) Unfinished)) right
     ∙ ap (λ b. cond b (port_outcome command (take n all) (drop n all)) Unfinished) whole
     ∙ ap (λ l. port_outcome command l (drop n all)) same
@@ -71,7 +72,8 @@ methods_read methods behind offered =
     let same : take n all ≡ methods = take_at methods behind n refl in
     let rest : drop n all ≡ behind = drop_at methods behind n refl in
     let whole : leb n (length all) ≡ true = le-leb n (length all) (omega arith) in
-    ap (λ b. cond b (cond (list_any is_no_authentication (take n all)) (request_outcome (drop n all)) (Refuses NoMethod)) Unfinished) whole
+    ap (λ b. cond b (cond (list_any is_no_authentication (take n all)) (request_outcome (drop n all)) (Refuses NoMethod))
+    Unfinished) whole
     ∙ ap (λ l. cond (list_any is_no_authentication l) (request_outcome (drop n all)) (Refuses NoMethod)) same
     ∙ ap (λ b. cond b (request_outcome (drop n all)) (Refuses NoMethod)) offered
     ∙ ap request_outcome rest

@@ -84,7 +84,8 @@ IsInStep-begun s place id is fewer within new =
       calls = omega arith;
       live_once = LivesOnce-begun s.streams place id s.next_serial is.live_once there new;
       counted = counted_put s place content there
-          (λ h same. subst (λ g. IsCounted g (s.calls + 1)) (same_Some (begun id s.next_serial) h same) (fresh_counted id s.next_serial s.calls is.next_serial))
+          (λ h same. subst (λ g. IsCounted g (s.calls + 1)) (same_Some (begun id s.next_serial) h same)
+          (fresh_counted id s.next_serial s.calls is.next_serial))
           is.counted;
     }
 

@@ -99,7 +99,9 @@ impl Places {
         requires new { position (is_live_as id) self.old.streams ≡ None }
         ensures place { option_map (λ place. place.0) result ≡ position is_free self.old.streams }
         ensures within { IfSome result (λ place. place.0 < 32) }
-        ensures some { IfSome result (λ place. self.new ≡ record (with_held self.old place.0 (Some (begun id self.old.next_serial))) { next_serial = self.old.next_serial + 1 }) }
+        ensures some { IfSome result
+            (λ place. self.new ≡ record (with_held self.old place.0 (Some (begun id self.old.next_serial)))
+            { next_serial = self.old.next_serial + 1 }) }
         ensures taken { IfSome result (λ place. held_at self.new place.0 ≡ Some (begun id self.old.next_serial)) }
         ensures none { IfNone result (self.new ≡ record self.old { calls = self.old.calls + 1 }) }
         ensures live_once { LivesOnce self.new.streams }

@@ -47,7 +47,8 @@ use Rattle.switch_core.proofs.Whole.{started}
 
 -- a return that is refused
 
-left-given : (rules : Rules) (ev : List Event) (s : State) (note : ClaimNote) (x : Option CircuitState) (a : BackAnswer) → IsRefusal a → give_back_state_of rules ev s note x a ≡ counted s
+left-given : (rules : Rules) (ev : List Event) (s : State) (note : ClaimNote) (x : Option CircuitState) (a : BackAnswer)
+    → IsRefusal a → give_back_state_of rules ev s note x a ≡ counted s
 left-given rules ev s note None BackAnswer.Gone of = refl
 left-given rules ev s note (Some x) BackAnswer.Gone of = refl
 left-given rules ev s note None (BackAnswer.Stranger why) of = refl
@@ -55,36 +56,45 @@ left-given rules ev s note (Some x) (BackAnswer.Stranger why) of = refl
 left-given rules ev s note x BackAnswer.Settled of = absurd of
 left-given rules ev s note x (BackAnswer.Down reason) of = absurd of
 
-events-refused : (rules : Rules) (h : List Step) (note : ClaimNote) (place : Option ℕ) (a : BackAnswer) (d : ℕ) → is_accepted_return a ≡ false → events rules (GiveBack note place a ∷ h) d ≡ events rules h d
-events-refused rules h note place a d refused = rw (refused, and-false (same_dir note.dir Forth), and-false (note.circ.0 == d)) refl
+events-refused : (rules : Rules) (h : List Step) (note : ClaimNote) (place : Option ℕ) (a : BackAnswer) (d : ℕ)
+    → is_accepted_return a ≡ false → events rules (GiveBack note place a ∷ h) d ≡ events rules h d
+events-refused rules h note place a d refused =
+    rw (refused, and-false (same_dir note.dir Forth), and-false (note.circ.0 == d)) refl
 
-relays-refused : (rules : Rules) (h : List Step) (note : ClaimNote) (place : Option ℕ) (a : BackAnswer) (relays : List (Option Relay)) → IsRefusal a → RelaysStand rules relays (circuits h) (λ e. past rules h e) →
+relays-refused : (rules : Rules) (h : List Step) (note : ClaimNote) (place : Option ℕ) (a : BackAnswer)
+    (relays : List (Option Relay)) → IsRefusal a → RelaysStand rules relays (circuits h) (λ e. past rules h e) →
     RelaysStand rules relays (circuits h) (λ e. past rules (GiveBack note place a ∷ h) e)
 relays-refused rules h note place BackAnswer.Gone relays of old = record {
   count_is = old.count_is;
-  relay = λ c. subst (λ e. RelayAt (is_live_circuit rules h c) (slot_at relays c) rules e (past rules h c).sealed_count) (sym (events-refused rules h note place BackAnswer.Gone c refl)) (old.relay c);
+  relay = λ c. subst (λ e. RelayAt (is_live_circuit rules h c) (slot_at relays c) rules e (past rules h c).sealed_count)
+      (sym (events-refused rules h note place BackAnswer.Gone c refl)) (old.relay c);
 }
 relays-refused rules h note place (BackAnswer.Stranger why) relays of old = record {
   count_is = old.count_is;
-  relay = λ c. subst (λ e. RelayAt (is_live_circuit rules h c) (slot_at relays c) rules e (past rules h c).sealed_count) (sym (events-refused rules h note place (BackAnswer.Stranger why) c refl)) (old.relay c);
+  relay = λ c. subst (λ e. RelayAt (is_live_circuit rules h c) (slot_at relays c) rules e (past rules h c).sealed_count)
+      (sym (events-refused rules h note place (BackAnswer.Stranger why) c refl)) (old.relay c);
 }
 relays-refused rules h note place BackAnswer.Settled relays of old = absurd of
 relays-refused rules h note place (BackAnswer.Down reason) relays of old = absurd of
 
-pub refused_whole : (start : SwitchStart) (old new : State) (relays : List (Option Relay)) (note : ClaimNote) (place : Option ℕ) (a : BackAnswer) → refusal start.name old note place ≡ Some a → new ≡ counted old →
+pub refused_whole : (start : SwitchStart) (old new : State) (relays : List (Option Relay)) (note : ClaimNote) (place : Option ℕ)
+    (a : BackAnswer) → refusal start.name old note place ≡ Some a → new ≡ counted old →
     SwitchAdds (started start old relays) (started start new relays) (GiveBack note place a)
 unfolding SwitchAdds AddsTo
 refused_whole start old new relays note place a refused state = record {
   start = refl;
   steps = ap (λ (s : State). s.steps) state;
   stands = λ h st.
-      let by = refused_by start.name old note place (λ x. done_result start.rules (events start.rules h note.circ.0) x note.dir) a refused in
+      let by = refused_by start.name old note place (λ x. done_result start.rules (events start.rules h note.circ.0) x note.dir) a
+      refused in
       record {
         state =
             (give_back_adds start h old new note place a
             (state
-            ∙ sym (ap (λ b. give_back_state_of start.rules (events start.rules h note.circ.0) old note (slot_at old.circuits note.circ.0) b) by.0
-            ∙ left-given start.rules (events start.rules h note.circ.0) old note (slot_at old.circuits note.circ.0) a by.1)) (sym by.0)).stands st.state;
+            ∙ sym (ap (λ b. give_back_state_of start.rules (events start.rules h note.circ.0) old note
+            (slot_at old.circuits note.circ.0) b) by.0
+            ∙ left-given start.rules (events start.rules h note.circ.0) old note (slot_at old.circuits note.circ.0) a by.1))
+            (sym by.0)).stands st.state;
         relays = relays-refused start.rules h note place a relays by.1 st.relays;
       };
 }
@@ -116,34 +126,45 @@ pub record IsHome (start : SwitchStart) (s : State) (relays : List (Option Relay
   pub sealed : kept_length circuit.back.claim_out ≤ circuit.back.claimed_count
 
 name-by : (note : ClaimNote) (place : Option ℕ) (x : Option CircuitState) (b d : Bool) →
-    (if not b then Some (BackAnswer.Stranger (Difference.Note None note)) else if not d then Some (BackAnswer.Stranger (Difference.Note None note)) else refusal_on note place x) ≡ None → (b ≡ true) × (d ≡ true)
+    (if not b then Some (BackAnswer.Stranger (Difference.Note None note)) else if not d
+    then Some (BackAnswer.Stranger (Difference.Note None note)) else refusal_on note place x) ≡ None → (b ≡ true) × (d ≡ true)
 name-by note place x false d is = cc
 name-by note place x true false is = cc
 name-by note place x true true is = (refl, refl)
 
-name-is : (name : ℕ) (s : State) (note : ClaimNote) (place : Option ℕ) → refusal name s note place ≡ None → (note.switch ≡ name) × (note.circ.0 < length s.circuits)
+name-is : (name : ℕ) (s : State) (note : ClaimNote) (place : Option ℕ) → refusal name s note place ≡ None
+    → (note.switch ≡ name) × (note.circ.0 < length s.circuits)
 name-is name s note place is =
-    let by = name-by note place (slot_at s.circuits note.circ.0) (note.switch == name) (nat_lt note.circ.0 (length s.circuits)) is in
+    let by = name-by note place (slot_at s.circuits note.circ.0) (note.switch == name) (nat_lt note.circ.0 (length s.circuits))
+    is in
     (same-number note.switch name by.0, ltb-true note.circ.0 (length s.circuits) by.1)
 
-there-by : (live : Bool) (slot : Option Relay) (rules : Rules) (ev : List Event) (sealed : ℕ) → RelayAt live slot rules ev sealed → live ≡ true → IsThere slot
+there-by : (live : Bool) (slot : Option Relay) (rules : Rules) (ev : List Event) (sealed : ℕ) → RelayAt live slot rules ev sealed
+    → live ≡ true → IsThere slot
 there-by false slot rules ev sealed at up = cc
 there-by true None rules ev sealed at up = absurd at
 there-by true (Some relay) rules ev sealed at up = record { relay = relay; there = refl }
 
-pub is_home : (start : SwitchStart) (s : State) (relays : List (Option Relay)) (h : List Step) (done : DoneParts) (place : Option ℕ) → SwitchStands (started start s relays) h → IsDoneJob done → length done.output.items ≡ length done.input.items →
-    IsPlace relays s done.note done.start done.input.items place → refusal start.name s done.note place ≡ None → IsHome start s relays done
+pub is_home : (start : SwitchStart) (s : State) (relays : List (Option Relay)) (h : List Step) (done : DoneParts)
+    (place : Option ℕ) → SwitchStands (started start s relays) h → IsDoneJob done
+    → length done.output.items ≡ length done.input.items →
+    IsPlace relays s done.note done.start done.input.items place → refusal start.name s done.note place ≡ None
+    → IsHome start s relays done
 is_home start s relays h done place st job many first passes =
     let c = done.note.circ.0 in
     let by = passed_by start.name s done.note place (λ x. BackAnswer.Settled) passes in
     let named = name-is start.name s done.note place passes in
     let own = circuit_stands start s h c by.circuit st.state by.live in
-    let there = there-by (is_live_circuit start.rules h c) (slot_at relays c) start.rules (events start.rules h c) (past start.rules h c).sealed_count (st.relays.relay c) own.live in
+    let there =
+    there-by (is_live_circuit start.rules h c) (slot_at relays c) start.rules (events start.rules h c)
+    (past start.rules h c).sealed_count (st.relays.relay c) own.live in
     let stands : RelayStands there.relay start.rules (events start.rules h c) (past start.rules h c).sealed_count =
     relay_of _ (slot_at relays c) there.relay start.rules (events start.rules h c) _ (st.relays.relay c) own.live there.there in
     let k = is-kept done.note (way_of_circuit by.circuit done.note.dir).claim_out by.is_kept in
-    let same : IsPlace relays s done.note done.start done.input.items None = subst (λ p. IsPlace relays s done.note done.start done.input.items p) by.no_place first in
-    let bodies : done.input.items ≡ map body_of (kept_cells (way_of_circuit by.circuit done.note.dir).claim_out) = same.1 ∙ ap (λ o. bodies_out o done.note.dir) by.live in
+    let same : IsPlace relays s done.note done.start done.input.items None =
+    subst (λ p. IsPlace relays s done.note done.start done.input.items p) by.no_place first in
+    let bodies : done.input.items ≡ map body_of (kept_cells (way_of_circuit by.circuit done.note.dir).claim_out) =
+    same.1 ∙ ap (λ o. bodies_out o done.note.dir) by.live in
     record {
       circuit = by.circuit;
       claim_out = k.0;
@@ -159,19 +180,23 @@ is_home start s relays h done place st job many first passes =
       begins = same.0 ∙ ap (λ o. start_out o done.note.dir) there.there;
       input = bodies ∙ ap (λ o. map body_of (kept_cells o)) k.1.0;
       count = many ∙ ap length bodies ∙ sym (out_bodies (way_of_circuit by.circuit done.note.dir));
-      calls = calls_fit start.rules s.last_closes by.circuit c (past start.rules h c) (λ j. holds_id h c j) (edge_past start.rules h c) there.relay own stands;
+      calls = calls_fit start.rules s.last_closes by.circuit c (past start.rules h c) (λ j. holds_id h c j)
+          (edge_past start.rules h c) there.relay own stands;
       sealed = back_out start s h c by.circuit st.state by.live;
     }
 
-starts-forth : (relay : Relay) (dir : Dir) (start : Cipher) → dir ≡ Forth → Some start ≡ start_out (Some relay) dir → start ≡ relay.forth
+starts-forth : (relay : Relay) (dir : Dir) (start : Cipher) → dir ≡ Forth → Some start ≡ start_out (Some relay) dir
+    → start ≡ relay.forth
 starts-forth relay Forth start is begins = cc
 starts-forth relay Back start is begins = cc
 
-starts-back : (relay : Relay) (dir : Dir) (start : Cipher) → dir ≡ Back → Some start ≡ start_out (Some relay) dir → start ≡ relay.back
+starts-back : (relay : Relay) (dir : Dir) (start : Cipher) → dir ≡ Back → Some start ≡ start_out (Some relay) dir
+    → start ≡ relay.back
 starts-back relay Forth start is begins = cc
 starts-back relay Back start is begins = cc
 
-pub home_forth : (start : SwitchStart) (s : State) (relays : List (Option Relay)) (done : DoneParts) → done.note.dir ≡ Forth → (home : IsHome start s relays done) → IsHomeForth start.name s relays done home.circuit home.claim_out home.relay
+pub home_forth : (start : SwitchStart) (s : State) (relays : List (Option Relay)) (done : DoneParts) → done.note.dir ≡ Forth
+    → (home : IsHome start s relays done) → IsHomeForth start.name s relays done home.circuit home.claim_out home.relay
 home_forth start s relays done forth home = record {
   name_is = home.name_is;
   inside = home.inside;
@@ -186,7 +211,8 @@ home_forth start s relays done forth home = record {
   input = home.input;
 }
 
-pub home_back : (start : SwitchStart) (s : State) (relays : List (Option Relay)) (done : DoneParts) → done.note.dir ≡ Back → (home : IsHome start s relays done) → IsHomeBack start.name s relays done home.circuit home.claim_out home.relay
+pub home_back : (start : SwitchStart) (s : State) (relays : List (Option Relay)) (done : DoneParts) → done.note.dir ≡ Back
+    → (home : IsHome start s relays done) → IsHomeBack start.name s relays done home.circuit home.claim_out home.relay
 home_back start s relays done back home = record {
   name_is = home.name_is;
   inside = home.inside;
@@ -203,72 +229,105 @@ home_back start s relays done back home = record {
 
 -- the place of a done job
 
-pub of_done : (s : Started) (done parts : DoneParts) (relays : List (Option Relay)) (bodies : List (List ℕ)) (place : Option ℕ) (P : ClaimNote → Option ℕ → Type 0) → parts ≡ done → relays ≡ s.relays → bodies ≡ parts.input.items →
-    IsPlace relays s.state parts.note parts.start bodies place → P parts.note place → OfPlace s done.note done.start done.input.items (λ p. P done.note p)
+pub of_done : (s : Started) (done parts : DoneParts) (relays : List (Option Relay)) (bodies : List (List ℕ)) (place : Option ℕ)
+    (P : ClaimNote → Option ℕ → Type 0) → parts ≡ done → relays ≡ s.relays → bodies ≡ parts.input.items →
+    IsPlace relays s.state parts.note parts.start bodies place → P parts.note place
+    → OfPlace s done.note done.start done.input.items (λ p. P done.note p)
 of_done s done parts relays bodies place P same there all first fact =
     subst (λ (d : DoneParts). OfPlace s d.note d.start d.input.items (λ p. P d.note p)) same
     (of_parts s relays parts.note parts.start bodies parts.input.items place (λ p. P parts.note p) there all first fact)
 
 -- the steps
 
-record IsGiven (start : SwitchStart) (s : State) (relays : List (Option Relay)) (done : DoneParts) (place : Option ℕ) : Type 0 where
-  history : List Step
-  stands : SwitchStands (started start s relays) history
-  home : IsHome start s relays done
-  no_place : place ≡ None
+record IsGiven (start : SwitchStart) (s : State) (relays : List (Option Relay)) (done : DoneParts) (place : Option ℕ) : Type 0
+  where
+    history : List Step
+    stands : SwitchStands (started start s relays) history
+    home : IsHome start s relays done
+    no_place : place ≡ None
 
-is-given : (start : SwitchStart) (s : State) (relays : List (Option Relay)) (done : DoneParts) (bodies : List (List ℕ)) (place : Option ℕ) → SwitchStandsForSome (started start s relays) → IsDoneJob done → length done.output.items ≡ length done.input.items → bodies ≡ done.input.items →
-    IsPlace relays s done.note done.start bodies place → refusal start.name s done.note place ≡ None → IsGiven start s relays done place
+is-given : (start : SwitchStart) (s : State) (relays : List (Option Relay)) (done : DoneParts) (bodies : List (List ℕ))
+    (place : Option ℕ) → SwitchStandsForSome (started start s relays) → IsDoneJob done
+    → length done.output.items ≡ length done.input.items → bodies ≡ done.input.items →
+    IsPlace relays s done.note done.start bodies place → refusal start.name s done.note place ≡ None
+    → IsGiven start s relays done place
 is-given start s relays done bodies place some job many all first passes = record {
   history = some.history;
   stands = some.stands;
-  home = is_home start s relays some.history done place some.stands job many (subst (λ l. IsPlace relays s done.note done.start l place) all first) passes;
+  home = is_home start s relays some.history done place some.stands job many
+      (subst (λ l. IsPlace relays s done.note done.start l place) all first) passes;
   no_place = (passed_by start.name s done.note place (λ x. BackAnswer.Settled) passes).no_place;
 }
 
 same-relay : (slot : Option Relay) (a b : Relay) → slot ≡ Some a → slot ≡ Some b → a ≡ b
 same-relay slot a b one other = let same : Some a ≡ Some b = sym one ∙ other in cc
 
-pub forth_given : (start : SwitchStart) (old mid new : State) (relays after : List (Option Relay)) (done : DoneParts) (bodies : List (List ℕ)) (opened_bodies : List Opened) (place : Option ℕ) (a : BackAnswer) → SwitchStandsForSome (started start old relays) → IsDoneJob done →
-    length done.output.items ≡ length done.input.items → bodies ≡ done.input.items → IsPlace relays old done.note done.start bodies place → refusal start.name old done.note place ≡ None → mid ≡ old → done.note.dir ≡ Forth → opened_bodies ≡ done.output.items →
-    HomeForth start.rules mid new relays after done.note.circ.0 done.end opened_bodies a → SwitchAdds (started start old relays) (started start new after) (GiveBack done.note place a)
-forth_given start old mid new relays after done bodies opened_bodies place a some job many all first passes same forth outputs behind =
+pub forth_given : (start : SwitchStart) (old mid new : State) (relays after : List (Option Relay)) (done : DoneParts)
+    (bodies : List (List ℕ)) (opened_bodies : List Opened) (place : Option ℕ) (a : BackAnswer)
+    → SwitchStandsForSome (started start old relays) → IsDoneJob done →
+    length done.output.items ≡ length done.input.items → bodies ≡ done.input.items
+    → IsPlace relays old done.note done.start bodies place → refusal start.name old done.note place ≡ None → mid ≡ old
+    → done.note.dir ≡ Forth → opened_bodies ≡ done.output.items →
+    HomeForth start.rules mid new relays after done.note.circ.0 done.end opened_bodies a
+    → SwitchAdds (started start old relays) (started start new after) (GiveBack done.note place a)
+forth_given start old mid new relays after done bodies opened_bodies place a some job many all first passes same forth outputs
+    behind =
     let given = is-given start old relays done bodies place some job many all first passes in
     let home = home_forth start old relays done forth given.home in
-    let relay : given.home.relay ≡ behind.relay = same-relay (slot_at relays done.note.circ.0) given.home.relay behind.relay given.home.there behind.there in
+    let relay : given.home.relay ≡ behind.relay =
+    same-relay (slot_at relays done.note.circ.0) given.home.relay behind.relay given.home.there behind.there in
     subst (λ p. SwitchAdds (started start old relays) (started start new after) (GiveBack done.note p a)) (sym given.no_place)
     (forth_whole start old new relays after done given.home.circuit given.home.claim_out behind.relay behind.next a
     (subst (λ r. IsHomeForth start.name old relays done given.home.circuit given.home.claim_out r) relay home)
     (subst (λ s. PartsSettle start.rules s new done.note.circ.0 behind.relay.circuit behind.next.circuit done.output.items a) same
-    (subst (λ l. PartsSettle start.rules mid new done.note.circ.0 behind.relay.circuit behind.next.circuit l a) outputs behind.settles))
-    (behind.steps ∙ ap (λ (s : State). s.steps + 1) same) behind.forth behind.back (subst (λ (l : List Opened). CallsGrow (length l) behind.relay.circuit behind.next.circuit) outputs behind.grown) behind.home)
+    (subst (λ l. PartsSettle start.rules mid new done.note.circ.0 behind.relay.circuit behind.next.circuit l a) outputs
+    behind.settles))
+    (behind.steps ∙ ap (λ (s : State). s.steps + 1) same) behind.forth behind.back
+    (subst (λ (l : List Opened). CallsGrow (length l) behind.relay.circuit behind.next.circuit) outputs behind.grown)
+    behind.home)
 
 settled-case : (reason : Option ℕ) (P : Type 0) → RefusedCase (done_by reason) P
 settled-case None P = tt
 settled-case (Some reason) P = tt
 
-pub forth_case : (start : SwitchStart) (old mid new : State) (relays after : List (Option Relay)) (done : DoneParts) (bodies : List (List ℕ)) (opened_bodies : List Opened) (place : Option ℕ) (a : BackAnswer) (P : Type 0) → SwitchStandsForSome (started start old relays) → IsDoneJob done →
-    length done.output.items ≡ length done.input.items → bodies ≡ done.input.items → IsPlace relays old done.note done.start bodies place → refusal start.name old done.note place ≡ None → mid ≡ old → done.note.dir ≡ Forth → opened_bodies ≡ done.output.items →
+pub forth_case : (start : SwitchStart) (old mid new : State) (relays after : List (Option Relay)) (done : DoneParts)
+    (bodies : List (List ℕ)) (opened_bodies : List Opened) (place : Option ℕ) (a : BackAnswer) (P : Type 0)
+    → SwitchStandsForSome (started start old relays) → IsDoneJob done →
+    length done.output.items ≡ length done.input.items → bodies ≡ done.input.items
+    → IsPlace relays old done.note done.start bodies place → refusal start.name old done.note place ≡ None → mid ≡ old
+    → done.note.dir ≡ Forth → opened_bodies ≡ done.output.items →
     HomeForth start.rules mid new relays after done.note.circ.0 done.end opened_bodies a → RefusedCase a P
-forth_case start old mid new relays after done bodies opened_bodies place a P some job many all first passes same forth outputs behind =
+forth_case start old mid new relays after done bodies opened_bodies place a P some job many all first passes same forth outputs
+    behind =
     let given = is-given start old relays done bodies place some job many all first passes in
     let home = home_forth start old relays done forth given.home in
-    let relay : given.home.relay ≡ behind.relay = same-relay (slot_at relays done.note.circ.0) given.home.relay behind.relay given.home.there behind.there in
+    let relay : given.home.relay ≡ behind.relay =
+    same-relay (slot_at relays done.note.circ.0) given.home.relay behind.relay given.home.there behind.there in
     let settles =
     settles_of start old new given.history relays done given.home.circuit given.home.claim_out behind.relay behind.next a
     (subst (λ r. IsHomeForth start.name old relays done given.home.circuit given.home.claim_out r) relay home) given.stands
     (subst (λ s. PartsSettle start.rules s new done.note.circ.0 behind.relay.circuit behind.next.circuit done.output.items a) same
-    (subst (λ l. PartsSettle start.rules mid new done.note.circ.0 behind.relay.circuit behind.next.circuit l a) outputs behind.settles)) in
+    (subst (λ l. PartsSettle start.rules mid new done.note.circ.0 behind.relay.circuit behind.next.circuit l a) outputs
+    behind.settles)) in
     subst (λ b. RefusedCase b P) (sym settles.answer_is) (settled-case _ P)
 
-pub back_given : (start : SwitchStart) (old mid new : State) (relays after : List (Option Relay)) (done : DoneParts) (bodies : List (List ℕ)) (sealed : List Opened) (place : Option ℕ) → SwitchStandsForSome (started start old relays) → IsDoneJob done →
-    length done.output.items ≡ length done.input.items → bodies ≡ done.input.items → IsPlace relays old done.note done.start bodies place → refusal start.name old done.note place ≡ None → mid ≡ old → done.note.dir ≡ Back → sealed ≡ done.output.items →
-    HomeBack mid new relays after done.note.circ.0 done.end sealed → SwitchAdds (started start old relays) (started start new after) (GiveBack done.note place BackAnswer.Settled)
+pub back_given : (start : SwitchStart) (old mid new : State) (relays after : List (Option Relay)) (done : DoneParts)
+    (bodies : List (List ℕ)) (sealed : List Opened) (place : Option ℕ) → SwitchStandsForSome (started start old relays)
+    → IsDoneJob done →
+    length done.output.items ≡ length done.input.items → bodies ≡ done.input.items
+    → IsPlace relays old done.note done.start bodies place → refusal start.name old done.note place ≡ None → mid ≡ old
+    → done.note.dir ≡ Back → sealed ≡ done.output.items →
+    HomeBack mid new relays after done.note.circ.0 done.end sealed
+    → SwitchAdds (started start old relays) (started start new after) (GiveBack done.note place BackAnswer.Settled)
 back_given start old mid new relays after done bodies sealed place some job many all first passes same back outputs behind =
     let given = is-given start old relays done bodies place some job many all first passes in
     let home = home_back start old relays done back given.home in
-    let relay : given.home.relay ≡ behind.relay = same-relay (slot_at relays done.note.circ.0) given.home.relay behind.relay given.home.there behind.there in
-    subst (λ p. SwitchAdds (started start old relays) (started start new after) (GiveBack done.note p BackAnswer.Settled)) (sym given.no_place)
-    (back_whole start old new relays after done given.home.circuit given.home.claim_out behind.relay (record behind.relay { back = done.end })
+    let relay : given.home.relay ≡ behind.relay =
+    same-relay (slot_at relays done.note.circ.0) given.home.relay behind.relay given.home.there behind.there in
+    subst (λ p. SwitchAdds (started start old relays) (started start new after) (GiveBack done.note p BackAnswer.Settled))
+    (sym given.no_place)
+    (back_whole start old new relays after done given.home.circuit given.home.claim_out behind.relay
+    (record behind.relay { back = done.end })
     (subst (λ r. IsHomeBack start.name old relays done given.home.circuit given.home.claim_out r) relay home)
-    (behind.state ∙ ap (λ s. sealed_by s done.note.circ.0 (sealed_cells_of sealed)) same ∙ ap (λ l. sealed_by old done.note.circ.0 (sealed_cells_of l)) outputs) refl refl refl behind.puts)
+    (behind.state ∙ ap (λ s. sealed_by s done.note.circ.0 (sealed_cells_of sealed)) same
+    ∙ ap (λ l. sealed_by old done.note.circ.0 (sealed_cells_of l)) outputs) refl refl refl behind.puts)

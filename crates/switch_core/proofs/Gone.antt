@@ -42,13 +42,15 @@ count-next b false m k e = e
 
 count-shift : (p : ℕ → Bool) (n : ℕ) → count_below p (suc n) ≡ (if p 0 then 1 else 0) + count_below (λ m. p (suc m)) n
 count-shift p zero = count-first (p 0)
-count-shift p (suc n) = count-next (if p 0 then 1 else 0) (p (suc n)) (count_below p (suc n)) (count_below (λ m. p (suc m)) n) (count-shift p n)
+count-shift p (suc n) =
+    count-next (if p 0 then 1 else 0) (p (suc n)) (count_below p (suc n)) (count_below (λ m. p (suc m)) n) (count-shift p n)
 
 by-first : (b : Bool) (n : ℕ) → (if b then 1 else 0) + n ≡ cond b (1 + n) n
 by-first true n = refl
 by-first false n = omega arith
 
-filled-more : {A : Type 0} (x : Option A) (xs : List (Option A)) → filled_slots (x ∷ xs) ≡ cond (is_some x) (1 + filled_slots xs) (filled_slots xs)
+filled-more : {A : Type 0} (x : Option A) (xs : List (Option A))
+    → filled_slots (x ∷ xs) ≡ cond (is_some x) (1 + filled_slots xs) (filled_slots xs)
 unfolding slot_at
 filled-more None xs = count-shift (λ m. is_some (slot_at (None ∷ xs) m)) (length xs) ∙ by-first false (filled_slots xs)
 filled-more (Some x) xs = count-shift (λ m. is_some (slot_at (Some x ∷ xs) m)) (length xs) ∙ by-first true (filled_slots xs)
@@ -58,7 +60,8 @@ filled_count xs = is_count_by filled_slots is_some refl filled-more xs
 
 -- the legs that wait, one circuit further on
 pub waiting-by : (s : State) (chan n : ℕ) (x : Option CircuitState) → slot_at s.circuits n ≡ x → HasOneLeg x →
-    waiting_before s chan (n + 1) ≡ waiting_before s chan n ++ (if waits_on chan (leg_at (slot_at s.circuits n) 0) then first_leg_of n ∷ [] else [])
+    waiting_before s chan (n + 1) ≡ waiting_before s chan n
+    ++ (if waits_on chan (leg_at (slot_at s.circuits n) 0) then first_leg_of n ∷ [] else [])
 waiting-by s chan n None gone one = rw (add-one n, gone) refl
 waiting-by s chan n (Some x) live one = rw (add-one n, live, one) refl
 
@@ -66,9 +69,11 @@ waiting-by s chan n (Some x) live one = rw (add-one n, live, one) refl
 pub forgets_set : (xs : List (Option Relay)) (c : ℕ) → c < length xs → Forgets xs (slice_set xs c None) c
 forgets_set xs c inside = record {
   count = ap length (sym (slot-set xs c None)) ∙ length-with xs c None;
-  gone = ap (λ l. slot_at l c) (sym (slot-set xs c None)) ∙ slot_at-with xs c None c inside ∙ ap (λ b. if b then None else slot_at xs c) (self_eq c);
+  gone = ap (λ l. slot_at l c) (sym (slot-set xs c None)) ∙ slot_at-with xs c None c inside
+      ∙ ap (λ b. if b then None else slot_at xs c) (self_eq c);
   others = λ d other.
-      ap (λ l. slot_at l d) (sym (slot-set xs c None)) ∙ slot_at-with xs c None d inside ∙ ap (λ b. if b then None else slot_at xs d) other;
+      ap (λ l. slot_at l d) (sym (slot-set xs c None)) ∙ slot_at-with xs c None d inside
+      ∙ ap (λ b. if b then None else slot_at xs d) other;
 }
 
 pub forgets_none : (xs : List (Option Relay)) (c : ℕ) → length xs ≤ c → Forgets xs xs c

@@ -12,22 +12,26 @@ use Rattle.switch_core.proofs.Gone.{slot-get, slot-set}
 use Rattle.switch_core.proofs.Settled.{is_inside}
 
 -- the relay at a place of the list
-pub relay_slot : (relays : List (Option Relay)) (c : ℕ) (slot : Option Relay) → IsTrue (is_some (slot_at relays c)) → slot ≡ get_or relays c slot → slot_at relays c ≡ slot
+pub relay_slot : (relays : List (Option Relay)) (c : ℕ) (slot : Option Relay) → IsTrue (is_some (slot_at relays c))
+    → slot ≡ get_or relays c slot → slot_at relays c ≡ slot
 relay_slot relays c slot live at = slot-get relays c slot (is_inside relays c live) ∙ sym at
 
 -- a place that is written
-pub puts_set : (relays : List (Option Relay)) (c : ℕ) (slot : Option Relay) (relay : Relay) → c < length relays → slot ≡ Some relay → PutsRelay relays (slice_set relays c slot) c relay
+pub puts_set : (relays : List (Option Relay)) (c : ℕ) (slot : Option Relay) (relay : Relay) → c < length relays
+    → slot ≡ Some relay → PutsRelay relays (slice_set relays c slot) c relay
 puts_set relays c slot relay inside is = record {
   count = ap length (sym (slot-set relays c slot)) ∙ length-with relays c slot;
   put =
       ap (λ l. slot_at l c) (sym (slot-set relays c slot)) ∙ slot_at-with relays c slot c inside
       ∙ ap (λ b. if b then slot else slot_at relays c) (self_eq c) ∙ is;
   others = λ d other.
-      ap (λ l. slot_at l d) (sym (slot-set relays c slot)) ∙ slot_at-with relays c slot d inside ∙ ap (λ b. if b then slot else slot_at relays d) other;
+      ap (λ l. slot_at l d) (sym (slot-set relays c slot)) ∙ slot_at-with relays c slot d inside
+      ∙ ap (λ b. if b then slot else slot_at relays d) other;
 }
 
 -- and forgotten where the circuit closed
-pub home_by : (answer : BackAnswer) (old mid new : List (Option Relay)) (c : ℕ) (relay : Relay) → PutsRelay old mid c relay → ForgetsDown answer mid new c → RelayHome answer old new c relay
+pub home_by : (answer : BackAnswer) (old mid new : List (Option Relay)) (c : ℕ) (relay : Relay) → PutsRelay old mid c relay
+    → ForgetsDown answer mid new c → RelayHome answer old new c relay
 home_by BackAnswer.Settled old mid new c relay puts forgets = subst (λ l. PutsRelay old l c relay) (sym forgets) puts
 home_by (BackAnswer.Down reason) old mid new c relay puts forgets = record {
   count = forgets.count ∙ puts.count;

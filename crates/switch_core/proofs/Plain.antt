@@ -12,7 +12,8 @@ use Rattle.switch_core.specs.Meaning.{refused_on}
 pub use Rattle.switch_machine.specs.State.{all_there}
 pub use Rattle.switch_machine.proofs.PlainLists.{length-all_there, slot_at-all_there, with_slot-all_there, all_there-push, filled-all_there, list_any-all_there}
 
-pub ruleset plain_lists = (length-all_there, slot_at-all_there, with_slot-all_there, all_there-push, filled-all_there, list_any-all_there)
+pub ruleset plain_lists =
+    (length-all_there, slot_at-all_there, with_slot-all_there, all_there-push, filled-all_there, list_any-all_there)
 
 pub or_false : (b : Bool) → (b || false) ≡ b
 or_false true = refl
@@ -37,10 +38,13 @@ pub there : {A : Type 0} (xs : List A) (n : ℕ) (d : A) → n < length xs → s
 there xs n d here = slot_at-all_there xs n ∙ got xs n d here
 
 -- the state behind an opening, by its answer
-pub refused_state : (s : State) (chan id : ℕ) (reply : Cell) (keys : Option LayerKeys) (x : Option ChannelState) (why : OpenRefusal) → open_state_by s chan id reply keys x (Refused why) ≡ counted (refused_on s chan id why x)
+pub refused_state : (s : State) (chan id : ℕ) (reply : Cell) (keys : Option LayerKeys) (x : Option ChannelState)
+    (why : OpenRefusal) → open_state_by s chan id reply keys x (Refused why) ≡ counted (refused_on s chan id why x)
 refused_state s chan id reply keys (Some channel) why = refl
 refused_state s chan id reply keys None why = refl
 
-pub opened_state : (most : ℕ) (s : State) (chan id : ℕ) (reply : Cell) (keys : Option LayerKeys) (x : Option ChannelState) (n : CircNo) → Opened n ≡ open_result_on most s chan id keys x → open_state_by s chan id reply keys x (Opened n) ≡ with_circuit s chan id reply keys
+pub opened_state : (most : ℕ) (s : State) (chan id : ℕ) (reply : Cell) (keys : Option LayerKeys) (x : Option ChannelState)
+    (n : CircNo) → Opened n ≡ open_result_on most s chan id keys x
+    → open_state_by s chan id reply keys x (Opened n) ≡ with_circuit s chan id reply keys
 opened_state most s chan id reply keys (Some channel) n answer = refl
 opened_state most s chan id reply keys None n answer = cc

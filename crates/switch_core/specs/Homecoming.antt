@@ -31,7 +31,8 @@ slot_calls None x = ⊤
 slot_calls (Some relay) None = ⊤
 
 -- The bodies of a forward job acted on a circuit, whose relay has the cipher behind them.
-pub record SlotHome (rules : Rules) (old new : State) (slot after : Option Relay) (c : ℕ) (end : Cipher) (opened_bodies : List Opened) (answer : BackAnswer) : Type 0 where
+pub record SlotHome (rules : Rules) (old new : State) (slot after : Option Relay) (c : ℕ) (end : Cipher)
+    (opened_bodies : List Opened) (answer : BackAnswer) : Type 0 where
   pub relay : Relay
   pub next : Relay
   pub there : slot ≡ Some relay
@@ -43,7 +44,8 @@ pub record SlotHome (rules : Rules) (old new : State) (slot after : Option Relay
   pub back : next.back ≡ relay.back
 
 -- The same by the relays of all circuits, where that of a circuit that was torn down is forgotten.
-pub record HomeForth (rules : Rules) (old new : State) (relays after : List (Option Relay)) (c : ℕ) (end : Cipher) (opened_bodies : List Opened) (answer : BackAnswer) : Type 0 where
+pub record HomeForth (rules : Rules) (old new : State) (relays after : List (Option Relay)) (c : ℕ) (end : Cipher)
+    (opened_bodies : List Opened) (answer : BackAnswer) : Type 0 where
   pub relay : Relay
   pub next : Relay
   pub there : slot_at relays c ≡ Some relay
@@ -60,8 +62,9 @@ with_back end (Some relay) = Some (record relay { back = end })
 with_back end None = None
 
 -- The bodies of a backward job are the next cells of the leg, and the relay has the cipher behind them.
-pub record HomeBack (old new : State) (relays after : List (Option Relay)) (c : ℕ) (end : Cipher) (sealed : List Opened) : Type 0 where
-  pub relay : Relay
-  pub there : slot_at relays c ≡ Some relay
-  pub state : new ≡ sealed_by old c (sealed_cells_of sealed)
-  pub puts : PutsRelay relays after c (record relay { back = end })
+pub record HomeBack (old new : State) (relays after : List (Option Relay)) (c : ℕ) (end : Cipher) (sealed : List Opened) : Type 0
+  where
+    pub relay : Relay
+    pub there : slot_at relays c ≡ Some relay
+    pub state : new ≡ sealed_by old c (sealed_cells_of sealed)
+    pub puts : PutsRelay relays after c (record relay { back = end })

@@ -77,7 +77,8 @@ pub record OfLeg (x : CircuitState) (leg : LegState) : Type 0 where
 -- packaged one body back at most. There is room for what the bodies that are out will need.
 pub record CircuitFits (leg : WithRoom LegState) (forth back : WithRoom WayState) (orders : RoomyOrders) : Type 0 where
   pub queued : length leg.state.queue ≤ 1 + home_count back.state
-  pub packaged : back.state.claimed_count + length back.state.waiting_bodies + kept_length forth.state.claim_out ≤ forth.state.claimed_count
+  pub packaged : back.state.claimed_count + length back.state.waiting_bodies + kept_length forth.state.claim_out
+      ≤ forth.state.claimed_count
   pub room_sealed : kept_length back.state.claim_out ≤ leg.spare
   pub room_packaged : kept_length forth.state.claim_out ≤ back.spare
   pub room_ordered : kept_length forth.state.claim_out ≤ orders.spare
@@ -103,7 +104,8 @@ pub record LanesFit (most : ℕ) (channels : List ChannelState) : Type 0 where
 
 -- At most so many bodies were taken on each circuit.
 pub record TakenFit (most : ℕ) (circuits : List (Option CircuitState)) : Type 0 where
-  pub fits : (c : ℕ) (x : CircuitState) → slot_at circuits c ≡ Some x → x.forth.claimed_count + length x.forth.waiting_bodies ≤ most
+  pub fits : (c : ℕ) (x : CircuitState) → slot_at circuits c ≡ Some x
+      → x.forth.claimed_count + length x.forth.waiting_bodies ≤ most
 
 -- What is bounded by the number of steps. A step adds 33 bodies at most: one that it takes, or those that the
 -- bodies of one claim package.

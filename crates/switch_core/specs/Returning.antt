@@ -40,10 +40,11 @@ IsPlace relays s note start bodies place =
     (bodies_out (slot_at s.circuits note.circ.0) note.dir) bodies place
 
 -- A fact of the first place at which a return differs from what is out in its direction.
-pub record OfPlace (s : Started) (note : ClaimNote) (start : Cipher) (bodies : List (List ℕ)) (P : Option ℕ → Type 0) : Type 0 where
-  pub place : Option ℕ
-  pub first : IsPlace s.relays s.state note start bodies place
-  pub fact : P place
+pub record OfPlace (s : Started) (note : ClaimNote) (start : Cipher) (bodies : List (List ℕ)) (P : Option ℕ → Type 0) : Type 0
+  where
+    pub place : Option ℕ
+    pub first : IsPlace s.relays s.state note start bodies place
+    pub fact : P place
 
 -- The fact where a return was refused.
 abbrev pub RefusedCase : BackAnswer → Type 0 → Type 0
@@ -60,7 +61,8 @@ content_refusal note (Some place) = Some (BackAnswer.Stranger (Difference.Conten
 
 abbrev pub note_refusal : Option ClaimNote → ClaimNote → Option ℕ → Option BackAnswer
 note_refusal claim_out note place =
-    if not (is_note note claim_out) then Some (BackAnswer.Stranger (Difference.Note claim_out note)) else content_refusal note place
+    if not (is_note note claim_out) then Some (BackAnswer.Stranger (Difference.Note claim_out note))
+    else content_refusal note place
 
 abbrev pub refusal_on : ClaimNote → Option ℕ → Option CircuitState → Option BackAnswer
 refusal_on note place None = Some BackAnswer.Gone

@@ -21,4 +21,5 @@ with_sealed cells x = record x { legs = queued_on x.legs 0 cells; back = home_wa
 
 -- The switch with it.
 abbrev pub sealed_by : State → ℕ → List CircuitCell → State
-sealed_by s c cells = record (counted s) { circuits = with_slot s.circuits c (option_map (with_sealed cells) (slot_at s.circuits c)) }
+sealed_by s c cells =
+    record (counted s) { circuits = with_slot s.circuits c (option_map (with_sealed cells) (slot_at s.circuits c)) }

@@ -26,7 +26,8 @@ use Rattle.switch_core.specs.declared.counters.Counters.{Counters}
 -- What one event's effects make of a circuit's way back, its orders and the counts, unless the way back is full.
 
 abbrev pub is_packed : ℕ → WayState → Effects → Bool
-is_packed queued back effects = is_some effects.back && nat_le 1500 (queued + (kept_length back.claim_out + length back.waiting_bodies))
+is_packed queued back effects =
+    is_some effects.back && nat_le 1500 (queued + (kept_length back.claim_out + length back.waiting_bodies))
 
 abbrev pub closing_by : Bool → Effects → Option ℕ
 closing_by is_full effects = if is_full then Some 5 else effects.close
@@ -86,7 +87,8 @@ abbrev pub settled_all : Rules → List Event → CircuitState → Counters → 
 settled_all rules events x k = settle_all rules (settling_of x k events) (kept_cells x.forth.claim_out)
 
 -- They settled one after another, up to the first that closes the circuit, and came home.
-pub record SettlesForth (rules : Rules) (events : List Event) (old new : CircuitState) (k next : Counters) (relay : RelayCircuit) (reason : Option ℕ) : Type 0 where
+pub record SettlesForth (rules : Rules) (events : List Event) (old new : CircuitState) (k next : Counters) (relay : RelayCircuit)
+    (reason : Option ℕ) : Type 0 where
   pub reason_is : reason ≡ settling_reason rules old.sent_count events (kept_cells old.forth.claim_out)
   pub circuit : new ≡ record (settled_all rules events old k).circuit { forth = home_way old.forth }
   pub bodies : next.bodies ≡ (settled_all rules events old k).bodies
@@ -94,13 +96,16 @@ pub record SettlesForth (rules : Rules) (events : List Event) (old new : Circuit
   pub relay_is : reason ≡ None → IsCircuit relay rules (events_behind events (kept_cells old.forth.claim_out))
 
 -- The same of a circuit by its number, which is live.
-pub record SlotSettles (rules : Rules) (old new : Option CircuitState) (k next : Counters) (first relay : RelayCircuit) (opened_bodies : List Opened) (reason : Option ℕ) : Type 0 where
+pub record SlotSettles (rules : Rules) (old new : Option CircuitState) (k next : Counters) (first relay : RelayCircuit)
+    (opened_bodies : List Opened) (reason : Option ℕ) : Type 0 where
   pub circuit : CircuitState
   pub behind_it : CircuitState
   pub live : old ≡ Some circuit
   pub stays : new ≡ Some behind_it
-  pub settles : (events : List Event) → RelayIs first rules events circuit.back → AreOpened opened_bodies rules events circuit → SettlesForth rules events circuit behind_it k next relay reason
-  pub taken : behind_it.forth.claimed_count + length behind_it.forth.waiting_bodies ≤ circuit.forth.claimed_count + length circuit.forth.waiting_bodies
+  pub settles : (events : List Event) → RelayIs first rules events circuit.back → AreOpened opened_bodies rules events circuit
+      → SettlesForth rules events circuit behind_it k next relay reason
+  pub taken : behind_it.forth.claimed_count + length behind_it.forth.waiting_bodies ≤ circuit.forth.claimed_count
+      + length circuit.forth.waiting_bodies
 
 abbrev pub finished_state : Rules → (ℕ → List Event) → State → ℕ → Option ℕ → State
 finished_state rules ev s c None = counted s
@@ -116,11 +121,13 @@ settled_by rules events s c x (BackAnswer.Down reason) = closed_state rules even
 settled_by rules events s c x BackAnswer.Settled = settled_state rules events s c x (kept_cells x.forth.claim_out)
 settled_by rules events s c x answer = counted s
 
-pub record Settles (rules : Rules) (events : List Event) (old new : State) (c : ℕ) (x : CircuitState) (relay : RelayCircuit) (answer : BackAnswer) : Type 0 where
+pub record Settles (rules : Rules) (events : List Event) (old new : State) (c : ℕ) (x : CircuitState) (relay : RelayCircuit)
+    (answer : BackAnswer) : Type 0 where
   pub answer_is : answer ≡ done_by (settling_reason rules x.sent_count events (kept_cells x.forth.claim_out))
   pub state : new ≡ settled_by rules events old c x answer
   pub relay_is : answer ≡ BackAnswer.Settled → IsCircuit relay rules (events_behind events (kept_cells x.forth.claim_out))
 
 abbrev pub PartsSettle : Rules → State → State → ℕ → RelayCircuit → RelayCircuit → List Opened → BackAnswer → Type 0
 PartsSettle rules old new c first relay opened_bodies answer =
-    (x : CircuitState) (events : List Event) → slot_at old.circuits c ≡ Some x → RelayIs first rules events x.back → AreOpened opened_bodies rules events x → Settles rules events old new c x relay answer
+    (x : CircuitState) (events : List Event) → slot_at old.circuits c ≡ Some x → RelayIs first rules events x.back
+    → AreOpened opened_bodies rules events x → Settles rules events old new c x relay answer

@@ -28,7 +28,8 @@ pub fn open_with_relay(
     requires steps { parts.old.steps < 2 ^ 62 }
     requires fixed { is_var opening.now.reply.body ≡ false }
     requires command { IfSome opening.now.keys (λ _. IsTrue (opens_circuit opening.now.reply.command)) }
-    ensures state { OpenCase result (parts.new ≡ parts.old) (parts.new ≡ open_state most parts.old chan.0 id opening.now.reply opening.now.keys) }
+    ensures state { OpenCase result (parts.new ≡ parts.old)
+        (parts.new ≡ open_state most parts.old chan.0 id opening.now.reply opening.now.keys) }
     ensures answer { OpenCase result ⊤ (result ≡ open_result most parts.old chan.0 id opening.now.keys) }
     ensures relays { KeepsBy result opening.now.keys opening.now.pad (rules_of rules.now) relays.old.items relays.new.items }
 {

@@ -164,7 +164,8 @@ impl Orders {
 
     /// The dial order that is open behind an event.
     fn set_dial(&mut self, number: u128, dial: Option<Dest>, is_cut: bool)
-        ensures state { self.new.state ≡ record self.old.state { dial = dial_with number (option_map address_of dial) is_cut self.old.state.dial } }
+        ensures state { self.new.state
+            ≡ record self.old.state { dial = dial_with number (option_map address_of dial) is_cut self.old.state.dial } }
         ensures spare { self.new.spare ≡ self.old.spare }
         ensures rooms { self.new.rooms ≡ self.old.rooms }
     {

@@ -25,8 +25,10 @@ pub fn apply(
     requires bodies { counters.old.bodies < 2 ^ 100 }
     requires dials { counters.old.dial_orders < 2 ^ 100 }
     ensures reason { result ≡ closing_by (is_packed queued back.old.state (effects_of effects)) (effects_of effects) }
-    ensures back { back.new.state ≡ back_by (is_packed queued back.old.state (effects_of effects)) counters.old.bodies (effects_of effects) back.old.state }
-    ensures orders { orders.new.state ≡ orders_by (is_packed queued back.old.state (effects_of effects)) counters.old.dial_orders (effects_of effects) orders.old.state }
+    ensures back { back.new.state ≡ back_by (is_packed queued back.old.state (effects_of effects)) counters.old.bodies (effects_of effects)
+        back.old.state }
+    ensures orders { orders.new.state ≡ orders_by (is_packed queued back.old.state (effects_of effects)) counters.old.dial_orders
+        (effects_of effects) orders.old.state }
     ensures counts { counters.new ≡ counts_by (is_packed queued back.old.state (effects_of effects)) (effects_of effects) counters.old }
     ensures back_spare { back.old.spare ≤ back.new.spare + 1 }
     ensures orders_spare { orders.old.spare ≤ orders.new.spare + 1 }

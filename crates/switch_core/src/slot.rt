@@ -81,7 +81,8 @@ pub fn push_forth_of(
     command: u8,
     payload: &[u8; 509],
 ) -> TakeAnswer
-    ensures state { TakeCase result (slot.new ≡ slot.old) (slot.new ≡ slot_with_body number (record { command = command; body = payload.now }) slot.old) }
+    ensures state { TakeCase result (slot.new ≡ slot.old)
+        (slot.new ≡ slot_with_body number (record { command = command; body = payload.now }) slot.old) }
     ensures answer { TakeCase result ⊤ (result ≡ queued_answer slot.old) }
 {
     match slot {
@@ -107,7 +108,8 @@ pub fn settle_forth_of(
     requires calls { HasCallsFor 32 relay.old }
     requires bodies { counters.old.bodies < 2 ^ 99 }
     requires dials { counters.old.dial_orders < 2 ^ 99 }
-    ensures settles { SlotSettles (rules_of rules.now) slot.old slot.new counters.old counters.new relay.old relay.new opened_bodies.now result }
+    ensures settles { SlotSettles (rules_of rules.now) slot.old slot.new counters.old counters.new relay.old relay.new opened_bodies.now
+        result }
     ensures grown { CallsGrow (length opened_bodies.now) relay.old relay.new }
     ensures counts { counters.new ≡ record counters.old { bodies = counters.new.bodies; dial_orders = counters.new.dial_orders } }
     ensures bodies { counters.new.bodies ≤ counters.old.bodies + 32 }

@@ -117,7 +117,8 @@ impl Switch {
     pub fn channel_up(&mut self, slot: u32, side: Side) -> UpAnswer
         requires { self.old.state.steps < 2 ^ 62 }
         ensures start { self.new.start ≡ self.old.start }
-        ensures history { UpCase result (self.new.state ≡ self.old.state) (Adds self.old.start self.old.state self.new.state (ChannelUp slot side result)) }
+        ensures history { UpCase result (self.new.state ≡ self.old.state)
+            (Adds self.old.start self.old.state self.new.state (ChannelUp slot side result)) }
         ensures steps { self.new.state.steps ≤ self.old.state.steps + 1 }
         ensures answer { UpCase result ⊤ (result ≡ channel_up_result self.old.state) }
         ensures whole { UpCase result (self.new ≡ self.old) (SwitchAdds self.old self.new (ChannelUp slot side result)) }
@@ -133,10 +134,13 @@ impl Switch {
         requires fixed { is_var opening.now.reply.body ≡ false }
         requires command { IfSome opening.now.keys (λ _. IsTrue (opens_circuit opening.now.reply.command)) }
         ensures start { self.new.start ≡ self.old.start }
-        ensures history { OpenCase result (self.new.state ≡ self.old.state) (Adds self.old.start self.old.state self.new.state (OpenCircuit chan id opening.now.reply opening.now.keys opening.now.pad result)) }
+        ensures history { OpenCase result (self.new.state ≡ self.old.state)
+            (Adds self.old.start self.old.state self.new.state
+            (OpenCircuit chan id opening.now.reply opening.now.keys opening.now.pad result)) }
         ensures steps { self.new.state.steps ≤ self.old.state.steps + 1 }
         ensures answer { OpenCase result ⊤ (result ≡ open_result self.old.start.circuits self.old.state chan.0 id opening.now.keys) }
-        ensures whole { OpenCase result (self.new ≡ self.old) (SwitchAdds self.old self.new (OpenCircuit chan id opening.now.reply opening.now.keys opening.now.pad result)) }
+        ensures whole { OpenCase result (self.new ≡ self.old)
+            (SwitchAdds self.old self.new (OpenCircuit chan id opening.now.reply opening.now.keys opening.now.pad result)) }
     {
         open_with_relay(
             &mut self.parts,
@@ -158,7 +162,8 @@ impl Switch {
         requires formed { IsWellFormed cell.now }
         ensures start { self.new.start ≡ self.old.start }
         ensures steps { self.new.state.steps ≤ self.old.state.steps + 1 }
-        ensures answer { TakeCase result ⊤ ((rules : ModelRules) (ev : ℕ → List Event) → result ≡ take_result rules ev self.old.state chan.0 cell.now) }
+        ensures answer { TakeCase result ⊤ ((rules : ModelRules) (ev : ℕ → List Event)
+            → result ≡ take_result rules ev self.old.state chan.0 cell.now) }
         ensures whole { TakeCase result (self.new ≡ self.old) (SwitchAdds self.old self.new (Take chan cell.now result)) }
     {
         let answer = self.parts.take(chan, cell);

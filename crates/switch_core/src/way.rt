@@ -75,7 +75,8 @@ impl Way {
 
     /// One more body waits.
     pub fn push(&mut self, number: u128, command: u8, payload: &[u8; 509]) -> Result<(), AllocError>
-        ensures ok { OnOk result (self.new.state ≡ more_waits number (record { command = command; body = payload.now }) self.old.state) }
+        ensures ok { OnOk result
+            (self.new.state ≡ more_waits number (record { command = command; body = payload.now }) self.old.state) }
         ensures spare { OnOk result (self.old.spare ≤ self.new.spare + 1) }
         ensures err { OnErr result (self.new ≡ self.old) }
     {

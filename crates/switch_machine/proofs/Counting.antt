@@ -28,10 +28,15 @@ ticks-between : (since now new_tick : ℕ) → since ≤ now → (now - since) +
 ticks-between since now new_tick before = omega arith
 
 -- a count at a later tick
-pub later-by : (leg : LegState) (n now new_tick : ℕ) → CountStands leg n now → halved n (new_tick - now) ≡ count_of (max now new_tick) leg
-later-by leg n now new_tick own = rw own.count (halved-twice leg.count (now - leg.counted_at) (new_tick - now) ∙ ap (halved leg.count) (ticks-between leg.counted_at now new_tick own.since))
+pub later-by : (leg : LegState) (n now new_tick : ℕ) → CountStands leg n now
+    → halved n (new_tick - now) ≡ count_of (max now new_tick) leg
+later-by leg n now new_tick own =
+    rw own.count
+    (halved-twice leg.count (now - leg.counted_at) (new_tick - now)
+    ∙ ap (halved leg.count) (ticks-between leg.counted_at now new_tick own.since))
 
-pub count-later : (x : Option LegState) (n now new_tick : ℕ) → CountAt x n now → CountAt x (halved n (new_tick - now)) (max now new_tick)
+pub count-later : (x : Option LegState) (n now new_tick : ℕ) → CountAt x n now
+    → CountAt x (halved n (new_tick - now)) (max now new_tick)
 count-later None n now new_tick own = tt
 count-later (Some leg) n now new_tick own = record {
   since = let before : leg.counted_at ≤ now = own.since in omega arith;
@@ -48,20 +53,29 @@ least-same f g (leg ∷ legs) all =
     rw (least-same f g legs all.1) (ap Some (lesser-same f g leg (least_of g legs) all.0 (least-has (Agree f g) g legs all.1)))
 
 -- the leg that is picked
-counted-by : (x : Option LegState) (chan n now new_tick : ℕ) → waits_on chan x ≡ true → CountAt x n now → halved n (new_tick - now) ≡ count_of_found (max now new_tick) x
+counted-by : (x : Option LegState) (chan n now new_tick : ℕ) → waits_on chan x ≡ true → CountAt x n now
+    → halved n (new_tick - now) ≡ count_of_found (max now new_tick) x
 counted-by None chan n now new_tick waits own = cc
 counted-by (Some leg) chan n now new_tick waits own = later-by leg n now new_tick own
 
-agree-on : (start : SwitchStart) (s : State) (h : List Step) → Stands start s h → (chan new_tick : ℕ) (legs : List Leg) → AllByRecursion (Waits s chan) legs →
+agree-on : (start : SwitchStart) (s : State) (h : List Step) → Stands start s h → (chan new_tick : ℕ) (legs : List Leg)
+    → AllByRecursion (Waits s chan) legs →
     AllByRecursion (Agree (count_at start.rules h new_tick) (cell_count_in s new_tick)) legs
 agree-on start s h st chan new_tick [] all = tt
-agree-on start s h st chan new_tick (leg ∷ legs) all =
-    (rw st.numbers.tick (counted-by (leg_in s leg) chan (cell_count start.rules h leg.circ leg.number) (tick h) new_tick all.0 (st.counts.counts leg)), agree-on start s h st chan new_tick legs all.1)
+agree-on start s h st chan new_tick (leg ∷ legs) all = (
+  rw st.numbers.tick
+      (counted-by (leg_in s leg) chan (cell_count start.rules h leg.circ leg.number) (tick h) new_tick all.0
+      (st.counts.counts leg)),
+  agree-on start s h st chan new_tick legs all.1,
+)
 
-pub picked-said : (start : SwitchStart) (s : State) (h : List Step) → Stands start s h → (chan new_tick : ℕ) → picked_leg s chan new_tick ≡ pick start.rules h chan new_tick
+pub picked-said : (start : SwitchStart) (s : State) (h : List Step) → Stands start s h → (chan new_tick : ℕ)
+    → picked_leg s chan new_tick ≡ pick start.rules h chan new_tick
 picked-said start s h st chan new_tick =
     rw (waiting-said start s h st chan)
-    (sym (least-same (count_at start.rules h new_tick) (cell_count_in s new_tick) (waiting_on s chan) (agree-on start s h st chan new_tick (waiting_on s chan) (all-waiting s chan))))
+    (sym (least-same (count_at start.rules h new_tick) (cell_count_in s new_tick) (waiting_on s chan)
+    (agree-on start s h st chan new_tick (waiting_on s chan) (all-waiting s chan))))
 
 pub picked-waits : (s : State) (chan new_tick : ℕ) (leg : Leg) → picked_leg s chan new_tick ≡ Some leg → Waits s chan leg
-picked-waits s chan new_tick leg found = least-has (Waits s chan) (cell_count_in s new_tick) (waiting_on s chan) (all-waiting s chan) leg found
+picked-waits s chan new_tick leg found =
+    least-has (Waits s chan) (cell_count_in s new_tick) (waiting_on s chan) (all-waiting s chan) leg found

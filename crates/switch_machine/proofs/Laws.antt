@@ -58,14 +58,16 @@ if-steps false s t n e f = f
 channel_up-steps : (s : State) (side : Side) → (channel_up_state s side).steps ≡ s.steps + 1
 channel_up-steps s side = if-steps (nat_le channel_limit (filled_slots s.channels)) (counted s) _ (s.steps + 1) refl refl
 
-open-steps : (s : State) (chan id : ℕ) (reply : Cell) (keys : Option LayerKeys) (x : Option ChannelState) (a : OpenAnswer) → (open_state_by s chan id reply keys x a).steps ≡ s.steps + 1
+open-steps : (s : State) (chan id : ℕ) (reply : Cell) (keys : Option LayerKeys) (x : Option ChannelState) (a : OpenAnswer)
+    → (open_state_by s chan id reply keys x a).steps ≡ s.steps + 1
 open-steps s chan id reply keys (Some channel) (Refused why) = refl
 open-steps s chan id reply (Some keys) (Some channel) (Opened n) = refl
 open-steps s chan id reply None (Some channel) (Opened n) = refl
 open-steps s chan id reply keys (Some channel) OpenAnswer.Memory = refl
 open-steps s chan id reply keys None a = refl
 
-with-steps : (s : State) (now : ℕ) (leg : Leg) (x : Option CircuitState) (y : Option LegState) → (with_leg s now leg x y).steps ≡ s.steps
+with-steps : (s : State) (now : ℕ) (leg : Leg) (x : Option CircuitState) (y : Option LegState)
+    → (with_leg s now leg x y).steps ≡ s.steps
 with-steps s now leg (Some x) (Some y) = refl
 with-steps s now leg (Some x) None = refl
 with-steps s now leg None y = refl
@@ -74,21 +76,25 @@ from-steps : (s : State) (now : ℕ) (o : Option Leg) → (sent_from s now o).st
 from-steps s now (Some leg) = with-steps s now leg (slot_at s.circuits leg.circ) (leg_in s leg)
 from-steps s now None = refl
 
-next-steps : (s : State) (chan given : ℕ) (x : Option ChannelState) (waits : List Destroy) → (next_state_on s chan given x waits).steps ≡ s.steps + 1
+next-steps : (s : State) (chan given : ℕ) (x : Option ChannelState) (waits : List Destroy)
+    → (next_state_on s chan given x waits).steps ≡ s.steps + 1
 next-steps s chan given (Some channel) (d ∷ waits) = refl
 next-steps s chan given (Some channel) [] = from-steps (ticked s given) (max s.tick given) (picked_leg s chan given)
 next-steps s chan given None waits = refl
 
 -- and what it adds
 
-pub channel_up_adds : (start : SwitchStart) (old new : State) (slot : ℕ) (side : Side) (a : UpAnswer) → new ≡ channel_up_state old side → a ≡ channel_up_result old → Adds start old new (ChannelUp slot side a)
+pub channel_up_adds : (start : SwitchStart) (old new : State) (slot : ℕ) (side : Side) (a : UpAnswer)
+    → new ≡ channel_up_state old side → a ≡ channel_up_result old → Adds start old new (ChannelUp slot side a)
 unfolding Adds
 channel_up_adds start old new slot side a e f = rw (e, f) (record {
   steps = channel_up-steps old side;
   stands = λ h st. channel_up_kept start old h slot side st;
 })
 
-pub open_adds : (start : SwitchStart) (old new : State) (chan : ChanNo) (id : ℕ) (reply : Cell) (keys : Option LayerKeys) (pad : Option (List ℕ)) (a : OpenAnswer) → IsReply reply keys → new ≡ open_state start.circuits old chan.0 id reply keys → a ≡ open_result start.circuits old chan.0 id keys →
+pub open_adds : (start : SwitchStart) (old new : State) (chan : ChanNo) (id : ℕ) (reply : Cell) (keys : Option LayerKeys)
+    (pad : Option (List ℕ)) (a : OpenAnswer) → IsReply reply keys → new ≡ open_state start.circuits old chan.0 id reply keys
+    → a ≡ open_result start.circuits old chan.0 id keys →
     Adds start old new (OpenCircuit chan id reply keys pad a)
 unfolding Adds
 open_adds start old new chan id reply keys pad a asked e f = rw (e, f) (record {
@@ -96,7 +102,8 @@ open_adds start old new chan id reply keys pad a asked e f = rw (e, f) (record {
   stands = λ h st. open_kept start old h chan.0 id reply keys pad asked st;
 })
 
-pub next_cell_adds : (start : SwitchStart) (old new : State) (chan : ChanNo) (given : ℕ) (a : Option Cell) → new ≡ next_cell_state old chan.0 given → a ≡ next_cell_result old chan.0 given →
+pub next_cell_adds : (start : SwitchStart) (old new : State) (chan : ChanNo) (given : ℕ) (a : Option Cell)
+    → new ≡ next_cell_state old chan.0 given → a ≡ next_cell_result old chan.0 given →
     Adds start old new (NextCell chan given a)
 unfolding Adds
 next_cell_adds start old new chan given a e f = rw (e, f) (record {
@@ -105,7 +112,8 @@ next_cell_adds start old new chan given a e f = rw (e, f) (record {
 })
 
 -- a state that stands for some history goes on to do so
-pub stays : (start : SwitchStart) (old new : State) (step : Step) → Adds start old new step → StandsForSome start old → StandsForSome start new
+pub stays : (start : SwitchStart) (old new : State) (step : Step) → Adds start old new step → StandsForSome start old
+    → StandsForSome start new
 unfolding Adds
 stays start old new step adds some = record { history = step ∷ some.history; stands = adds.stands some.history some.stands }
 
@@ -114,7 +122,8 @@ in_order-last : (h : List Step) (step : Step) → in_order (h ++ step ∷ []) �
 in_order-last [] step = refl
 in_order-last (s ∷ h) step = rw (in_order-last h step) refl
 
-pub adds_at_end : (start : SwitchStart) (old new : State) (step : Step) (h : List Step) → Adds start old new step → StandsInOrder start old h → StandsInOrder start new (h ++ step ∷ [])
+pub adds_at_end : (start : SwitchStart) (old new : State) (step : Step) (h : List Step) → Adds start old new step
+    → StandsInOrder start old h → StandsInOrder start new (h ++ step ∷ [])
 unfolding Adds StandsInOrder
 adds_at_end start old new step h adds st = rw (in_order-last h step) (adds.stands (in_order h) st)
 

@@ -7,7 +7,8 @@ use Rattle.std.proofs.lemmas.Bool.Decides.{nat_tests}
 use Rattle.switch_model.specs.History.Channels.{count_below}
 use Rattle.switch_machine.specs.State.{slot_at, with_slot}
 
-pub slot_at-with : {A : Type 0} (slots : List (Option A)) (n : ℕ) (x : Option A) (m : ℕ) → n < length slots → slot_at (with_slot slots n x) m ≡ (if m == n then x else slot_at slots m)
+pub slot_at-with : {A : Type 0} (slots : List (Option A)) (n : ℕ) (x : Option A) (m : ℕ) → n < length slots
+    → slot_at (with_slot slots n x) m ≡ (if m == n then x else slot_at slots m)
 unfolding slot_at with_slot
 slot_at-with slots n x m inside = grind (arith, common_steps, gets, nat_tests)
 
@@ -15,7 +16,8 @@ pub length-with : {A : Type 0} (slots : List (Option A)) (n : ℕ) (x : Option A
 unfolding with_slot
 length-with slots n x = grind (arith, common_steps)
 
-pub slot_at-push : {A : Type 0} (slots : List (Option A)) (x : Option A) (m : ℕ) → slot_at (slots ++ x ∷ []) m ≡ (if m == length slots then x else slot_at slots m)
+pub slot_at-push : {A : Type 0} (slots : List (Option A)) (x : Option A) (m : ℕ)
+    → slot_at (slots ++ x ∷ []) m ≡ (if m == length slots then x else slot_at slots m)
 unfolding slot_at
 slot_at-push slots x m = grind (arith, common_steps, gets, nat_tests)
 
@@ -36,18 +38,21 @@ or-true true = refl
 or-true false = refl
 
 -- some place passes a test that an empty place doesn't
-pub list_any-slot : {A : Type 0} (test : Option A → Bool) (slots : List (Option A)) (n : ℕ) → test None ≡ false → test (slot_at slots n) ≡ true → list_any test slots ≡ true
+pub list_any-slot : {A : Type 0} (test : Option A → Bool) (slots : List (Option A)) (n : ℕ) → test None ≡ false
+    → test (slot_at slots n) ≡ true → list_any test slots ≡ true
 unfolding slot_at
 list_any-slot test [] n none passes = let no : false ≡ true = sym none ∙ passes in cc
 list_any-slot test (x ∷ slots) zero none passes = rw passes refl
 list_any-slot test (x ∷ slots) (suc n) none passes = rw (list_any-slot test slots n none passes) (or-true (test x))
 
-found-by : {A : Type 0} (test : Option A → Bool) (x : Option A) (slots : List (Option A)) (b : Bool) → test x ≡ b → ((b || list_any test slots) ≡ true) →
+found-by : {A : Type 0} (test : Option A → Bool) (x : Option A) (slots : List (Option A)) (b : Bool) → test x ≡ b
+    → ((b || list_any test slots) ≡ true) →
     (list_any test slots ≡ true → (n : ℕ) × (test (slot_at slots n) ≡ true)) → (n : ℕ) × (test (slot_at (x ∷ slots) n) ≡ true)
 unfolding slot_at
 found-by test x slots true here some later = (zero, here)
 found-by test x slots false here some later = let found = later some in (suc found.0, found.1)
 
-pub slot-list_any : {A : Type 0} (test : Option A → Bool) (slots : List (Option A)) → list_any test slots ≡ true → (n : ℕ) × (test (slot_at slots n) ≡ true)
+pub slot-list_any : {A : Type 0} (test : Option A → Bool) (slots : List (Option A)) → list_any test slots ≡ true
+    → (n : ℕ) × (test (slot_at slots n) ≡ true)
 slot-list_any test [] some = absurd cc
 slot-list_any test (x ∷ slots) some = found-by test x slots (test x) refl some (slot-list_any test slots)

@@ -30,22 +30,32 @@ live-at p (Some x) at = rw at.channel refl
 
 filled-channels : (start : SwitchStart) (s : State) (h : List Step) → Stands start s h → filled_slots s.channels ≡ live_channels h
 filled-channels start s h st =
-    count_below-same (λ n. is_some (slot_at s.channels n)) (is_live_channel h) (λ n. live-at (channel_past start.rules h n) (slot_at s.channels n) (st.channels.channel n)) (length s.channels)
+    count_below-same (λ n. is_some (slot_at s.channels n)) (is_live_channel h)
+    (λ n. live-at (channel_past start.rules h n) (slot_at s.channels n) (st.channels.channel n)) (length s.channels)
     ∙ ap (count_below (is_live_channel h)) st.numbers.channels
 
 -- a channel that was never up
-never-up : (start : SwitchStart) (s : State) (h : List Step) → Stands start s h → (chan : ℕ) → chan ≡ length s.channels → (side : Side) →
-    ChannelStands (new_channel side) (record { channel = Some (record { side = side; to = None }); given_count = (channel_past start.rules h chan).given_count; lane = (channel_past start.rules h chan).lane })
+never-up : (start : SwitchStart) (s : State) (h : List Step) → Stands start s h → (chan : ℕ) → chan ≡ length s.channels
+    → (side : Side) →
+    ChannelStands (new_channel side)
+    (record {
+      channel = Some (record { side = side; to = None });
+      given_count = (channel_past start.rules h chan).given_count;
+      lane = (channel_past start.rules h chan).lane;
+    })
 never-up start s h st chan new side =
     let none : slot_at s.channels chan ≡ None = slot_at-past s.channels chan (omega arith) in
     let gone = subst (λ x. ChannelAt x (channel_past start.rules h chan)) none (st.channels.channel chan) in
     record { channel = refl; given_count = sym (st.channels.no_channel chan (omega arith)); lane = sym gone.lane }
 
 -- the answer
-pub channel_up_said : (start : SwitchStart) (s : State) (h : List Step) → Stands start s h → channel_up_result s ≡ channel_up_answer h
+pub channel_up_said : (start : SwitchStart) (s : State) (h : List Step) → Stands start s h
+    → channel_up_result s ≡ channel_up_answer h
 channel_up_said start s h st = rw (filled-channels start s h st, st.numbers.channels) refl
 
-up-by : (start : SwitchStart) (s : State) (h : List Step) (slot : ℕ) (side : Side) (b : Bool) → (if b then UpAnswer.Full channel_limit else UpAnswer.Up (chan_no (length s.channels))) ≡ channel_up_answer h → Stands start s h →
+up-by : (start : SwitchStart) (s : State) (h : List Step) (slot : ℕ) (side : Side) (b : Bool)
+    → (if b then UpAnswer.Full channel_limit else UpAnswer.Up (chan_no (length s.channels))) ≡ channel_up_answer h
+    → Stands start s h →
     Stands start (if b then counted s else record (counted s) { channels = s.channels ++ Some (new_channel side) ∷ [] })
     (ChannelUp slot side (if b then UpAnswer.Full channel_limit else UpAnswer.Up (chan_no (length s.channels))) ∷ h)
 up-by start s h slot side true said st =
@@ -55,7 +65,8 @@ up-by start s h slot side false said st =
     let step = ChannelUp slot side (UpAnswer.Up (chan_no n)) in
     record {
       steps = step-added start s.steps h step st.steps (tt, said);
-      numbers = channel-count (numbers_in s) (numbers_past start.rules h) _ _ (grind (arith, common_steps, st.numbers.channels)) st.numbers;
+      numbers = channel-count (numbers_in s) (numbers_past start.rules h) _ _ (grind (arith, common_steps, st.numbers.channels))
+          st.numbers;
       channels = record {
         channel = λ chan. elim (eqb_tells chan n) [
           | inl (is_new, same) ↦ rw (slot_at-push s.channels (Some (new_channel side)) chan, is_new)
@@ -75,5 +86,7 @@ up-by start s h slot side false said st =
       not_yet = st.not_yet;
     }
 
-pub channel_up_kept : (start : SwitchStart) (s : State) (h : List Step) (slot : ℕ) (side : Side) → Stands start s h → Stands start (channel_up_state s side) (ChannelUp slot side (channel_up_result s) ∷ h)
-channel_up_kept start s h slot side st = up-by start s h slot side (nat_le channel_limit (filled_slots s.channels)) (channel_up_said start s h st) st
+pub channel_up_kept : (start : SwitchStart) (s : State) (h : List Step) (slot : ℕ) (side : Side) → Stands start s h
+    → Stands start (channel_up_state s side) (ChannelUp slot side (channel_up_result s) ∷ h)
+channel_up_kept start s h slot side st =
+    up-by start s h slot side (nat_le channel_limit (filled_slots s.channels)) (channel_up_said start s h st) st

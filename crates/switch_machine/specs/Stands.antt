@@ -43,7 +43,8 @@ pub record Stands (start : SwitchStart) (s : State) (h : List Step) : Type 0 whe
   pub steps : StepsStand start s.steps h
   pub numbers : NumbersStand (numbers_in s) (numbers_past start.rules h)
   pub channels : ChannelsStand s.channels (λ chan. channel_past start.rules h chan)
-  pub circuits : CircuitsStand start.rules s.last_closes s.circuits (λ c. past start.rules h c) (λ c k. holds_id h c k) (λ c. edge_past start.rules h c)
+  pub circuits : CircuitsStand start.rules s.last_closes s.circuits (λ c. past start.rules h c) (λ c k. holds_id h c k)
+      (λ c. edge_past start.rules h c)
   pub ids : CircIdsStand (leg_in s) (λ chan. lane start.rules h chan) (at h)
   pub legs : LegsStand s.channels (leg_in s)
   pub dials : DialsStand s.again (dial_in s) (length (dials_made start.rules h)) (was_handed_out h)

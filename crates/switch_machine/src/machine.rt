@@ -50,16 +50,19 @@ pub fn a_new_switch_has_no_history()
 pub fn channel_up_is_one_step()
     ensures adds { (start : SwitchStart) (s t : State) (slot : ℕ) (side : Side) →
         t ≡ channel_up_state s side → Adds start s t (ChannelUp slot side (channel_up_result s)) }
-    ensures answer { (start : SwitchStart) (s : State) (h : List Step) → Stands start s h → channel_up_result s ≡ channel_up_answer h }
+    ensures answer { (start : SwitchStart) (s : State) (h : List Step) → Stands start s h
+        → channel_up_result s ≡ channel_up_answer h }
 {}
 
 /// An opening, accepted or refused, is one step.
 #[tactic(auto, using(crate::proofs::Laws::open_adds, crate::proofs::OpenCircuit::Kept::open_said))]
 pub fn open_circuit_is_one_step()
-    ensures adds { (start : SwitchStart) (s t : State) (chan : ChanNo) (id : ℕ) (reply : Cell) (keys : Option LayerKeys) (pad : Option (List ℕ)) →
+    ensures adds { (start : SwitchStart) (s t : State) (chan : ChanNo) (id : ℕ) (reply : Cell) (keys : Option LayerKeys)
+        (pad : Option (List ℕ)) →
         IsReply reply keys → t ≡ open_state start.circuits s chan.0 id reply keys →
         Adds start s t (OpenCircuit chan id reply keys pad (open_result start.circuits s chan.0 id keys)) }
-    ensures answer { (start : SwitchStart) (s : State) (h : List Step) (chan id : ℕ) (keys : Option LayerKeys) → Stands start s h →
+    ensures answer { (start : SwitchStart) (s : State) (h : List Step) (chan id : ℕ) (keys : Option LayerKeys) → Stands start s h
+        →
         open_result start.circuits s chan id keys ≡ open_answer start h chan id keys }
 {}
 
@@ -108,7 +111,8 @@ pub fn abandon_is_one_step()
 /// A claim, with a job or without one, is one step.
 #[tactic(auto, using(crate::proofs::Claim::Law::claim_adds, crate::proofs::Claim::Said::claim_said))]
 pub fn claim_is_one_step()
-    ensures adds { (start : SwitchStart) (s t : State) (worker : ℕ) → worker < worker_limit → t ≡ claim_state start.name s worker →
+    ensures adds { (start : SwitchStart) (s t : State) (worker : ℕ) → worker < worker_limit → t ≡ claim_state start.name s worker
+        →
         Adds start s t (Claim worker (claim_result start.name s worker)) }
     ensures answer { (start : SwitchStart) (s : State) (h : List Step) (worker : ℕ) → Stands start s h →
         claim_result start.name s worker ≡ claim_answer start h worker }
@@ -129,8 +133,10 @@ pub fn take_is_one_step()
 /// that is out. Which of them it is depends on those that want of memory hands out again.
 #[tactic(auto, using(crate::proofs::DialOrder::Law::dial_order_adds, crate::proofs::DialOrder::Right::dial_order_right, crate::proofs::DialOrder::Said::dial_order_said))]
 pub fn dial_order_is_one_step()
-    ensures adds { (start : SwitchStart) (s t : State) → t ≡ dial_order_state s → Adds start s t (DialOrder (dial_order_result s)) }
-    ensures right { (start : SwitchStart) (s : State) (h : List Step) → Stands start s h → IsDialOrder start.rules h (dial_order_result s) }
+    ensures adds { (start : SwitchStart) (s t : State) → t ≡ dial_order_state s
+        → Adds start s t (DialOrder (dial_order_result s)) }
+    ensures right { (start : SwitchStart) (s : State) (h : List Step) → Stands start s h
+        → IsDialOrder start.rules h (dial_order_result s) }
     ensures answer { (start : SwitchStart) (s : State) (h : List Step) → Stands start s h →
         dial_order_result s ≡ dial_order_by start.rules h s.again }
 {}

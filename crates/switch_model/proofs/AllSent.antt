@@ -49,47 +49,62 @@ none-second : (xs ys : List CircuitCell) → xs ++ ys ≡ [] → ys ≡ []
 none-second [] ys none = none
 none-second (x ∷ xs) ys none = absurd cc
 
-queues-both : (rules : Rules) (h : List Step) (xs ys : List Leg) → queues_of rules h (xs ++ ys) ≡ queues_of rules h xs ++ queues_of rules h ys
+queues-both : (rules : Rules) (h : List Step) (xs ys : List Leg)
+    → queues_of rules h (xs ++ ys) ≡ queues_of rules h xs ++ queues_of rules h ys
 queues-both rules h [] ys = refl
-queues-both rules h (leg ∷ xs) ys = rw (queues-both rules h xs ys) (sym (append_assoc (queue rules h leg.circ leg.number) (queues_of rules h xs) (queues_of rules h ys)))
+queues-both rules h (leg ∷ xs) ys =
+    rw (queues-both rules h xs ys)
+    (sym (append_assoc (queue rules h leg.circ leg.number) (queues_of rules h xs) (queues_of rules h ys)))
 
-one-empty : (rules : Rules) (h : List Step) (leg : Leg) (on : Bool) (q : List CircuitCell) → queue rules h leg.circ leg.number ≡ q → on ≡ true → queues_of rules h (if on && some_in q then leg ∷ [] else []) ≡ [] → q ≡ []
+one-empty : (rules : Rules) (h : List Step) (leg : Leg) (on : Bool) (q : List CircuitCell) → queue rules h leg.circ leg.number ≡ q
+    → on ≡ true → queues_of rules h (if on && some_in q then leg ∷ [] else []) ≡ [] → q ≡ []
 one-empty rules h leg true [] is on none = refl
 one-empty rules h leg true (cell ∷ q) is on none = sym is ∙ none-first _ [] none
 one-empty rules h leg false q is on none = absurd cc
 
-empty-of : (rules : Rules) (h : List Step) (chan c k m : ℕ) → queues_of rules h (waiting_of rules h chan c m) ≡ [] → k < m → on_channel chan (port h c k) ≡ true → queue rules h c k ≡ []
+empty-of : (rules : Rules) (h : List Step) (chan c k m : ℕ) → queues_of rules h (waiting_of rules h chan c m) ≡ [] → k < m
+    → on_channel chan (port h c k) ≡ true → queue rules h c k ≡ []
 empty-of rules h chan c k zero none inside on = absurd (omega arith)
 empty-of rules h chan c k (suc m) none inside on =
     let both = sym (queues-both rules h (waiting_of rules h chan c m) (waiting_leg rules h chan c m)) ∙ none in
     elim (eqb_tells k m) [
-      | inl (is, same) ↦ one-empty rules h (record { circ = c; number = k }) (on_channel chan (port h c k)) (queue rules h c k) refl on
-          (subst (λ n. queues_of rules h (waiting_leg rules h chan c n) ≡ []) (sym same) (none-second (queues_of rules h (waiting_of rules h chan c m)) _ both))
-      | inr (is, other) ↦ empty-of rules h chan c k m (none-first _ (queues_of rules h (waiting_leg rules h chan c m)) both) (below-other k m inside other) on
+      | inl (is, same) ↦ one-empty rules h (record { circ = c; number = k }) (on_channel chan (port h c k)) (queue rules h c k)
+          refl on
+          (subst (λ n. queues_of rules h (waiting_leg rules h chan c n) ≡ []) (sym same)
+          (none-second (queues_of rules h (waiting_of rules h chan c m)) _ both))
+      | inr (is, other) ↦ empty-of rules h chan c k m (none-first _ (queues_of rules h (waiting_leg rules h chan c m)) both)
+          (below-other k m inside other) on
     ]
 
-empty-below : (rules : Rules) (h : List Step) (chan c k n : ℕ) → queues_of rules h (waiting_below rules h chan n) ≡ [] → c < n → k < hops h c + 1 → on_channel chan (port h c k) ≡ true → queue rules h c k ≡ []
+empty-below : (rules : Rules) (h : List Step) (chan c k n : ℕ) → queues_of rules h (waiting_below rules h chan n) ≡ [] → c < n
+    → k < hops h c + 1 → on_channel chan (port h c k) ≡ true → queue rules h c k ≡ []
 empty-below rules h chan c k zero none inside legs on = absurd (omega arith)
 empty-below rules h chan c k (suc n) none inside legs on =
     let both = sym (queues-both rules h (waiting_below rules h chan n) (waiting_of rules h chan n (hops h n + 1))) ∙ none in
     elim (eqb_tells c n) [
       | inl (is, same) ↦ empty-of rules h chan c k (hops h c + 1)
-          (subst (λ m. queues_of rules h (waiting_of rules h chan m (hops h m + 1)) ≡ []) (sym same) (none-second (queues_of rules h (waiting_below rules h chan n)) _ both)) legs on
-      | inr (is, other) ↦ empty-below rules h chan c k n (none-first _ (queues_of rules h (waiting_of rules h chan n (hops h n + 1))) both) (below-other c n inside other) legs on
+          (subst (λ m. queues_of rules h (waiting_of rules h chan m (hops h m + 1)) ≡ []) (sym same)
+          (none-second (queues_of rules h (waiting_below rules h chan n)) _ both)) legs on
+      | inr (is, other) ↦ empty-below rules h chan c k n
+          (none-first _ (queues_of rules h (waiting_of rules h chan n (hops h n + 1))) both) (below-other c n inside other) legs
+          on
     ]
 
 none-made : (p : Option Port) (place : Port) → p ≡ None → p ≡ Some place → ⊥
 none-made p place none some = let no : None ≡ Some place = sym none ∙ some in cc
 
-made-below : (h : List Step) (c k : ℕ) (place : Port) (b : Bool) → nat_le k (hops h c) ≡ b → port h c k ≡ Some place → k < hops h c + 1
+made-below : (h : List Step) (c k : ℕ) (place : Port) (b : Bool) → nat_le k (hops h c) ≡ b → port h c k ≡ Some place
+    → k < hops h c + 1
 made-below h c k place true is lies = grind (arith, nat_tests)
 made-below h c k place false is lies = absurd (none-made (port h c k) place (no-hop-leg h c k (grind (arith, nat_tests))) lies)
 
-empty-at : (start : SwitchStart) (h : List Step) (c k : ℕ) (place : Port) → IsLegal start h → IsAtRest start.rules h c → port h c k ≡ Some place → is_leg c k (at h place.chan place.id) ≡ true → queue start.rules h c k ≡ []
+empty-at : (start : SwitchStart) (h : List Step) (c k : ℕ) (place : Port) → IsLegal start h → IsAtRest start.rules h c
+    → port h c k ≡ Some place → is_leg c k (at h place.chan place.id) ≡ true → queue start.rules h c k ≡ []
 empty-at start h c k place legal rest lies named =
     let on_live = at_live_channel start h legal place.chan place.id (leg-some c k (at h place.chan place.id) named) in
     let none = none-second _ (queues_of start.rules h (waiting_legs start.rules h place.chan)) (rest.empty place.chan on_live) in
-    empty-below start.rules h place.chan c k (circuits h) none (leg-opened start h legal c k place.chan place.id named) (made-below h c k place _ refl lies) (rw lies (self_eq place.chan))
+    empty-below start.rules h place.chan c k (circuits h) none (leg-opened start h legal c k place.chan place.id named)
+    (made-below h c k place _ refl lies) (rw lies (self_eq place.chan))
 
 -- all bodies that went back are sealed
 sealed-all : (key : List ℕ) (n : ℕ) (bodies : List (List ℕ)) → length (all_sealed key n bodies) ≡ length bodies
@@ -102,42 +117,58 @@ one-most (Some cell) = omega arith
 
 client-whole : (l : Log) (n : ℕ) → length (back_bodies l) ≤ n → sendable l n 0 ≡ leg_cells l 0
 client-whole l n most =
-    let size : length (sent_to_client l) ≤ 1 + n = let a = one-most (born_reply l) in let b = sealed-all (born_keys l).kb 0 (back_bodies l) in
-    let c = length-append (option_to_list (born_reply l)) (all_sealed (born_keys l).kb 0 (back_bodies l)) in omega (arith, a, b, c, most) in
+    let size : length (sent_to_client l) ≤ 1 + n = let a = one-most (born_reply l) in let b =
+    sealed-all (born_keys l).kb 0 (back_bodies l) in
+    let c = length-append (option_to_list (born_reply l)) (all_sealed (born_keys l).kb 0 (back_bodies l)) in
+    omega (arith, a, b, c, most) in
     take_all (1 + n) (sent_to_client l) size
 
 leg-whole : (l : Log) (n k : ℕ) → length (back_bodies l) ≤ n → sendable l n k ≡ leg_cells l k
 leg-whole l n zero most = client-whole l n most
 leg-whole l n (suc k) most = refl
 
-idle-by : (live : Bool) (o : Option ClaimNote) (given count : ℕ) → live ≡ true → o ≡ None → (live && (is_none o && nat_lt 0 (given - count))) ≡ false → given ≤ count
-idle-by live o given count alive none idle = let no : nat_lt 0 (given - count) ≡ false = rw (alive, none) at idle in grind (arith, nat_tests)
+idle-by : (live : Bool) (o : Option ClaimNote) (given count : ℕ) → live ≡ true → o ≡ None
+    → (live && (is_none o && nat_lt 0 (given - count))) ≡ false → given ≤ count
+idle-by live o given count alive none idle = let no : nat_lt 0 (given - count) ≡ false =
+    rw (alive, none) at idle in grind (arith, nat_tests)
 
-back-home : (start : SwitchStart) (h : List Step) (c : ℕ) → IsLegal start h → IsAtRest start.rules h c → length (back_bodies (circuit_log start.rules h c)) ≤ sealed_count h c
+back-home : (start : SwitchStart) (h : List Step) (c : ℕ) → IsLegal start h → IsAtRest start.rules h c
+    → length (back_bodies (circuit_log start.rules h c)) ≤ sealed_count h c
 back-home start h c legal rest =
     let has : WayHas start.rules h c Back = ways start h legal c Back in
     let home = rest.home Back in
-    let most = idle-by (is_live_circuit start.rules h c) (claim_out h (record { circ = c; dir = Back })) (length (back_bodies (circuit_log start.rules h c))) (claimed_count h (record { circ = c; dir = Back })) rest.live home (rest.idle (record { circ = c; dir = Back })) in
-    let came : claimed_count h (record { circ = c; dir = Back }) ≡ sealed_count h c + 0 = subst (λ o. claimed_count h (record { circ = c; dir = Back }) ≡ sealed_count h c + bodies_with_room o) home (has.home rest.live) in
+    let most = idle-by (is_live_circuit start.rules h c) (claim_out h (record { circ = c; dir = Back }))
+    (length (back_bodies (circuit_log start.rules h c))) (claimed_count h (record { circ = c; dir = Back })) rest.live home
+    (rest.idle (record { circ = c; dir = Back })) in
+    let came : claimed_count h (record { circ = c; dir = Back }) ≡ sealed_count h c + 0 =
+    subst (λ o. claimed_count h (record { circ = c; dir = Back }) ≡ sealed_count h c + bodies_with_room o) home
+    (has.home rest.live) in
     omega (arith, most, came)
 
 -- a leg that has its CircID
-leg-with-id : (start : SwitchStart) (h : List Step) (c k : ℕ) (place : Port) → IsLegal start h → IsAtRest start.rules h c → port h c k ≡ Some place → is_leg c k (at h place.chan place.id) ≡ true → sent start.rules h c k ≡ leg_cells (circuit_log start.rules h c) k
+leg-with-id : (start : SwitchStart) (h : List Step) (c k : ℕ) (place : Port) → IsLegal start h → IsAtRest start.rules h c
+    → port h c k ≡ Some place → is_leg c k (at h place.chan place.id) ≡ true
+    → sent start.rules h c k ≡ leg_cells (circuit_log start.rules h c) k
 leg-with-id start h c k place legal rest lies named =
     let holds : holds_id h c k ≡ true = rw lies named in
-    all_sent start h c k legal rest.live holds (empty-at start h c k place legal rest lies named) ∙ leg-whole (circuit_log start.rules h c) (sealed_count h c) k (back-home start h c legal rest)
+    all_sent start h c k legal rest.live holds (empty-at start h c k place legal rest lies named)
+    ∙ leg-whole (circuit_log start.rules h c) (sealed_count h c) k (back-home start h c legal rest)
 
 -- one that this side's DESTROY ended
 all-by : (xs rest ys : List CircuitCell) → xs ++ rest ≡ ys → rest ≡ [] → xs ≡ ys
 all-by xs rest ys is none = sym (append-nil xs) ∙ ap (λ l. xs ++ l) (sym none) ∙ is
 
-ended-leg : (start : SwitchStart) (h : List Step) (c k : ℕ) → IsLegal start h → is_live_circuit start.rules h c ≡ true → is_ended_by_us h c k ≡ true → sent start.rules h c k ≡ leg_cells (circuit_log start.rules h c) k
+ended-leg : (start : SwitchStart) (h : List Step) (c k : ℕ) → IsLegal start h → is_live_circuit start.rules h c ≡ true
+    → is_ended_by_us h c k ≡ true → sent start.rules h c k ≡ leg_cells (circuit_log start.rules h c) k
 ended-leg start h c zero legal alive ended =
     let begins = sent_is_prefix start h legal c 0 in
-    absurd (client_without_destroy start.rules (events start.rules h c) (sent start.rules h c 0) begins.0 (events_fit start h legal c) begins.1 (destroy_was_sent start h legal c 0 alive ended))
+    absurd (client_without_destroy start.rules (events start.rules h c) (sent start.rules h c 0) begins.0
+    (events_fit start h legal c) begins.1 (destroy_was_sent start h legal c 0 alive ended))
 ended-leg start h c (suc k) legal alive ended =
     let begins = sent_is_prefix start h legal c (suc k) in
-    let none = destroy_is_last start.rules (events start.rules h c) (suc k) (sent start.rules h c (suc k)) begins.0 (events_fit start h legal c) (begins.1 ∙ hop-one (circuit_log start.rules h c) k) (destroy_was_sent start h legal c (suc k) alive ended) in
+    let none = destroy_is_last start.rules (events start.rules h c) (suc k) (sent start.rules h c (suc k)) begins.0
+    (events_fit start h legal c) (begins.1 ∙ hop-one (circuit_log start.rules h c) k)
+    (destroy_was_sent start h legal c (suc k) alive ended) in
     all-by (sent start.rules h c (suc k)) begins.0 _ begins.1 none
 
 -- one that wasn't made
@@ -146,25 +177,35 @@ no-port (Some place) some none = cc
 no-port None some none = cc
 
 unmade-above : (h : List Step) (c k : ℕ) (b : Bool) → nat_le (suc k) (hops h c) ≡ b → port h c (suc k) ≡ None → hops h c < suc k
-unmade-above h c k true is none = absurd (no-port (port h c (suc k)) (hop_port h c (suc k) (omega arith) (grind (arith, nat_tests))) none)
+unmade-above h c k true is none =
+    absurd (no-port (port h c (suc k)) (hop_port h c (suc k) (omega arith) (grind (arith, nat_tests))) none)
 unmade-above h c k false is none = grind (arith, nat_tests)
 
-unmade-leg : (start : SwitchStart) (h : List Step) (c k : ℕ) → IsLegal start h → is_live_circuit start.rules h c ≡ true → port h c k ≡ None → sent start.rules h c k ≡ leg_cells (circuit_log start.rules h c) k
+unmade-leg : (start : SwitchStart) (h : List Step) (c k : ℕ) → IsLegal start h → is_live_circuit start.rules h c ≡ true
+    → port h c k ≡ None → sent start.rules h c k ≡ leg_cells (circuit_log start.rules h c) k
 unmade-leg start h c zero legal alive none = absurd (no-port (port h c 0) (client_port start.rules h c alive) none)
 unmade-leg start h c (suc k) legal alive none =
     let count = hops_are_counted start.rules h c in
     let above = unmade-above h c k _ refl none in
-    let nothing = hop-one (circuit_log start.rules h c) k ∙ no_leg_nothing (circuit_log start.rules h c) (suc k) (omega (arith, count, above)) in
+    let nothing =
+    hop-one (circuit_log start.rules h c) k
+    ∙ no_leg_nothing (circuit_log start.rules h c) (suc k) (omega (arith, count, above)) in
     let begins = sent_is_prefix start h legal c (suc k) in
     none-first (sent start.rules h c (suc k)) begins.0 (begins.1 ∙ nothing) ∙ sym nothing
 
-ends-by : (start : SwitchStart) (h : List Step) (c k : ℕ) (place : Port) (b : Bool) → is_ended_by_us h c k ≡ b → IsLegal start h → IsAtRest start.rules h c → port h c k ≡ Some place → is_ended_outside h c k ≡ false → sent start.rules h c k ≡ leg_cells (circuit_log start.rules h c) k
+ends-by : (start : SwitchStart) (h : List Step) (c k : ℕ) (place : Port) (b : Bool) → is_ended_by_us h c k ≡ b → IsLegal start h
+    → IsAtRest start.rules h c → port h c k ≡ Some place → is_ended_outside h c k ≡ false
+    → sent start.rules h c k ≡ leg_cells (circuit_log start.rules h c) k
 ends-by start h c k place true is legal rest lies outside = ended-leg start h c k legal rest.live is
-ends-by start h c k place false is legal rest lies outside = leg-with-id start h c k place legal rest lies (has_its_id start h legal c k place lies is outside)
+ends-by start h c k place false is legal rest lies outside =
+    leg-with-id start h c k place legal rest lies (has_its_id start h legal c k place lies is outside)
 
-port-by : (start : SwitchStart) (h : List Step) (c k : ℕ) (p : Option Port) → port h c k ≡ p → IsLegal start h → IsAtRest start.rules h c → is_ended_outside h c k ≡ false → sent start.rules h c k ≡ leg_cells (circuit_log start.rules h c) k
+port-by : (start : SwitchStart) (h : List Step) (c k : ℕ) (p : Option Port) → port h c k ≡ p → IsLegal start h
+    → IsAtRest start.rules h c → is_ended_outside h c k ≡ false
+    → sent start.rules h c k ≡ leg_cells (circuit_log start.rules h c) k
 port-by start h c k (Some place) lies legal rest outside = ends-by start h c k place _ refl legal rest lies outside
 port-by start h c k None none legal rest outside = unmade-leg start h c k legal rest.live none
 
-pub at_rest_all_sent : (start : SwitchStart) (h : List Step) (c k : ℕ) → IsLegal start h → IsAtRest start.rules h c → is_ended_outside h c k ≡ false → sent start.rules h c k ≡ leg_cells (circuit_log start.rules h c) k
+pub at_rest_all_sent : (start : SwitchStart) (h : List Step) (c k : ℕ) → IsLegal start h → IsAtRest start.rules h c
+    → is_ended_outside h c k ≡ false → sent start.rules h c k ≡ leg_cells (circuit_log start.rules h c) k
 at_rest_all_sent start h c k legal rest outside = port-by start h c k _ refl legal rest outside

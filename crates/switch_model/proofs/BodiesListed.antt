@@ -44,7 +44,8 @@ closed-none : (closed : Bool) (x : Effects) → x.back ≡ None → (if closed t
 closed-none true x none = refl
 closed-none false x none = none
 
-back-same : (rules : Rules) (e : Event) (ev : List Event) → (effects rules ev e).back ≡ None → back_count rules (e ∷ ev) ≡ back_count rules ev
+back-same : (rules : Rules) (e : Event) (ev : List Event) → (effects rules ev e).back ≡ None
+    → back_count rules (e ∷ ev) ≡ back_count rules ev
 back-same rules e ev none = rw none refl
 
 -- events of the circuit itself add bodies at most; where no event is of it, none are added
@@ -56,16 +57,19 @@ grown-same : (b : Bool) (before after : ℕ) → after ≡ before → Grown b be
 grown-same true before after same = omega (arith, same)
 grown-same false before after same = same
 
-grown-if : (rules : Rules) (b : Bool) (x ev : List Event) → back_count rules ev ≤ back_count rules x → Grown b (back_count rules ev) (back_count rules (if b then x else ev))
+grown-if : (rules : Rules) (b : Bool) (x ev : List Event) → back_count rules ev ≤ back_count rules x
+    → Grown b (back_count rules ev) (back_count rules (if b then x else ev))
 grown-if rules true x ev up = up
 grown-if rules false x ev up = refl
 
-grown-and : (rules : Rules) (a b : Bool) (x ev : List Event) → back_count rules ev ≤ back_count rules x → Grown a (back_count rules ev) (back_count rules (if a && b then x else ev))
+grown-and : (rules : Rules) (a b : Bool) (x ev : List Event) → back_count rules ev ≤ back_count rules x
+    → Grown a (back_count rules ev) (back_count rules (if a && b then x else ev))
 grown-and rules true true x ev up = up
 grown-and rules true false x ev up = omega arith
 grown-and rules false b x ev up = refl
 
-grown-with : (rules : Rules) (b : Bool) (e : Event) (ev : List Event) → Grown b (back_count rules ev) (back_count rules (with_event b e ev))
+grown-with : (rules : Rules) (b : Bool) (e : Event) (ev : List Event)
+    → Grown b (back_count rules ev) (back_count rules (with_event b e ev))
 grown-with rules true e ev = back-up rules e ev
 grown-with rules false e ev = refl
 
@@ -73,32 +77,41 @@ up-with : (rules : Rules) (b : Bool) (e : Event) (ev : List Event) → back_coun
 up-with rules true e ev = back-up rules e ev
 up-with rules false e ev = omega arith
 
-same-with : (rules : Rules) (b : Bool) (e : Event) (ev : List Event) → (effects rules ev e).back ≡ None → back_count rules (with_event b e ev) ≡ back_count rules ev
+same-with : (rules : Rules) (b : Bool) (e : Event) (ev : List Event) → (effects rules ev e).back ≡ None
+    → back_count rules (with_event b e ev) ≡ back_count rules ev
 same-with rules true e ev none = back-same rules e ev none
 same-with rules false e ev none = refl
 
-same-if : (rules : Rules) (b : Bool) (x ev : List Event) → back_count rules x ≡ back_count rules ev → back_count rules (if b then x else ev) ≡ back_count rules ev
+same-if : (rules : Rules) (b : Bool) (x ev : List Event) → back_count rules x ≡ back_count rules ev
+    → back_count rules (if b then x else ev) ≡ back_count rules ev
 same-if rules true x ev same = same
 same-if rules false x ev same = refl
 
-up-closing : (rules : Rules) (closing : Closing) (n : ℕ) (e : Event) (ev more : List Event) → n ≤ back_count rules (e ∷ ev) → n ≤ back_count rules ev → n ≤ back_count rules more → n ≤ back_count rules (settled_with closing e ev more)
+up-closing : (rules : Rules) (closing : Closing) (n : ℕ) (e : Event) (ev more : List Event) → n ≤ back_count rules (e ∷ ev)
+    → n ≤ back_count rules ev → n ≤ back_count rules more → n ≤ back_count rules (settled_with closing e ev more)
 up-closing rules Goes n e ev more one none all = all
 up-closing rules (Closes reason) n e ev more one none all = one
 up-closing rules Full n e ev more one none all = none
 
-up-settled : (rules : Rules) (left : ℕ) (n : ℕ) (ev : List Event) (cells : List CircuitCell) → n ≤ back_count rules ev → n ≤ back_count rules (settled rules left ev cells)
+up-settled : (rules : Rules) (left : ℕ) (n : ℕ) (ev : List Event) (cells : List CircuitCell) → n ≤ back_count rules ev
+    → n ≤ back_count rules (settled rules left ev cells)
 up-settled rules left n ev [] up = up
 up-settled rules left n ev (cell ∷ cells) up =
-    let one : n ≤ back_count rules (forward_of cell ∷ ev) = let more = back-up rules (forward_of cell) ev in omega (arith, up, more) in
-    up-closing rules (closing_at rules left ev cell) n (forward_of cell) ev _ one up (up-settled rules left n (forward_of cell ∷ ev) cells one)
+    let one : n ≤ back_count rules (forward_of cell ∷ ev) = let more = back-up rules (forward_of cell) ev in
+    omega (arith, up, more) in
+    up-closing rules (closing_at rules left ev cell) n (forward_of cell) ev _ one up
+    (up-settled rules left n (forward_of cell ∷ ev) cells one)
 
-up-either : (rules : Rules) (b : Bool) (e d : Event) (ev : List Event) → back_count rules ev ≤ back_count rules (if b then e ∷ ev else d ∷ ev)
+up-either : (rules : Rules) (b : Bool) (e d : Event) (ev : List Event)
+    → back_count rules ev ≤ back_count rules (if b then e ∷ ev else d ∷ ev)
 up-either rules true e d ev = back-up rules e ev
 up-either rules false e d ev = back-up rules d ev
 
-up-taken : (rules : Rules) (cell : CircuitCell) (answer : TakeAnswer) (ev : List Event) → back_count rules ev ≤ back_count rules (taken_from_hop rules cell answer ev)
+up-taken : (rules : Rules) (cell : CircuitCell) (answer : TakeAnswer) (ev : List Event)
+    → back_count rules ev ≤ back_count rules (taken_from_hop rules cell answer ev)
 up-taken rules cell TakeAnswer.Queued ev = up-either rules (cell.command == 3) (Backward cell.body) (Answered cell.body) ev
-up-taken rules cell (TakeAnswer.Down circ reason) ev = up-with rules (is_awaited (log rules ev) cell && is_some (closes rules ev (Answered cell.body))) (Answered cell.body) ev
+up-taken rules cell (TakeAnswer.Down circ reason) ev =
+    up-with rules (is_awaited (log rules ev) cell && is_some (closes rules ev (Answered cell.body))) (Answered cell.body) ev
 up-taken rules cell answer ev = omega arith
 
 -- whether a step serves circuit c
@@ -106,7 +119,8 @@ abbrev serves : ℕ → Option ℕ → Bool
 serves c (Some n) = n == c
 serves c None = false
 
-at-leg : (rules : Rules) (c : ℕ) (x : Option Leg) (y ev : List Event) → back_count rules ev ≤ back_count rules y → Grown (serves c (circuit_at x)) (back_count rules ev) (back_count rules (if is_hop_leg c x then y else ev))
+at-leg : (rules : Rules) (c : ℕ) (x : Option Leg) (y ev : List Event) → back_count rules ev ≤ back_count rules y
+    → Grown (serves c (circuit_at x)) (back_count rules ev) (back_count rules (if is_hop_leg c x then y else ev))
 at-leg rules c None y ev up = refl
 at-leg rules c (Some leg) y ev up = grown-and rules (leg.circ == c) (is_hop leg.number) y ev up
 
@@ -118,7 +132,8 @@ creating-none : (rules : Rules) (ev : List Event) → (effects rules ev Linked).
 unfolding open_effects
 creating-none rules ev = closed-none (is_closed (log rules ev)) _ (linked-none (newest accepted_request (log rules ev)))
 
-born-none : (rules : Rules) (ev : List Event) (reply : CircuitCell) (keys : LayerKeys) (pad : Option (List ℕ)) → (effects rules ev (Born reply keys pad)).back ≡ None
+born-none : (rules : Rules) (ev : List Event) (reply : CircuitCell) (keys : LayerKeys) (pad : Option (List ℕ))
+    → (effects rules ev (Born reply keys pad)).back ≡ None
 unfolding open_effects
 born-none rules ev reply keys pad = closed-none (is_closed (log rules ev)) _ refl
 
@@ -130,31 +145,49 @@ failed-none : (rules : Rules) (ev : List Event) → (effects rules ev Failed).ba
 unfolding open_effects
 failed-none rules ev = closed-none (is_closed (log rules ev)) _ refl
 
-back-grown : (rules : Rules) (h : List Step) (s : Step) (c : ℕ) → Grown (serves c (circuit_served h s)) (back_count rules (events rules h c)) (back_count rules (events rules (s ∷ h) c))
-back-grown rules h (OpenCircuit chan id reply (Some keys) pad (Opened n)) c = same-if rules (n.0 == c) (Born (circuit_cell reply) keys pad ∷ events rules h c) (events rules h c) (back-same rules (Born (circuit_cell reply) keys pad) (events rules h c) (born-none rules (events rules h c) (circuit_cell reply) keys pad))
-back-grown rules h (OpenCircuit chan id reply None pad (Opened n)) c = same-if rules (n.0 == c) (events rules h c) (events rules h c) refl
-back-grown rules h (Take chan cell answer) c = at-leg rules c (at h chan.0 cell.circ) (taken_from_hop rules (circuit_cell cell) answer (events rules h c)) (events rules h c) (up-taken rules (circuit_cell cell) answer (events rules h c))
-back-grown rules h (GiveBack note place answer) c = grown-and rules (note.circ.0 == c) _ _ (events rules h c) (up-settled rules _ _ (events rules h c) (claimed_cells h note) (omega arith))
-back-grown rules h (EdgeIn key event Packed) c = grown-with rules (key.circ.0 == c) (edge_event key.serial event) (events rules h c)
+back-grown : (rules : Rules) (h : List Step) (s : Step) (c : ℕ)
+    → Grown (serves c (circuit_served h s)) (back_count rules (events rules h c)) (back_count rules (events rules (s ∷ h) c))
+back-grown rules h (OpenCircuit chan id reply (Some keys) pad (Opened n)) c =
+    same-if rules (n.0 == c) (Born (circuit_cell reply) keys pad ∷ events rules h c) (events rules h c)
+    (back-same rules (Born (circuit_cell reply) keys pad) (events rules h c)
+    (born-none rules (events rules h c) (circuit_cell reply) keys pad))
+back-grown rules h (OpenCircuit chan id reply None pad (Opened n)) c =
+    same-if rules (n.0 == c) (events rules h c) (events rules h c) refl
+back-grown rules h (Take chan cell answer) c =
+    at-leg rules c (at h chan.0 cell.circ) (taken_from_hop rules (circuit_cell cell) answer (events rules h c)) (events rules h c)
+    (up-taken rules (circuit_cell cell) answer (events rules h c))
+back-grown rules h (GiveBack note place answer) c =
+    grown-and rules (note.circ.0 == c) _ _ (events rules h c)
+    (up-settled rules _ _ (events rules h c) (claimed_cells h note) (omega arith))
+back-grown rules h (EdgeIn key event Packed) c =
+    grown-with rules (key.circ.0 == c) (edge_event key.serial event) (events rules h c)
 back-grown rules h (Drained key Packed) c = grown-with rules (key.circ.0 == c) (DrainedEvent key.serial) (events rules h c)
 back-grown rules h (Drained key Counted) c = grown-with rules (key.circ.0 == c) (DrainedEvent key.serial) (events rules h c)
-back-grown rules h (EdgeOut slot (Some (OrderStep.Close key reason))) c = same-with rules ((key.circ.0 == c) && is_live_circuit rules h c) (Freed key.serial) (events rules h c) (freed-none rules (events rules h c) key.serial)
-back-grown rules h (DialDone order outcome (DialAnswer.Up n)) c = same-with rules (order.circ.0 == c) Linked (events rules h c) (creating-none rules (events rules h c))
-back-grown rules h (DialDone order outcome (DialAnswer.Closed reason)) c = same-with rules (order.circ.0 == c) Failed (events rules h c) (failed-none rules (events rules h c))
-back-grown rules h (DialDone order outcome (DialAnswer.Full n)) c = same-with rules (order.circ.0 == c) Failed (events rules h c) (failed-none rules (events rules h c))
+back-grown rules h (EdgeOut slot (Some (OrderStep.Close key reason))) c =
+    same-with rules ((key.circ.0 == c) && is_live_circuit rules h c) (Freed key.serial) (events rules h c)
+    (freed-none rules (events rules h c) key.serial)
+back-grown rules h (DialDone order outcome (DialAnswer.Up n)) c =
+    same-with rules (order.circ.0 == c) Linked (events rules h c) (creating-none rules (events rules h c))
+back-grown rules h (DialDone order outcome (DialAnswer.Closed reason)) c =
+    same-with rules (order.circ.0 == c) Failed (events rules h c) (failed-none rules (events rules h c))
+back-grown rules h (DialDone order outcome (DialAnswer.Full n)) c =
+    same-with rules (order.circ.0 == c) Failed (events rules h c) (failed-none rules (events rules h c))
 back-grown rules h s c = grown-same (serves c (circuit_served h s)) _ _ refl
 
 -- and of what was taken forth
-forth-and : (a b : Bool) (xs : List CircuitCell) (cell : CircuitCell) → Grown a (length xs) (length (if a && b then xs ++ cell ∷ [] else xs))
+forth-and : (a b : Bool) (xs : List CircuitCell) (cell : CircuitCell)
+    → Grown a (length xs) (length (if a && b then xs ++ cell ∷ [] else xs))
 forth-and true true xs cell = let more = length-append xs (cell ∷ []) in omega (arith, more)
 forth-and true false xs cell = omega arith
 forth-and false b xs cell = refl
 
-forth-leg : (c : ℕ) (x : Option Leg) (xs : List CircuitCell) (cell : CircuitCell) → Grown (serves c (circuit_at x)) (length xs) (length (if is_leg c 0 x then xs ++ cell ∷ [] else xs))
+forth-leg : (c : ℕ) (x : Option Leg) (xs : List CircuitCell) (cell : CircuitCell)
+    → Grown (serves c (circuit_at x)) (length xs) (length (if is_leg c 0 x then xs ++ cell ∷ [] else xs))
 forth-leg c None xs cell = refl
 forth-leg c (Some leg) xs cell = forth-and (leg.circ == c) (leg.number == 0) xs cell
 
-forth-grown : (h : List Step) (s : Step) (c : ℕ) → Grown (serves c (circuit_served h s)) (length (taken_forth h c)) (length (taken_forth (s ∷ h) c))
+forth-grown : (h : List Step) (s : Step) (c : ℕ)
+    → Grown (serves c (circuit_served h s)) (length (taken_forth h c)) (length (taken_forth (s ∷ h) c))
 forth-grown h (Take chan cell TakeAnswer.Queued) c = forth-leg c (at h chan.0 cell.circ) (taken_forth h c) (circuit_cell cell)
 forth-grown h s c = grown-same (serves c (circuit_served h s)) _ _ refl
 
@@ -167,7 +200,8 @@ count-both : (way : Way) (xs ys : List Way) → count_way way (xs ++ ys) ≡ cou
 count-both way [] ys = omega arith
 count-both way (x ∷ xs) ys = count-if (same_way x way) _ _ _ (count-both way xs ys)
 
-count-replicate : (way other : Way) (b : Bool) → same_way other way ≡ b → (n : ℕ) → count_way way (replicate n other) ≡ (if b then n else 0)
+count-replicate : (way other : Way) (b : Bool) → same_way other way ≡ b → (n : ℕ)
+    → count_way way (replicate n other) ≡ (if b then n else 0)
 count-replicate way other true is zero = refl
 count-replicate way other true is (suc n) = rw (is, count-replicate way other true is n) (omega arith)
 count-replicate way other false is zero = refl
@@ -180,22 +214,30 @@ back_in rules c h = back_count rules (events rules h c)
 abbrev forth_in : ℕ → List Step → ℕ
 forth_in c h = length (taken_forth h c)
 
-back-some : (rules : Rules) (h g : List Step) (c n : ℕ) (b : Bool) → (n == c) ≡ b → Grown b (back_in rules c h) (back_in rules c g) →
+back-some : (rules : Rules) (h g : List Step) (c n : ℕ) (b : Bool) → (n == c) ≡ b
+    → Grown b (back_in rules c h) (back_in rules c g) →
     count_way (record { circ = c; dir = Back }) (born_bodies rules h) ≡ back_in rules c h →
     count_way (record { circ = c; dir = Back }) (new_at rules h g (Some n) ++ born_bodies rules h) ≡ back_in rules c g
 back-some rules h g c n true is grown before =
     let same : n ≡ c = same-number n c is in
-    let back : count_way (record { circ = c; dir = Back }) (new_bodies rules h g (record { circ = n; dir = Back })) ≡ back_in rules n g - back_in rules n h = count-replicate (record { circ = c; dir = Back }) (record { circ = n; dir = Back }) true (rw is refl) _ in
-    let forth : count_way (record { circ = c; dir = Back }) (new_bodies rules h g (record { circ = n; dir = Forth })) ≡ 0 = count-replicate (record { circ = c; dir = Back }) (record { circ = n; dir = Forth }) false (rw is refl) _ in
+    let back : count_way (record { circ = c; dir = Back }) (new_bodies rules h g (record { circ = n; dir = Back }))
+    ≡ back_in rules n g - back_in rules n h =
+    count-replicate (record { circ = c; dir = Back }) (record { circ = n; dir = Back }) true (rw is refl) _ in
+    let forth : count_way (record { circ = c; dir = Back }) (new_bodies rules h g (record { circ = n; dir = Forth })) ≡ 0 =
+    count-replicate (record { circ = c; dir = Back }) (record { circ = n; dir = Forth }) false (rw is refl) _ in
     let all = count-both (record { circ = c; dir = Back }) (new_at rules h g (Some n)) (born_bodies rules h) in
-    let new = count-both (record { circ = c; dir = Back }) (new_bodies rules h g (record { circ = n; dir = Back })) (new_bodies rules h g (record { circ = n; dir = Forth })) in
+    let new = count-both (record { circ = c; dir = Back }) (new_bodies rules h g (record { circ = n; dir = Back }))
+    (new_bodies rules h g (record { circ = n; dir = Forth })) in
     let here : back_in rules n g - back_in rules n h ≡ back_in rules c g - back_in rules c h = rw same refl in
     omega (arith, grown, before, back, forth, all, new, here)
 back-some rules h g c n false is grown before =
-    let back : count_way (record { circ = c; dir = Back }) (new_bodies rules h g (record { circ = n; dir = Back })) ≡ 0 = count-replicate (record { circ = c; dir = Back }) (record { circ = n; dir = Back }) false (rw is refl) _ in
-    let forth : count_way (record { circ = c; dir = Back }) (new_bodies rules h g (record { circ = n; dir = Forth })) ≡ 0 = count-replicate (record { circ = c; dir = Back }) (record { circ = n; dir = Forth }) false (rw is refl) _ in
+    let back : count_way (record { circ = c; dir = Back }) (new_bodies rules h g (record { circ = n; dir = Back })) ≡ 0 =
+    count-replicate (record { circ = c; dir = Back }) (record { circ = n; dir = Back }) false (rw is refl) _ in
+    let forth : count_way (record { circ = c; dir = Back }) (new_bodies rules h g (record { circ = n; dir = Forth })) ≡ 0 =
+    count-replicate (record { circ = c; dir = Back }) (record { circ = n; dir = Forth }) false (rw is refl) _ in
     let all = count-both (record { circ = c; dir = Back }) (new_at rules h g (Some n)) (born_bodies rules h) in
-    let new = count-both (record { circ = c; dir = Back }) (new_bodies rules h g (record { circ = n; dir = Back })) (new_bodies rules h g (record { circ = n; dir = Forth })) in
+    let new = count-both (record { circ = c; dir = Back }) (new_bodies rules h g (record { circ = n; dir = Back }))
+    (new_bodies rules h g (record { circ = n; dir = Forth })) in
     omega (arith, grown, before, back, forth, all, new)
 
 forth-some : (rules : Rules) (h g : List Step) (c n : ℕ) (b : Bool) → (n == c) ≡ b → Grown b (forth_in c h) (forth_in c g) →
@@ -203,32 +245,42 @@ forth-some : (rules : Rules) (h g : List Step) (c n : ℕ) (b : Bool) → (n == 
     count_way (record { circ = c; dir = Forth }) (new_at rules h g (Some n) ++ born_bodies rules h) ≡ forth_in c g
 forth-some rules h g c n true is grown before =
     let same : n ≡ c = same-number n c is in
-    let back : count_way (record { circ = c; dir = Forth }) (new_bodies rules h g (record { circ = n; dir = Back })) ≡ 0 = count-replicate (record { circ = c; dir = Forth }) (record { circ = n; dir = Back }) false (rw is refl) _ in
-    let forth : count_way (record { circ = c; dir = Forth }) (new_bodies rules h g (record { circ = n; dir = Forth })) ≡ forth_in n g - forth_in n h = count-replicate (record { circ = c; dir = Forth }) (record { circ = n; dir = Forth }) true (rw is refl) _ in
+    let back : count_way (record { circ = c; dir = Forth }) (new_bodies rules h g (record { circ = n; dir = Back })) ≡ 0 =
+    count-replicate (record { circ = c; dir = Forth }) (record { circ = n; dir = Back }) false (rw is refl) _ in
+    let forth : count_way (record { circ = c; dir = Forth }) (new_bodies rules h g (record { circ = n; dir = Forth }))
+    ≡ forth_in n g - forth_in n h =
+    count-replicate (record { circ = c; dir = Forth }) (record { circ = n; dir = Forth }) true (rw is refl) _ in
     let all = count-both (record { circ = c; dir = Forth }) (new_at rules h g (Some n)) (born_bodies rules h) in
-    let new = count-both (record { circ = c; dir = Forth }) (new_bodies rules h g (record { circ = n; dir = Back })) (new_bodies rules h g (record { circ = n; dir = Forth })) in
+    let new = count-both (record { circ = c; dir = Forth }) (new_bodies rules h g (record { circ = n; dir = Back }))
+    (new_bodies rules h g (record { circ = n; dir = Forth })) in
     let here : forth_in n g - forth_in n h ≡ forth_in c g - forth_in c h = rw same refl in
     omega (arith, grown, before, back, forth, all, new, here)
 forth-some rules h g c n false is grown before =
-    let back : count_way (record { circ = c; dir = Forth }) (new_bodies rules h g (record { circ = n; dir = Back })) ≡ 0 = count-replicate (record { circ = c; dir = Forth }) (record { circ = n; dir = Back }) false (rw is refl) _ in
-    let forth : count_way (record { circ = c; dir = Forth }) (new_bodies rules h g (record { circ = n; dir = Forth })) ≡ 0 = count-replicate (record { circ = c; dir = Forth }) (record { circ = n; dir = Forth }) false (rw is refl) _ in
+    let back : count_way (record { circ = c; dir = Forth }) (new_bodies rules h g (record { circ = n; dir = Back })) ≡ 0 =
+    count-replicate (record { circ = c; dir = Forth }) (record { circ = n; dir = Back }) false (rw is refl) _ in
+    let forth : count_way (record { circ = c; dir = Forth }) (new_bodies rules h g (record { circ = n; dir = Forth })) ≡ 0 =
+    count-replicate (record { circ = c; dir = Forth }) (record { circ = n; dir = Forth }) false (rw is refl) _ in
     let all = count-both (record { circ = c; dir = Forth }) (new_at rules h g (Some n)) (born_bodies rules h) in
-    let new = count-both (record { circ = c; dir = Forth }) (new_bodies rules h g (record { circ = n; dir = Back })) (new_bodies rules h g (record { circ = n; dir = Forth })) in
+    let new = count-both (record { circ = c; dir = Forth }) (new_bodies rules h g (record { circ = n; dir = Back }))
+    (new_bodies rules h g (record { circ = n; dir = Forth })) in
     omega (arith, grown, before, back, forth, all, new)
 
-back-counted : (rules : Rules) (h g : List Step) (c : ℕ) (o : Option ℕ) → Grown (serves c o) (back_count rules (events rules h c)) (back_count rules (events rules g c)) →
+back-counted : (rules : Rules) (h g : List Step) (c : ℕ) (o : Option ℕ)
+    → Grown (serves c o) (back_count rules (events rules h c)) (back_count rules (events rules g c)) →
     count_way (record { circ = c; dir = Back }) (born_bodies rules h) ≡ back_count rules (events rules h c) →
     count_way (record { circ = c; dir = Back }) (new_at rules h g o ++ born_bodies rules h) ≡ back_count rules (events rules g c)
 back-counted rules h g c None grown before = before ∙ sym grown
 back-counted rules h g c (Some n) grown before = back-some rules h g c n (n == c) refl grown before
 
-forth-counted : (rules : Rules) (h g : List Step) (c : ℕ) (o : Option ℕ) → Grown (serves c o) (length (taken_forth h c)) (length (taken_forth g c)) →
+forth-counted : (rules : Rules) (h g : List Step) (c : ℕ) (o : Option ℕ)
+    → Grown (serves c o) (length (taken_forth h c)) (length (taken_forth g c)) →
     count_way (record { circ = c; dir = Forth }) (born_bodies rules h) ≡ length (taken_forth h c) →
     count_way (record { circ = c; dir = Forth }) (new_at rules h g o ++ born_bodies rules h) ≡ length (taken_forth g c)
 forth-counted rules h g c None grown before = before ∙ sym grown
 forth-counted rules h g c (Some n) grown before = forth-some rules h g c n (n == c) refl grown before
 
-back-listed : (rules : Rules) (h : List Step) (c : ℕ) → count_way (record { circ = c; dir = Back }) (born_bodies rules h) ≡ back_count rules (events rules h c)
+back-listed : (rules : Rules) (h : List Step) (c : ℕ)
+    → count_way (record { circ = c; dir = Back }) (born_bodies rules h) ≡ back_count rules (events rules h c)
 back-listed rules [] c = refl
 back-listed rules (s ∷ h) c = back-counted rules h (s ∷ h) c (circuit_served h s) (back-grown rules h s c) (back-listed rules h c)
 
@@ -237,14 +289,17 @@ no-less : (b : Bool) (before after : ℕ) → Grown b before after → before �
 no-less true before after grown = grown
 no-less false before after grown = omega (arith, grown)
 
-pub given-grows : (rules : Rules) (h : List Step) (s : Step) (c : ℕ) (dir : Dir) → bodies rules h (record { circ = c; dir = dir }) dir ≤ bodies rules (s ∷ h) (record { circ = c; dir = dir }) dir
+pub given-grows : (rules : Rules) (h : List Step) (s : Step) (c : ℕ) (dir : Dir)
+    → bodies rules h (record { circ = c; dir = dir }) dir ≤ bodies rules (s ∷ h) (record { circ = c; dir = dir }) dir
 given-grows rules h s c Forth = no-less (serves c (circuit_served h s)) _ _ (forth-grown h s c)
 given-grows rules h s c Back = no-less (serves c (circuit_served h s)) _ _ (back-grown rules h s c)
 
-forth-listed : (rules : Rules) (h : List Step) (c : ℕ) → count_way (record { circ = c; dir = Forth }) (born_bodies rules h) ≡ length (taken_forth h c)
+forth-listed : (rules : Rules) (h : List Step) (c : ℕ)
+    → count_way (record { circ = c; dir = Forth }) (born_bodies rules h) ≡ length (taken_forth h c)
 forth-listed rules [] c = refl
 forth-listed rules (s ∷ h) c = forth-counted rules h (s ∷ h) c (circuit_served h s) (forth-grown h s c) (forth-listed rules h c)
 
-pub listed : (rules : Rules) (h : List Step) (c : ℕ) (dir : Dir) → count_way (record { circ = c; dir = dir }) (born_bodies rules h) ≡ given_bodies rules h (record { circ = c; dir = dir })
+pub listed : (rules : Rules) (h : List Step) (c : ℕ) (dir : Dir)
+    → count_way (record { circ = c; dir = dir }) (born_bodies rules h) ≡ given_bodies rules h (record { circ = c; dir = dir })
 listed rules h c Forth = forth-listed rules h c
 listed rules h c Back = back-listed rules h c

@@ -29,7 +29,8 @@ dir-is Back Back same = refl
 dir-is Forth Back same = absurd cc
 dir-is Back Forth same = absurd cc
 
-pub ways-same : (a b : ℕ) (x y : Dir) → a ≡ b → x ≡ y → ◌≡◌ {A = Way} (record { circ = a; dir = x }) (record { circ = b; dir = y })
+pub ways-same : (a b : ℕ) (x y : Dir) → a ≡ b → x ≡ y
+    → ◌≡◌ {A = Way} (record { circ = a; dir = x }) (record { circ = b; dir = y })
 ways-same a b x y same_circ same_direction = rw (same_circ, same_direction) refl
 
 pub way-is : (a b : Way) → same_way a b ≡ true → a ≡ b
@@ -41,22 +42,30 @@ way-is a b same =
 not-below : (a b : ℕ) → nat_le a b ≡ false → a < b + 1 → ⊥
 not-below a b above below = grind (arith, nat_tests)
 
-here-waits : (rules : Rules) (h : List Step) (way : Way) (older : List Way) (b : Bool) → nat_le (claimed_count h way) (count_way way older) ≡ b → is_ready rules h way ≡ true → claimed_count h way < count_way way older + 1 →
+here-waits : (rules : Rules) (h : List Step) (way : Way) (older : List Way) (b : Bool)
+    → nat_le (claimed_count h way) (count_way way older) ≡ b → is_ready rules h way ≡ true
+    → claimed_count h way < count_way way older + 1 →
     is_some (if waits_here rules h way older then Some way else None) ≡ true
 here-waits rules h way older true is ready below = rw (ready, is) refl
 here-waits rules h way older false is ready below = absurd (not-below (claimed_count h way) (count_way way older) is below)
 
-finds-by : (rules : Rules) (h : List Step) (way other : Way) (older : List Way) → is_ready rules h way ≡ true → (b : Bool) → same_way other way ≡ b → claimed_count h way < count_way way (other ∷ older) →
-    (claimed_count h way < count_way way older → is_some (first_waiting rules h older) ≡ true) → is_some (first_waiting rules h (other ∷ older)) ≡ true
+finds-by : (rules : Rules) (h : List Step) (way other : Way) (older : List Way) → is_ready rules h way ≡ true → (b : Bool)
+    → same_way other way ≡ b → claimed_count h way < count_way way (other ∷ older) →
+    (claimed_count h way < count_way way older → is_some (first_waiting rules h older) ≡ true)
+    → is_some (first_waiting rules h (other ∷ older)) ≡ true
 finds-by rules h way other older ready true is below later =
     let same : other ≡ way = way-is other way is in
     let within : claimed_count h way < count_way way older + 1 = rw is at below in
-    some-or (first_waiting rules h older) _ (subst (λ w. is_some (if waits_here rules h w older then Some w else None) ≡ true) (sym same) (here-waits rules h way older _ refl ready within))
+    some-or (first_waiting rules h older) _
+    (subst (λ w. is_some (if waits_here rules h w older then Some w else None) ≡ true) (sym same)
+    (here-waits rules h way older _ refl ready within))
 finds-by rules h way other older ready false is below later = some-first (first_waiting rules h older) _ (later (rw is at below))
 
-finds : (rules : Rules) (h : List Step) (way : Way) → is_ready rules h way ≡ true → (bodies_listed : List Way) → claimed_count h way < count_way way bodies_listed → is_some (first_waiting rules h bodies_listed) ≡ true
+finds : (rules : Rules) (h : List Step) (way : Way) → is_ready rules h way ≡ true → (bodies_listed : List Way)
+    → claimed_count h way < count_way way bodies_listed → is_some (first_waiting rules h bodies_listed) ≡ true
 finds rules h way ready [] below = absurd (omega arith)
-finds rules h way ready (other ∷ older) below = finds-by rules h way other older ready (same_way other way) refl below (finds rules h way ready older)
+finds rules h way ready (other ∷ older) below =
+    finds-by rules h way other older ready (same_way other way) refl below (finds rules h way ready older)
 
 ready-below : (live : Bool) (out : Bool) (given count : ℕ) → (live && (out && nat_lt 0 (given - count))) ≡ true → count < given
 ready-below true true given count ready = grind (arith, nat_tests)
@@ -67,8 +76,12 @@ some-map : {A B : Type 0} (f : A → B) (o : Option A) → is_some o ≡ true �
 some-map f None some = some
 some-map f (Some x) some = refl
 
-pub claim_finds_one : (start : SwitchStart) (h : List Step) (worker : ℕ) (way : Way) → is_ready start.rules h way ≡ true → is_some (claim_answer start h worker) ≡ true
+pub claim_finds_one : (start : SwitchStart) (h : List Step) (worker : ℕ) (way : Way) → is_ready start.rules h way ≡ true
+    → is_some (claim_answer start h worker) ≡ true
 claim_finds_one start h worker way ready =
-    let below : claimed_count h way < given_bodies start.rules h way = ready-below (is_live_circuit start.rules h way.circ) (is_none (claim_out h way)) (given_bodies start.rules h way) (claimed_count h way) ready in
-    let all : count_way way (born_bodies start.rules h) ≡ given_bodies start.rules h way = listed start.rules h way.circ way.dir in
+    let below : claimed_count h way < given_bodies start.rules h way =
+    ready-below (is_live_circuit start.rules h way.circ) (is_none (claim_out h way)) (given_bodies start.rules h way)
+    (claimed_count h way) ready in
+    let all : count_way way (born_bodies start.rules h) ≡ given_bodies start.rules h way =
+    listed start.rules h way.circ way.dir in
     some-map _ _ (finds start.rules h way ready (born_bodies start.rules h) (rw (← all) at below))

@@ -67,7 +67,8 @@ both-begin xs ys zs first second = record {
 }
 
 -- what holds of each element of some lists
-pub all-append : {A : Type 0} (P : A → Type 0) (xs ys : List A) → AllByRecursion P xs → AllByRecursion P ys → AllByRecursion P (xs ++ ys)
+pub all-append : {A : Type 0} (P : A → Type 0) (xs ys : List A) → AllByRecursion P xs → AllByRecursion P ys
+    → AllByRecursion P (xs ++ ys)
 all-append P [] ys first second = second
 all-append P (x ∷ xs) ys first second = (first.0, all-append P xs ys first.1 second)
 
@@ -75,7 +76,8 @@ pub all-then : {A : Type 0} (P Q : A → Type 0) → ((x : A) → P x → Q x) �
 all-then P Q more [] all = tt
 all-then P Q more (x ∷ xs) all = (more x all.0, all-then P Q more xs all.1)
 
-pub all-two : {A : Type 0} (P Q R : A → Type 0) → ((x : A) → P x → Q x → R x) → (xs : List A) → AllByRecursion P xs → AllByRecursion Q xs → AllByRecursion R xs
+pub all-two : {A : Type 0} (P Q R : A → Type 0) → ((x : A) → P x → Q x → R x) → (xs : List A) → AllByRecursion P xs
+    → AllByRecursion Q xs → AllByRecursion R xs
 all-two P Q R more [] one other = tt
 all-two P Q R more (x ∷ xs) one other = (more x one.0 other.0, all-two P Q R more xs one.1 other.1)
 

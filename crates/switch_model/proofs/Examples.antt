@@ -29,7 +29,8 @@ use Rattle.switch_model.specs.Conditions.{IsReply}
 use Rattle.switch_model.specs.Examples.{peer_came, opened, nothing_left, ended_channel, quiet_switch, one_circuit, bad_id, torn_while_claimed, two_claimed, crossing_destroys, three_circuits, three_legs, leg_0, more_cells, cell_of, id_of}
 
 -- the answer to an opening may be a reply
-is-reply : (keys : LayerKeys) (id : ℕ) (reply : List ℕ) → IsReply (cell_at id (record { command = created_fast_command; body = reply })) (Some keys)
+is-reply : (keys : LayerKeys) (id : ℕ) (reply : List ℕ)
+    → IsReply (cell_at id (record { command = created_fast_command; body = reply })) (Some keys)
 is-reply keys id reply = record { fixed = refl; command = refl }
 
 -- a good opening on channel 0, where one circuit more may be live
@@ -68,7 +69,8 @@ pub one_circuit-legal : (start : SwitchStart) (keys : LayerKeys) (reply : List �
 unfolding open_effects
 one_circuit-legal start keys reply some = ((tt, refl), first-opened start keys reply some)
 
-pub bad_id-legal : (start : SwitchStart) (keys : LayerKeys) (reply : Cell) → IsReply reply (Some keys) → IsLegal start (bad_id keys reply)
+pub bad_id-legal : (start : SwitchStart) (keys : LayerKeys) (reply : Cell) → IsReply reply (Some keys)
+    → IsLegal start (bad_id keys reply)
 unfolding open_effects
 bad_id-legal start keys reply replies = ((tt, refl), ((replies, refl), ((tt, refl), tt)))
 

@@ -57,20 +57,27 @@ longer-with : (m b : Bool) (e : Event) (ev : List Event) → keys_in e ≡ None 
 longer-with m true e ev none = longer-one m ev e none
 longer-with m false e ev none = longer-none m ev
 
-longer-closing : (m : Bool) (closing : Closing) (e : Event) (old ev more : List Event) → Longer m old (e ∷ ev) → Longer m old ev → Longer m old more → Longer m old (settled_with closing e ev more)
+longer-closing : (m : Bool) (closing : Closing) (e : Event) (old ev more : List Event) → Longer m old (e ∷ ev) → Longer m old ev
+    → Longer m old more → Longer m old (settled_with closing e ev more)
 longer-closing m Goes e old ev more one none all = all
 longer-closing m (Closes reason) e old ev more one none all = one
 longer-closing m Full e old ev more one none all = none
 
-longer-settled : (rules : Rules) (m : Bool) (left : ℕ) (old ev : List Event) (cells : List CircuitCell) → Longer m old ev → Longer m old (settled rules left ev cells)
+longer-settled : (rules : Rules) (m : Bool) (left : ℕ) (old ev : List Event) (cells : List CircuitCell) → Longer m old ev
+    → Longer m old (settled rules left ev cells)
 longer-settled rules m left old ev [] longer = longer
 longer-settled rules m left old ev (cell ∷ cells) longer =
     let one : Longer m old (forward_of cell ∷ ev) = longer-more m old ev (forward_of cell) refl longer in
-    longer-closing m (closing_at rules left ev cell) (forward_of cell) old ev _ one longer (longer-settled rules m left old (forward_of cell ∷ ev) cells one)
+    longer-closing m (closing_at rules left ev cell) (forward_of cell) old ev _ one longer
+    (longer-settled rules m left old (forward_of cell ∷ ev) cells one)
 
-longer-taken : (rules : Rules) (m : Bool) (cell : CircuitCell) (answer : TakeAnswer) (ev : List Event) → Longer m ev (taken_from_hop rules cell answer ev)
-longer-taken rules m cell TakeAnswer.Queued ev = longer-if m (cell.command == 3) (Backward cell.body ∷ ev) (Answered cell.body ∷ ev) ev (longer-one m ev (Backward cell.body) refl) (longer-one m ev (Answered cell.body) refl)
-longer-taken rules m cell (TakeAnswer.Down circ reason) ev = longer-with m (is_awaited (log rules ev) cell && is_some (closes rules ev (Answered cell.body))) (Answered cell.body) ev refl
+longer-taken : (rules : Rules) (m : Bool) (cell : CircuitCell) (answer : TakeAnswer) (ev : List Event)
+    → Longer m ev (taken_from_hop rules cell answer ev)
+longer-taken rules m cell TakeAnswer.Queued ev =
+    longer-if m (cell.command == 3) (Backward cell.body ∷ ev) (Answered cell.body ∷ ev) ev
+    (longer-one m ev (Backward cell.body) refl) (longer-one m ev (Answered cell.body) refl)
+longer-taken rules m cell (TakeAnswer.Down circ reason) ev =
+    longer-with m (is_awaited (log rules ev) cell && is_some (closes rules ev (Answered cell.body))) (Answered cell.body) ev refl
 longer-taken rules m cell answer ev = longer-none m ev
 
 longer-born : (b : Bool) (e : Event) (ev : List Event) → Longer b ev (if b then e ∷ ev else ev)
@@ -82,42 +89,65 @@ edge-unborn serial EventStep.Connected = refl
 edge-unborn serial (EventStep.Data octets) = refl
 edge-unborn serial (EventStep.Ended reason) = refl
 
-pub events-longer : (rules : Rules) (h : List Step) (s : Step) (c : ℕ) → Longer (opens c s) (events rules h c) (events rules (s ∷ h) c)
-events-longer rules h (OpenCircuit chan id reply (Some keys) pad (Opened n)) c = longer-born (n.0 == c) (Born (circuit_cell reply) keys pad) (events rules h c)
-events-longer rules h (OpenCircuit chan id reply None pad (Opened n)) c = longer-if (n.0 == c) (n.0 == c) (events rules h c) (events rules h c) (events rules h c) (longer-none (n.0 == c) (events rules h c)) (longer-none (n.0 == c) (events rules h c))
+pub events-longer : (rules : Rules) (h : List Step) (s : Step) (c : ℕ)
+    → Longer (opens c s) (events rules h c) (events rules (s ∷ h) c)
+events-longer rules h (OpenCircuit chan id reply (Some keys) pad (Opened n)) c =
+    longer-born (n.0 == c) (Born (circuit_cell reply) keys pad) (events rules h c)
+events-longer rules h (OpenCircuit chan id reply None pad (Opened n)) c =
+    longer-if (n.0 == c) (n.0 == c) (events rules h c) (events rules h c) (events rules h c)
+    (longer-none (n.0 == c) (events rules h c)) (longer-none (n.0 == c) (events rules h c))
 events-longer rules h (Take chan cell answer) c =
-    longer-if false (is_hop_leg c (at h chan.0 cell.circ)) (taken_from_hop rules (circuit_cell cell) answer (events rules h c)) (events rules h c) (events rules h c)
+    longer-if false (is_hop_leg c (at h chan.0 cell.circ)) (taken_from_hop rules (circuit_cell cell) answer (events rules h c))
+    (events rules h c) (events rules h c)
     (longer-taken rules false (circuit_cell cell) answer (events rules h c)) (longer-none false (events rules h c))
 events-longer rules h (GiveBack note place answer) c =
-    longer-if false (returns_forth c note answer) (settled rules (length (sent rules h c 0)) (events rules h c) (claimed_cells h note)) (events rules h c) (events rules h c)
-    (longer-settled rules false (length (sent rules h c 0)) (events rules h c) (events rules h c) (claimed_cells h note) (longer-none false (events rules h c))) (longer-none false (events rules h c))
-events-longer rules h (EdgeIn key event Packed) c = longer-with false (key.circ.0 == c) (edge_event key.serial event) (events rules h c) (edge-unborn key.serial event)
-events-longer rules h (Drained key Packed) c = longer-with false (key.circ.0 == c) (DrainedEvent key.serial) (events rules h c) refl
-events-longer rules h (Drained key Counted) c = longer-with false (key.circ.0 == c) (DrainedEvent key.serial) (events rules h c) refl
-events-longer rules h (EdgeOut slot (Some (OrderStep.Close key reason))) c = longer-with false ((key.circ.0 == c) && is_live_circuit rules h c) (Freed key.serial) (events rules h c) refl
-events-longer rules h (DialDone order outcome (DialAnswer.Up n)) c = longer-with false (order.circ.0 == c) Linked (events rules h c) refl
-events-longer rules h (DialDone order outcome (DialAnswer.Closed reason)) c = longer-with false (order.circ.0 == c) Failed (events rules h c) refl
-events-longer rules h (DialDone order outcome (DialAnswer.Full n)) c = longer-with false (order.circ.0 == c) Failed (events rules h c) refl
+    longer-if false (returns_forth c note answer)
+    (settled rules (length (sent rules h c 0)) (events rules h c) (claimed_cells h note)) (events rules h c)
+    (events rules h c)
+    (longer-settled rules false (length (sent rules h c 0)) (events rules h c) (events rules h c) (claimed_cells h note)
+    (longer-none false (events rules h c))) (longer-none false (events rules h c))
+events-longer rules h (EdgeIn key event Packed) c =
+    longer-with false (key.circ.0 == c) (edge_event key.serial event) (events rules h c) (edge-unborn key.serial event)
+events-longer rules h (Drained key Packed) c =
+    longer-with false (key.circ.0 == c) (DrainedEvent key.serial) (events rules h c) refl
+events-longer rules h (Drained key Counted) c =
+    longer-with false (key.circ.0 == c) (DrainedEvent key.serial) (events rules h c) refl
+events-longer rules h (EdgeOut slot (Some (OrderStep.Close key reason))) c =
+    longer-with false ((key.circ.0 == c) && is_live_circuit rules h c) (Freed key.serial) (events rules h c) refl
+events-longer rules h (DialDone order outcome (DialAnswer.Up n)) c =
+    longer-with false (order.circ.0 == c) Linked (events rules h c) refl
+events-longer rules h (DialDone order outcome (DialAnswer.Closed reason)) c =
+    longer-with false (order.circ.0 == c) Failed (events rules h c) refl
+events-longer rules h (DialDone order outcome (DialAnswer.Full n)) c =
+    longer-with false (order.circ.0 == c) Failed (events rules h c) refl
 events-longer rules h s c = longer-none (opens c s) (events rules h c)
 
 -- what is sent on a leg
 pub hop-one : (l : Log) (k : ℕ) → leg_cells l (suc k) ≡ sent_to_hop l (suc k)
 hop-one l k = let positive : (suc k == 0) ≡ false = grind (arith, nat_tests) in rw positive refl
 
-one-more : (rules : Rules) (ev : List Event) (e : Event) → keys_in e ≡ None → (k : ℕ) → Begins (leg_cells (log rules ev) k) (leg_cells (log rules (e ∷ ev)) k)
+one-more : (rules : Rules) (ev : List Event) (e : Event) → keys_in e ≡ None → (k : ℕ)
+    → Begins (leg_cells (log rules ev) k) (leg_cells (log rules (e ∷ ev)) k)
 one-more rules ev e none zero = record { rest = _; all = sym (client_leg_grows rules ev e none) }
 one-more rules ev e none (suc k) =
     let grows = hop_leg_grows rules ev e (suc k) in
-    record { rest = grows.0; all = ap (λ l. l ++ grows.0) (hop-one (log rules ev) k) ∙ sym grows.1 ∙ sym (hop-one (log rules (e ∷ ev)) k) }
+    record {
+      rest = grows.0;
+      all =
+          ap (λ l. l ++ grows.0) (hop-one (log rules ev) k) ∙ sym grows.1 ∙ sym (hop-one (log rules (e ∷ ev)) k);
+    }
 
-one-over : (rules : Rules) (new ev : List Event) → AllByRecursion (λ e. keys_in e ≡ None) new → (k : ℕ) → Begins (leg_cells (log rules ev) k) (leg_cells (log rules (new ++ ev)) k)
+one-over : (rules : Rules) (new ev : List Event) → AllByRecursion (λ e. keys_in e ≡ None) new → (k : ℕ)
+    → Begins (leg_cells (log rules ev) k) (leg_cells (log rules (new ++ ev)) k)
 one-over rules [] ev none k = same-list (leg_cells (log rules ev) k)
 one-over rules (e ∷ new) ev none k = both-begin _ _ _ (one-over rules new ev none.1 k) (one-more rules (new ++ ev) e none.0 k)
 
-pub one-grows : (rules : Rules) (h : List Step) (s : Step) (c k : ℕ) → opens c s ≡ false → Begins (leg_cells (circuit_log rules h c) k) (leg_cells (circuit_log rules (s ∷ h) c) k)
+pub one-grows : (rules : Rules) (h : List Step) (s : Step) (c k : ℕ) → opens c s ≡ false
+    → Begins (leg_cells (circuit_log rules h c) k) (leg_cells (circuit_log rules (s ∷ h) c) k)
 one-grows rules h s c k other =
     let longer = events-longer rules h s c in
-    subst (λ ev. Begins (leg_cells (circuit_log rules h c) k) (leg_cells (log rules ev) k)) longer.all (one-over rules longer.new (events rules h c) (longer.unborn other) k)
+    subst (λ ev. Begins (leg_cells (circuit_log rules h c) k) (leg_cells (log rules ev) k)) longer.all
+    (one-over rules longer.new (events rules h c) (longer.unborn other) k)
 
 -- and as far as it may leave
 sealed-up : (b : Bool) (n count : ℕ) → n ≤ (if b then n + count else n)
@@ -125,7 +155,8 @@ sealed-up true n count = omega arith
 sealed-up false n count = omega arith
 
 sealed-grows : (h : List Step) (s : Step) (c : ℕ) → sealed_count h c ≤ sealed_count (s ∷ h) c
-sealed-grows h (GiveBack note place BackAnswer.Settled) c = sealed-up (same_way (way_of note) (record { circ = c; dir = Back })) (sealed_count h c) note.count
+sealed-grows h (GiveBack note place BackAnswer.Settled) c =
+    sealed-up (same_way (way_of note) (record { circ = c; dir = Back })) (sealed_count h c) note.count
 sealed-grows h s c = omega arith
 
 first-begins : {A : Type 0} (x : A) (xs ys : List A) → Begins xs ys → Begins (x ∷ xs) (x ∷ ys)
@@ -141,7 +172,8 @@ both-take : {A : Type 0} (n m : ℕ) (xs ys : List A) → n ≤ m → Begins xs 
 both-take n m xs ys below begins = subst (λ l. Begins (take n xs) (take m l)) begins.all (take-begins n m xs begins.rest below)
 
 pub sendable-grows : (rules : Rules) (h : List Step) (s : Step) (c k : ℕ) → opens c s ≡ false →
-    Begins (sendable (circuit_log rules h c) (sealed_count h c) k) (sendable (circuit_log rules (s ∷ h) c) (sealed_count (s ∷ h) c) k)
+    Begins (sendable (circuit_log rules h c) (sealed_count h c) k)
+    (sendable (circuit_log rules (s ∷ h) c) (sealed_count (s ∷ h) c) k)
 sendable-grows rules h s c zero other =
     let more = sealed-grows h s c in
     both-take (1 + sealed_count h c) (1 + sealed_count (s ∷ h) c) _ _ (omega (arith, more)) (one-grows rules h s c 0 other)

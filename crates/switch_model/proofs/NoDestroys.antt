@@ -49,7 +49,8 @@ passed-none Absent cell other = tt
 passed-none Dialling cell other = tt
 passed-none Waiting cell other = tt
 
-forward-none : (rules : Rules) (l : Log) (command : ℕ) (r : Received) → (command == 4) ≡ false → GivesNone (forward_effects rules l command r)
+forward-none : (rules : Rules) (l : Log) (command : ℕ) (r : Received) → (command == 4) ≡ false
+    → GivesNone (forward_effects rules l command r)
 forward-none rules l command TooManyEarly other = tt
 forward-none rules l command (Unrecognised plain) other = passed-none (next_hop l) _ other
 forward-none rules l command TooLong other = tt
@@ -64,14 +65,17 @@ unfolding create2
 creating-none None = tt
 creating-none (Some request) = (refl, tt)
 
-open-none : (rules : Rules) (ev : List Event) (e : Event) → FitsBehind rules ev e → GivesNone (open_effects rules (log rules ev) e)
+open-none : (rules : Rules) (ev : List Event) (e : Event) → FitsBehind rules ev e
+    → GivesNone (open_effects rules (log rules ev) e)
 unfolding open_effects
-open-none rules ev (Forward command body) fits = forward-none rules (log rules ev) command (received (log rules ev) command body) fits
+open-none rules ev (Forward command body) fits =
+    forward-none rules (log rules ev) command (received (log rules ev) command body) fits
 open-none rules ev (Born reply keys pad) fits = tt
 open-none rules ev (Backward body) fits = tt
 open-none rules ev (Connected serial) fits = none-given _ (connected-tame (log rules ev) (place_at (log rules ev) serial)).no_cell
 open-none rules ev (Data serial bytes) fits = data-none (log rules ev) bytes (place_at (log rules ev) serial)
-open-none rules ev (Ended serial reason) fits = none-given _ (ended-tame (log rules ev) reason (place_at (log rules ev) serial)).no_cell
+open-none rules ev (Ended serial reason) fits =
+    none-given _ (ended-tame (log rules ev) reason (place_at (log rules ev) serial)).no_cell
 open-none rules ev (Drained serial) fits = none-given _ (drained-tame (log rules ev) (place_at (log rules ev) serial)).no_cell
 open-none rules ev (Freed serial) fits = tt
 open-none rules ev Linked fits = creating-none (newest accepted_request (log rules ev))
@@ -104,7 +108,8 @@ linked-cut rules ev = if-cut (is_closed (log rules ev)) no_effects _ refl (creat
 
 answered-cut : (rules : Rules) (ev : List Event) (payload : List ℕ) → (effects rules ev (Answered payload)).cut ≡ false
 unfolding open_effects
-answered-cut rules ev payload = if-cut (is_closed (log rules ev)) no_effects _ refl (extending-cut (log rules ev) (handshake_reply payload))
+answered-cut rules ev payload =
+    if-cut (is_closed (log rules ev)) no_effects _ refl (extending-cut (log rules ev) (handshake_reply payload))
 
 -- a next hop that is given up has no leg until another is linked
 gone-by : (dials cut : Bool) (old : Option NextHop) → (cut ≡ true) ⊎ (has_leg (unwrap_or old Absent) ≡ false) →
@@ -120,11 +125,17 @@ waiting-leg There waits = refl
 waiting-leg Absent waits = absurd cc
 waiting-leg Dialling waits = absurd cc
 
-answered-by : (rules : Rules) (ev : List Event) (payload : List ℕ) → is_waiting (next_hop (log rules ev)) ≡ true → ((effects rules ev (Answered payload)).cut ≡ true) ⊎ (has_leg (next_hop (log rules ev)) ≡ false) → ⊥
+answered-by : (rules : Rules) (ev : List Event) (payload : List ℕ) → is_waiting (next_hop (log rules ev)) ≡ true
+    → ((effects rules ev (Answered payload)).cut ≡ true) ⊎ (has_leg (next_hop (log rules ev)) ≡ false) → ⊥
 answered-by rules ev payload waits (inl cuts) = let no : false ≡ true = sym (answered-cut rules ev payload) ∙ cuts in cc
-answered-by rules ev payload waits (inr gone) = let no : true ≡ false = sym (waiting-leg (next_hop (log rules ev)) waits) ∙ gone in cc
+answered-by rules ev payload waits (inr gone) = let no : true ≡ false =
+    sym (waiting-leg (next_hop (log rules ev)) waits) ∙ gone in cc
 
-pub hop-gone : (rules : Rules) (ev : List Event) (e : Event) → is_linked e ≡ false → FitsBehind rules ev e → ((effects rules ev e).cut ≡ true) ⊎ (has_leg (next_hop (log rules ev)) ≡ false) → has_leg (next_hop (log rules (e ∷ ev))) ≡ false
+pub hop-gone : (rules : Rules) (ev : List Event) (e : Event) → is_linked e ≡ false → FitsBehind rules ev e
+    → ((effects rules ev e).cut ≡ true) ⊎ (has_leg (next_hop (log rules ev)) ≡ false)
+    → has_leg (next_hop (log rules (e ∷ ev))) ≡ false
 hop-gone rules ev Linked other fits why = absurd cc
 hop-gone rules ev (Answered payload) other fits why = absurd (answered-by rules ev payload fits why)
-hop-gone rules ev e other fits why = gone-by (is_some (effects rules ev e).dial) (effects rules ev e).cut (newest (λ entry. hop_by entry.event entry.effects) (log rules ev)) why
+hop-gone rules ev e other fits why =
+    gone-by (is_some (effects rules ev e).dial) (effects rules ev e).cut
+    (newest (λ entry. hop_by entry.event entry.effects) (log rules ev)) why

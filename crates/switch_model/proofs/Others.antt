@@ -17,7 +17,8 @@ use Rattle.switch_model.specs.History.Past.{past, concerns, names_circuit}
 use Rattle.switch_model.proofs.Common.{or-first, or-second, is_leg-other, is_hop_leg-other}
 
 others : (rules : Rules) (h : List Step) (s : Step) (d : ℕ) → names_circuit h s d ≡ false →
-    is_some (reason_of d (λ chan. lies_on h d (circuit_log rules h d) chan) (teardown s)) ≡ false → past rules (s ∷ h) d ≡ past rules h d
+    is_some (reason_of d (λ chan. lies_on h d (circuit_log rules h d) chan) (teardown s)) ≡ false
+    → past rules (s ∷ h) d ≡ past rules h d
 others rules h (ChannelUp slot side a) d named torn = refl
 others rules h (ChannelDown chan a) d named torn = simp torn
 others rules h (OpenCircuit chan id reply keys pad (Opened n)) d named torn = simp named
@@ -53,5 +54,6 @@ others rules h (Live chan a) d named torn = refl
 others rules h (Halt of) d named torn = refl
 others rules h (Halted a) d named torn = refl
 
-pub other_pasts : (rules : Rules) (h : List Step) (s : Step) (c : ℕ) → concerns rules h s c ≡ false → past rules (s ∷ h) c ≡ past rules h c
+pub other_pasts : (rules : Rules) (h : List Step) (s : Step) (c : ℕ) → concerns rules h s c ≡ false
+    → past rules (s ∷ h) c ≡ past rules h c
 other_pasts rules h s c other = others rules h s c (or-first _ _ other) (or-second _ _ other)

@@ -27,8 +27,10 @@ pub record Passed (is_live is_kept : Bool) (given answer : BackAnswer) : Type 0 
   pub answer_is : given ≡ answer
 
 passed-by : (name inside live kept_one : Bool) (note : ClaimNote) (a b : Difference) (place : Option ℕ) (answer : BackAnswer) →
-    is_accepted_return (if not name then Stranger a else if not inside then Stranger a else if not live then Gone else if not kept_one then Stranger b else returned note place answer) ≡ true →
-    Passed live kept_one (if not name then Stranger a else if not inside then Stranger a else if not live then Gone else if not kept_one then Stranger b else returned note place answer) answer
+    is_accepted_return (if not name then Stranger a else if not inside then Stranger a else if not live then Gone
+    else if not kept_one then Stranger b else returned note place answer) ≡ true →
+    Passed live kept_one (if not name then Stranger a else if not inside then Stranger a else if not live then Gone
+    else if not kept_one then Stranger b else returned note place answer) answer
 passed-by false inside live kept_one note a b place answer accepted = absurd cc
 passed-by true false live kept_one note a b place answer accepted = absurd cc
 passed-by true true false kept_one note a b place answer accepted = absurd cc
@@ -36,10 +38,14 @@ passed-by true true true false note a b place answer accepted = absurd cc
 passed-by true true true true note a b (Some n) answer accepted = absurd cc
 passed-by true true true true note a b None answer accepted = record { live = refl; note = refl; answer_is = refl }
 
-pub passed : (start : SwitchStart) (h : List Step) (note : ClaimNote) (place : Option ℕ) (answer : BackAnswer) → is_accepted_return (return_answer start h note place answer) ≡ true →
-    Passed (is_live_circuit start.rules h note.circ.0) (is_note note (claim_out h (way_of note))) (return_answer start h note place answer) answer
+pub passed : (start : SwitchStart) (h : List Step) (note : ClaimNote) (place : Option ℕ) (answer : BackAnswer)
+    → is_accepted_return (return_answer start h note place answer) ≡ true →
+    Passed (is_live_circuit start.rules h note.circ.0) (is_note note (claim_out h (way_of note)))
+    (return_answer start h note place answer) answer
 passed start h note place answer accepted =
-    passed-by (note.switch == start.name) (nat_lt note.circ.0 (circuits h)) (is_live_circuit start.rules h note.circ.0) (is_note note (claim_out h (way_of note))) note (Note None note) (Note (claim_out h (way_of note)) note) place answer accepted
+    passed-by (note.switch == start.name) (nat_lt note.circ.0 (circuits h)) (is_live_circuit start.rules h note.circ.0)
+    (is_note note (claim_out h (way_of note))) note (Note None note) (Note (claim_out h (way_of note)) note) place answer
+    accepted
 
 -- the first of the cells settle, and all where none closes
 pub record Settles (rules : Rules) (left : ℕ) (ev : List Event) (cells : List CircuitCell) : Type 0 where
@@ -49,7 +55,8 @@ pub record Settles (rules : Rules) (left : ℕ) (ev : List Event) (cells : List 
   pub events_are : settled rules left ev cells ≡ events_behind ev some
   pub all : settling_reason rules left ev cells ≡ None → later ≡ []
 
-settles-by : (rules : Rules) (left : ℕ) (ev : List Event) (cell : CircuitCell) (cells : List CircuitCell) (closing : Closing) → closing_at rules left ev cell ≡ closing →
+settles-by : (rules : Rules) (left : ℕ) (ev : List Event) (cell : CircuitCell) (cells : List CircuitCell) (closing : Closing)
+    → closing_at rules left ev cell ≡ closing →
     Settles rules left (forward_of cell ∷ ev) cells → Settles rules left ev (cell ∷ cells)
 settles-by rules left ev cell cells Goes is behind = record {
   some = cell ∷ behind.some;
@@ -75,9 +82,12 @@ settles-by rules left ev cell cells Full is behind = record {
 
 pub settles : (rules : Rules) (left : ℕ) (ev : List Event) (cells : List CircuitCell) → Settles rules left ev cells
 settles rules left ev [] = record { some = []; later = []; cells_are = refl; events_are = refl; all = λ none. refl }
-settles rules left ev (cell ∷ cells) = settles-by rules left ev cell cells (closing_at rules left ev cell) refl (settles rules left (forward_of cell ∷ ev) cells)
+settles rules left ev (cell ∷ cells) =
+    settles-by rules left ev cell cells (closing_at rules left ev cell) refl (settles rules left (forward_of cell ∷ ev) cells)
 
 -- cells behind some events are the newest forward cells
-pub forth-behind : (rules : Rules) (ev : List Event) (cells : List CircuitCell) → settled_forth (log rules (events_behind ev cells)) ≡ settled_forth (log rules ev) ++ cells
+pub forth-behind : (rules : Rules) (ev : List Event) (cells : List CircuitCell)
+    → settled_forth (log rules (events_behind ev cells)) ≡ settled_forth (log rules ev) ++ cells
 forth-behind rules ev [] = sym (append-nil (settled_forth (log rules ev)))
-forth-behind rules ev (cell ∷ cells) = forth-behind rules (forward_of cell ∷ ev) cells ∙ append_assoc (settled_forth (log rules ev)) (cell ∷ []) cells
+forth-behind rules ev (cell ∷ cells) =
+    forth-behind rules (forward_of cell ∷ ev) cells ∙ append_assoc (settled_forth (log rules ev)) (cell ∷ []) cells

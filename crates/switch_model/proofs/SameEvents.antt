@@ -25,9 +25,11 @@ comparable [] ys a b e = inl (ys, refl)
 comparable (x ∷ xs) [] a b e = inr (x ∷ xs, refl)
 comparable (x ∷ xs) (y ∷ ys) a b e = one-more x y xs ys (first-same e) (comparable xs ys a b (rest-same e))
 
-pub comparable_cells : (start : SwitchStart) (h g : List Step) (c d k : ℕ) → IsLegal start h → IsLegal start g → events start.rules h c ≡ events start.rules g d →
+pub comparable_cells : (start : SwitchStart) (h g : List Step) (c d k : ℕ) → IsLegal start h → IsLegal start g
+    → events start.rules h c ≡ events start.rules g d →
     AreComparable (sent start.rules h c k) (sent start.rules g d k)
 comparable_cells start h g c d k legal other same =
     let one_h = sent_is_prefix start h legal c k in
     let one_g = sent_is_prefix start g other d k in
-    comparable (sent start.rules h c k) (sent start.rules g d k) one_h.0 one_g.0 (one_h.1 ∙ ap (λ ev. leg_cells (log start.rules ev) k) same ∙ sym one_g.1)
+    comparable (sent start.rules h c k) (sent start.rules g d k) one_h.0 one_g.0
+    (one_h.1 ∙ ap (λ ev. leg_cells (log start.rules ev) k) same ∙ sym one_g.1)

@@ -14,7 +14,8 @@ no-number : (b : Bool) (n c : ℕ) → (n == c) ≡ b → c < n → (n == c) ≡
 no-number true n c is above = let same = same-number n c is in absurd (omega (arith, same, above))
 no-number false n c is above = is
 
-pub not-opened : (start : SwitchStart) (h : List Step) (s : Step) (c : ℕ) → IsLegal start (s ∷ h) → c < circuits h → opens c s ≡ false
+pub not-opened : (start : SwitchStart) (h : List Step) (s : Step) (c : ℕ) → IsLegal start (s ∷ h) → c < circuits h
+    → opens c s ≡ false
 not-opened start h (OpenCircuit chan id reply keys pad (Opened n)) c legal was =
     let number = opened-number start h chan.0 id keys n legal.0.1 in
     no-number (n.0 == c) n.0 c refl (omega (arith, number, was))
@@ -28,14 +29,17 @@ record Torn (start : SwitchStart) (h : List Step) (c : ℕ) : Type 0 where
   pub was : c < circuits h
   pub gone : is_live_circuit start.rules h c ≡ false
 
-stays : (start : SwitchStart) (newer older : List Step) (c : ℕ) → IsLegal start (newer ++ older) → Torn start older c → Torn start (newer ++ older) c
+stays : (start : SwitchStart) (newer older : List Step) (c : ℕ) → IsLegal start (newer ++ older) → Torn start older c
+    → Torn start (newer ++ older) c
 stays start [] older c legal torn = torn
 stays start (s ∷ newer) older c legal torn =
     let before = stays start newer older c legal.1 torn in
     record {
       was = more-circuits (newer ++ older) s c before.was;
-      gone = stays-torn start.rules (newer ++ older) s c _ refl (not-opened start (newer ++ older) s c legal before.was) before.gone;
+      gone = stays-torn start.rules (newer ++ older) s c _ refl (not-opened start (newer ++ older) s c legal before.was)
+          before.gone;
     }
 
-pub torn_stays_torn : (start : SwitchStart) (newer older : List Step) (c : ℕ) → IsLegal start (newer ++ older) → c < circuits older → is_live_circuit start.rules older c ≡ false → is_live_circuit start.rules (newer ++ older) c ≡ false
+pub torn_stays_torn : (start : SwitchStart) (newer older : List Step) (c : ℕ) → IsLegal start (newer ++ older)
+    → c < circuits older → is_live_circuit start.rules older c ≡ false → is_live_circuit start.rules (newer ++ older) c ≡ false
 torn_stays_torn start newer older c legal was gone = (stays start newer older c legal (record { was = was; gone = gone })).gone

@@ -24,8 +24,10 @@ use Rattle.switch_model.specs.History.Returns.{Goes, closing_at}
 use Rattle.switch_model.specs.Examples.{hop_cell_then_return}
 use Rattle.switch_model.proofs.Common.{self_eq, drop-front}
 
-pub sent_and_queued : (rules : Rules) (h : List Step) (c k : ℕ) (rest : List CircuitCell) → is_live_circuit rules h c ≡ true → holds_id h c k ≡ true →
-    sent rules h c k ++ rest ≡ sendable (circuit_log rules h c) (sealed_count h c) k → sent rules h c k ++ queue rules h c k ≡ sendable (circuit_log rules h c) (sealed_count h c) k
+pub sent_and_queued : (rules : Rules) (h : List Step) (c k : ℕ) (rest : List CircuitCell) → is_live_circuit rules h c ≡ true
+    → holds_id h c k ≡ true →
+    sent rules h c k ++ rest ≡ sendable (circuit_log rules h c) (sealed_count h c) k
+    → sent rules h c k ++ queue rules h c k ≡ sendable (circuit_log rules h c) (sealed_count h c) k
 sent_and_queued rules h c k rest alive holds known =
     rw (alive, holds, ← known) (ap (λ l. sent rules h c k ++ l) (drop-front (sent rules h c k) rest))
 
@@ -33,23 +35,30 @@ sent_and_queued rules h c k rest alive holds known =
 events_then : (rules : Rules) (h : List Step) (note : ClaimNote) (chan : ChanNo) (from_hop : Cell) (cell : CircuitCell) →
     is_hop_leg note.circ.0 (at h chan.0 from_hop.circ) ≡ true → from_hop.command ≡ 3 → note.dir ≡ Forth →
     claimed_cells (Take chan from_hop Queued ∷ h) note ≡ cell ∷ [] →
-    closing_at rules (length (sent rules h note.circ.0 0)) (Backward (circuit_cell from_hop).body ∷ events rules h note.circ.0) cell ≡ Goes →
-    events rules (hop_cell_then_return note chan from_hop h) note.circ.0 ≡ forward_of cell ∷ Backward (circuit_cell from_hop).body ∷ events rules h note.circ.0
-events_then rules h note chan from_hop cell on_leg relay forth claimed goes = rw (claimed, self_eq note.circ.0, forth, on_leg, relay, goes) refl
+    closing_at rules (length (sent rules h note.circ.0 0)) (Backward (circuit_cell from_hop).body ∷ events rules h note.circ.0)
+    cell ≡ Goes →
+    events rules (hop_cell_then_return note chan from_hop h) note.circ.0 ≡ forward_of cell ∷ Backward (circuit_cell from_hop).body
+    ∷ events rules h note.circ.0
+events_then rules h note chan from_hop cell on_leg relay forth claimed goes =
+    rw (claimed, self_eq note.circ.0, forth, on_leg, relay, goes) refl
 
-behind_then : (rules : Rules) (history : List _) (body answer : List ℕ) (cell : CircuitCell) → is_closed (log rules history) ≡ false →
+behind_then : (rules : Rules) (history : List _) (body answer : List ℕ) (cell : CircuitCell)
+    → is_closed (log rules history) ≡ false →
     (effects rules (Backward body ∷ history) (forward_of cell)).back ≡ Some answer →
     back_bodies (log rules (forward_of cell ∷ Backward body ∷ history)) ≡ back_bodies (log rules history) ++ body ∷ answer ∷ []
 unfolding open_effects
 behind_then rules history body answer cell opened packaged = rw (packaged, opened) (append_assoc _ (body ∷ []) (answer ∷ []))
 
-pub next_hops_body_first : (rules : Rules) (h : List Step) (note : ClaimNote) (chan : ChanNo) (from_hop : Cell) (cell : CircuitCell) (answer : List ℕ) →
+pub next_hops_body_first : (rules : Rules) (h : List Step) (note : ClaimNote) (chan : ChanNo) (from_hop : Cell)
+    (cell : CircuitCell) (answer : List ℕ) →
     is_closed (circuit_log rules h note.circ.0) ≡ false →
     is_hop_leg note.circ.0 (at h chan.0 from_hop.circ) ≡ true → from_hop.command ≡ 3 → note.dir ≡ Forth →
     claimed_cells (Take chan from_hop Queued ∷ h) note ≡ cell ∷ [] →
-    closing_at rules (length (sent rules h note.circ.0 0)) (Backward (circuit_cell from_hop).body ∷ events rules h note.circ.0) cell ≡ Goes →
+    closing_at rules (length (sent rules h note.circ.0 0)) (Backward (circuit_cell from_hop).body ∷ events rules h note.circ.0)
+    cell ≡ Goes →
     (effects rules (Backward (circuit_cell from_hop).body ∷ events rules h note.circ.0) (forward_of cell)).back ≡ Some answer →
-    back_bodies (circuit_log rules (hop_cell_then_return note chan from_hop h) note.circ.0) ≡ back_bodies (circuit_log rules h note.circ.0) ++ (circuit_cell from_hop).body ∷ answer ∷ []
+    back_bodies (circuit_log rules (hop_cell_then_return note chan from_hop h) note.circ.0)
+    ≡ back_bodies (circuit_log rules h note.circ.0) ++ (circuit_cell from_hop).body ∷ answer ∷ []
 next_hops_body_first rules h note chan from_hop cell answer opened on_leg relay forth claimed goes packaged =
     rw (events_then rules h note chan from_hop cell on_leg relay forth claimed goes)
     (behind_then rules (events rules h note.circ.0) (circuit_cell from_hop).body answer cell opened packaged)

@@ -39,7 +39,8 @@ came_home rules h c Back = sealed_count h c
 
 abbrev pub WayHas : Rules → List Step → ℕ → Dir → Type 0
 WayHas rules h c dir =
-    WayIs (is_live_circuit rules h c) (claim_out h (record { circ = c; dir = dir })) (claimed_count h (record { circ = c; dir = dir })) (came_home rules h c dir)
+    WayIs (is_live_circuit rules h c) (claim_out h (record { circ = c; dir = dir }))
+    (claimed_count h (record { circ = c; dir = dir })) (came_home rules h c dir)
     (bodies rules h (record { circ = c; dir = dir }) dir)
 
 -- a circuit that a step doesn't open was live before it
@@ -48,15 +49,19 @@ live-by true torn l none is = absurd cc
 live-by false true l none is = absurd cc
 live-by false false l none is = is
 
-pub was-live : (rules : Rules) (h : List Step) (s : Step) (c : ℕ) → opens c s ≡ false → is_live_circuit rules (s ∷ h) c ≡ true → is_live_circuit rules h c ≡ true
+pub was-live : (rules : Rules) (h : List Step) (s : Step) (c : ℕ) → opens c s ≡ false → is_live_circuit rules (s ∷ h) c ≡ true
+    → is_live_circuit rules h c ≡ true
 was-live rules h s c none is =
-    live-by (opens c s) (is_some (reason_of c (λ chan. lies_on h c (circuit_log rules h c) chan) (teardown s))) (is_live_circuit rules h c) none is
+    live-by (opens c s) (is_some (reason_of c (λ chan. lies_on h c (circuit_log rules h c) chan) (teardown s)))
+    (is_live_circuit rules h c) none is
 
 -- a step that leaves what was claimed and what came home
-pub keeps : (l m : Bool) (out next : Option ClaimNote) (sum total came now given more : ℕ) → (m ≡ true → l ≡ true) → next ≡ out → total ≡ sum → now ≡ came → given ≤ more →
+pub keeps : (l m : Bool) (out next : Option ClaimNote) (sum total came now given more : ℕ) → (m ≡ true → l ≡ true) → next ≡ out
+    → total ≡ sum → now ≡ came → given ≤ more →
     WayIs l out sum came given → WayIs m next total now more
 keeps l m out next sum total came now given more live same_out same_sum same_came grows is = record {
-  home = λ on. let all : sum ≡ came + bodies_with_room next = subst (λ o. sum ≡ came + bodies_with_room o) (sym same_out) (is.home (live on)) in omega (arith, all, same_sum, same_came);
+  home = λ on. let all : sum ≡ came + bodies_with_room next =
+      subst (λ o. sum ≡ came + bodies_with_room o) (sym same_out) (is.home (live on)) in omega (arith, all, same_sum, same_came);
   noted = λ on. subst (λ n. BeginsAt n next) (sym same_came) (subst (λ o. BeginsAt came o) (sym same_out) (is.noted (live on)));
   within = λ on. let below = is.within (live on) in omega (arith, below, grows, same_sum);
 }
@@ -65,7 +70,8 @@ keeps l m out next sum total came now given more live same_out same_sum same_cam
 pub within-limit : (sum given count : ℕ) → sum ≤ given → count ≡ min 32 (given - sum) → sum + count ≤ given
 within-limit sum given count below is = grind (arith, common_steps)
 
-pub claims-more : (l m : Bool) (note : ClaimNote) (out next : Option ClaimNote) (sum total came now given more : ℕ) → (m ≡ true → l ≡ true) → out ≡ None → next ≡ Some note → total ≡ sum + note.count → now ≡ came →
+pub claims-more : (l m : Bool) (note : ClaimNote) (out next : Option ClaimNote) (sum total came now given more : ℕ)
+    → (m ≡ true → l ≡ true) → out ≡ None → next ≡ Some note → total ≡ sum + note.count → now ≡ came →
     given ≤ more → note.first ≡ sum → note.count ≡ min 32 (given - sum) → WayIs l out sum came given → WayIs m next total now more
 claims-more l m note out next sum total came now given more live none some is_total same_came grows first count is = record {
   home = λ on.
@@ -74,7 +80,8 @@ claims-more l m note out next sum total came now given more live none some is_to
   noted = λ on.
       let all : sum ≡ came + 0 = subst (λ o. sum ≡ came + bodies_with_room o) none (is.home (live on)) in
       subst (λ o. BeginsAt now o) (sym some) (omega (arith, all, first, same_came));
-  within = λ on. let below = within-limit sum given note.count (is.within (live on)) count in omega (arith, below, grows, is_total);
+  within = λ on. let below = within-limit sum given note.count (is.within (live on)) count in
+      omega (arith, below, grows, is_total);
 }
 
 -- the note that is kept is the one that came back
@@ -98,7 +105,8 @@ out-is note (Some k) is =
       count = same-number k.count note.count (and-second (k.first == note.first) _ last);
     }
 
-pub comes-home : (l m : Bool) (note : ClaimNote) (out next : Option ClaimNote) (sum came now given more : ℕ) → (m ≡ true → l ≡ true) → next ≡ None → now ≡ came + note.count → given ≤ more → IsOut note out →
+pub comes-home : (l m : Bool) (note : ClaimNote) (out next : Option ClaimNote) (sum came now given more : ℕ)
+    → (m ≡ true → l ≡ true) → next ≡ None → now ≡ came + note.count → given ≤ more → IsOut note out →
     WayIs l out sum came given → WayIs m next sum now more
 comes-home l m note out next sum came now given more live none is_now grows own is = record {
   home = λ on.
@@ -110,7 +118,8 @@ comes-home l m note out next sum came now given more live none is_now grows own 
 }
 
 -- its bodies are all there
-pub there : (l : Bool) (note : ClaimNote) (out : Option ClaimNote) (sum came given : ℕ) → l ≡ true → IsOut note out → WayIs l out sum came given → (note.first ≡ came) × (note.first + note.count ≤ given)
+pub there : (l : Bool) (note : ClaimNote) (out : Option ClaimNote) (sum came given : ℕ) → l ≡ true → IsOut note out
+    → WayIs l out sum came given → (note.first ≡ came) × (note.first + note.count ≤ given)
 there l note out sum came given on own is =
     let all : sum ≡ came + own.claim_out.count = subst (λ o. sum ≡ came + bodies_with_room o) own.out_is (is.home on) in
     let first : own.claim_out.first ≡ came = subst (λ o. BeginsAt came o) own.out_is (is.noted on) in
@@ -119,7 +128,8 @@ there l note out sum came given on own is =
     let below = is.within on in
     (omega (arith, first, same), omega (arith, all, first, same, count, below))
 
-pub count-part : (xs : List CircuitCell) (first count : ℕ) → first + count ≤ length xs → length (take count (drop first xs)) ≡ count
+pub count-part : (xs : List CircuitCell) (first count : ℕ) → first + count ≤ length xs
+    → length (take count (drop first xs)) ≡ count
 count-part xs first count within = grind (arith, common_steps)
 
 -- a circuit that isn't live
@@ -129,7 +139,8 @@ gone-way false out sum came given torn = record { home = λ on. absurd cc; noted
 
 -- whether a step brings a claim of this direction home
 abbrev pub brings_home : ℕ → Dir → Step → Bool
-brings_home c dir (GiveBack note place answer) = same_way (way_of note) (record { circ = c; dir = dir }) && is_accepted_return answer
+brings_home c dir (GiveBack note place answer) =
+    same_way (way_of note) (record { circ = c; dir = dir }) && is_accepted_return answer
 brings_home c dir s = false
 
 and-right : (a b d : Bool) → ((a && b) && d) ≡ false → (a && (b && d)) ≡ false
@@ -140,16 +151,22 @@ and-true : (a : Bool) → (a && true) ≡ a
 and-true true = refl
 and-true false = refl
 
-sealed-other : (rules : Rules) (h : List Step) (note : ClaimNote) (place : Option ℕ) (answer : BackAnswer) (c : ℕ) → brings_home c Back (GiveBack note place answer) ≡ false → sealed_count (GiveBack note place answer ∷ h) c ≡ sealed_count h c
-sealed-other rules h note place BackAnswer.Settled c none = rw (sym (and-true (same_way (way_of note) (record { circ = c; dir = Back }))) ∙ none) refl
+sealed-other : (rules : Rules) (h : List Step) (note : ClaimNote) (place : Option ℕ) (answer : BackAnswer) (c : ℕ)
+    → brings_home c Back (GiveBack note place answer) ≡ false → sealed_count (GiveBack note place answer ∷ h) c ≡ sealed_count h c
+sealed-other rules h note place BackAnswer.Settled c none =
+    rw (sym (and-true (same_way (way_of note) (record { circ = c; dir = Back }))) ∙ none) refl
 sealed-other rules h note place answer c none = refl
 
-pub came-same : (rules : Rules) (h : List Step) (s : Step) (c : ℕ) (dir : Dir) → brings_home c dir s ≡ false → came_home rules (s ∷ h) c dir ≡ came_home rules h c dir
-came-same rules h (GiveBack note place answer) c Forth none = ap (λ (l : List CircuitCell). length l) (forth-same rules h (GiveBack note place answer) c (and-right (note.circ.0 == c) (same_dir note.dir Forth) _ none))
+pub came-same : (rules : Rules) (h : List Step) (s : Step) (c : ℕ) (dir : Dir) → brings_home c dir s ≡ false
+    → came_home rules (s ∷ h) c dir ≡ came_home rules h c dir
+came-same rules h (GiveBack note place answer) c Forth none =
+    ap (λ (l : List CircuitCell). length l)
+    (forth-same rules h (GiveBack note place answer) c (and-right (note.circ.0 == c) (same_dir note.dir Forth) _ none))
 came-same rules h (GiveBack note place answer) c Back none = sealed-other rules h note place answer c none
 came-same rules h s c Forth none = ap (λ (l : List CircuitCell). length l) (forth-same rules h s c refl)
 came-same rules h s c Back none = refl
 
-pub kept-other : (h : List Step) (note : ClaimNote) (place : Option ℕ) (answer : BackAnswer) (c : ℕ) (dir : Dir) → brings_home c dir (GiveBack note place answer) ≡ false →
+pub kept-other : (h : List Step) (note : ClaimNote) (place : Option ℕ) (answer : BackAnswer) (c : ℕ) (dir : Dir)
+    → brings_home c dir (GiveBack note place answer) ≡ false →
     claim_out (GiveBack note place answer ∷ h) (record { circ = c; dir = dir }) ≡ claim_out h (record { circ = c; dir = dir })
 kept-other h note place answer c dir none = rw none refl

@@ -38,7 +38,8 @@ cell_of c command body = record { circ = id_of c; command = command; body = Fixe
 
 -- CREATE_FAST for circuit c is answered by CREATED_FAST with this payload.
 abbrev pub opened : LayerKeys → ℕ → List ℕ → Step
-opened keys c reply = OpenCircuit (chan_no 0) (id_of c) (cell_of c created_fast_command reply) (Some keys) None (Opened (circ_no c))
+opened keys c reply =
+    OpenCircuit (chan_no 0) (id_of c) (cell_of c created_fast_command reply) (Some keys) None (Opened (circ_no c))
 
 -- A cell leaves on channel 0 where this tick is given.
 abbrev pub left : ℕ → Cell → Step

@@ -33,7 +33,8 @@ ghost use Rattle.switch_model.specs.History.Taken.{claimed_cells, taken_forth, t
 /// circuit and for each of its streams.
 #[tactic(auto, using(crate::proofs::WindowsKept::windows_kept))]
 pub fn no_window_is_passed()
-    ensures { (start : SwitchStart) (h : List Step) (c : ℕ) → IsLegal start h → AlwaysKeepsWindows start.rules (events start.rules h c) }
+    ensures { (start : SwitchStart) (h : List Step) (c : ℕ) → IsLegal start h
+        → AlwaysKeepsWindows start.rules (events start.rules h c) }
 {}
 
 /// The bodies from next hops stand in a circuit's history as they were taken, live or torn down.
@@ -67,10 +68,13 @@ pub fn a_closing_body_ends_its_circuit()
 /// On a channel that isn't live nothing leaves. On a live one nothing leaves exactly where it owes no cell.
 #[tactic(auto, using(crate::proofs::Leaving::no_channel_sends, crate::proofs::Leaving::none_leaves, crate::proofs::Leaving::none_is_owed))]
 pub fn nothing_leaves_where_nothing_is_owed()
-    ensures gone { (rules : Rules) (h : List Step) (chan tick : ℕ) → is_live_channel h chan ≡ false → next_cell_answer rules h chan tick ≡ None }
-    ensures none { (rules : Rules) (h : List Step) (chan tick : ℕ) → is_live_channel h chan ≡ true → owed_cells rules h chan ≡ [] →
+    ensures gone { (rules : Rules) (h : List Step) (chan tick : ℕ) → is_live_channel h chan ≡ false
+        → next_cell_answer rules h chan tick ≡ None }
+    ensures none { (rules : Rules) (h : List Step) (chan tick : ℕ) → is_live_channel h chan ≡ true → owed_cells rules h chan ≡ []
+        →
         next_cell_answer rules h chan tick ≡ None }
-    ensures owed { (rules : Rules) (h : List Step) (chan tick : ℕ) → is_live_channel h chan ≡ true → next_cell_answer rules h chan tick ≡ None →
+    ensures owed { (rules : Rules) (h : List Step) (chan tick : ℕ) → is_live_channel h chan ≡ true
+        → next_cell_answer rules h chan tick ≡ None →
         owed_cells rules h chan ≡ [] }
 {}
 

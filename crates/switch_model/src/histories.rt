@@ -74,7 +74,8 @@ pub fn next_hops_body_goes_first()
 /// whatever the reason is.
 #[tactic(auto, using(crate::proofs::Batches::truncated_then_closed))]
 pub fn a_truncated_leg_keeps_its_reason()
-    ensures { (rules : Rules) (h : List Step) (note : ClaimNote) (reason : ℕ) (truncate closer : CircuitCell) (client hop : Port) →
+    ensures { (rules : Rules) (h : List Step) (note : ClaimNote) (reason : ℕ) (truncate closer : CircuitCell) (client hop : Port)
+        →
         is_live_circuit rules h note.circ.0 ≡ true → hops h note.circ.0 ≡ 1 →
         port h note.circ.0 0 ≡ Some client → port h note.circ.0 1 ≡ Some hop → (client.chan == hop.chan) ≡ false →
         at h hop.chan hop.id ≡ Some (record { circ = note.circ.0; number = 1 }) →
@@ -95,12 +96,14 @@ pub fn first_steps_are_legal()
 
 /// A circuit is opened, and the answer to its opening is the first cell that leaves.
 pub fn answer_to_an_opening_leaves()
-    ensures { (start : SwitchStart) (keys : LayerKeys) (reply : List ℕ) → 1 ≤ start.circuits → IsLegal start (one_circuit keys reply) }
+    ensures { (start : SwitchStart) (keys : LayerKeys) (reply : List ℕ) → 1 ≤ start.circuits
+        → IsLegal start (one_circuit keys reply) }
 {}
 
 /// An opening at a CircID of the wrong side is refused, and DESTROY 1 leaves.
 pub fn bad_id_is_answered_by_destroy()
-    ensures { (start : SwitchStart) (keys : LayerKeys) (reply : Cell) → IsReply reply (Some keys) → IsLegal start (bad_id keys reply) }
+    ensures { (start : SwitchStart) (keys : LayerKeys) (reply : Cell) → IsReply reply (Some keys)
+        → IsLegal start (bad_id keys reply) }
 {}
 
 /// A circuit is torn down while its cipher is at a worker: the return finds it gone, one DESTROY 3
@@ -112,7 +115,8 @@ pub fn torn_circuit_sends_one_destroy()
 
 /// A claim takes what waits in its direction, up to 32 bodies: here two.
 pub fn a_claim_takes_what_waits()
-    ensures { (start : SwitchStart) (keys : LayerKeys) (reply first second : List ℕ) → length first ≤ 65535 → length second ≤ 65535 →
+    ensures { (start : SwitchStart) (keys : LayerKeys) (reply first second : List ℕ) → length first ≤ 65535
+        → length second ≤ 65535 →
         1 ≤ start.circuits → IsLegal start (two_claimed start keys reply first second) }
 {}
 

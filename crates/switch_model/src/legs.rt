@@ -37,7 +37,8 @@ pub fn each_leg_sends_the_next_cell()
 /// A DESTROY that waits in a channel's lane is for no leg of a live circuit, so none passes cells of its leg.
 #[tactic(auto, using(crate::proofs::LaneIds::waiting_destroy_apart))]
 pub fn no_waiting_destroy_is_for_a_live_leg()
-    ensures { (start : SwitchStart) (h : List Step) (chan c k : ℕ) (d : Destroy) → IsLegal start h → Contains (lane start.rules h chan) d →
+    ensures { (start : SwitchStart) (h : List Step) (chan c k : ℕ) (d : Destroy) → IsLegal start h
+        → Contains (lane start.rules h chan) d →
         is_leg c k (at h chan d.id) ≡ true → is_live_circuit start.rules h c ≡ false }
 {}
 
@@ -52,7 +53,8 @@ pub fn the_same_events_send_comparable_cells()
 /// Where nothing waits on a leg of a live circuit that has its CircID, all that may leave there was sent.
 #[tactic(auto, using(crate::proofs::LegsAtRest::all_sent))]
 pub fn at_rest_a_leg_has_sent_all()
-    ensures { (start : SwitchStart) (h : List Step) (c k : ℕ) → IsLegal start h → is_live_circuit start.rules h c ≡ true → holds_id h c k ≡ true →
+    ensures { (start : SwitchStart) (h : List Step) (c k : ℕ) → IsLegal start h → is_live_circuit start.rules h c ≡ true
+        → holds_id h c k ≡ true →
         queue start.rules h c k ≡ [] → sent start.rules h c k ≡ sendable (circuit_log start.rules h c) (sealed_count h c) k }
 {}
 
@@ -60,6 +62,7 @@ pub fn at_rest_a_leg_has_sent_all()
 /// channel ended.
 #[tactic(auto, using(crate::proofs::AllSent::at_rest_all_sent))]
 pub fn at_rest_all_is_sent()
-    ensures { (start : SwitchStart) (h : List Step) (c k : ℕ) → IsLegal start h → IsAtRest start.rules h c → is_ended_outside h c k ≡ false →
+    ensures { (start : SwitchStart) (h : List Step) (c k : ℕ) → IsLegal start h → IsAtRest start.rules h c
+        → is_ended_outside h c k ≡ false →
         sent start.rules h c k ≡ leg_cells (circuit_log start.rules h c) k }
 {}

@@ -69,12 +69,14 @@ pub fn one_cell_too_many_closes()
 /// circuit's is, with the count of DATA at which that window stands.
 #[tactic(auto, using(crate::proofs::Fullness::stream_shut, crate::proofs::Fullness::circuit_shut))]
 pub fn a_used_up_window_is_shut()
-    ensures stream { (rules : Rules) (h : List Step) (key : StreamKey) (octets : Octets) → is_live_circuit rules h key.circ.0 ≡ true →
+    ensures stream { (rules : Rules) (h : List Step) (key : StreamKey) (octets : Octets)
+        → is_live_circuit rules h key.circ.0 ≡ true →
         phase_of (circuit_log rules h key.circ.0) key ≡ Joined →
         stream_grant (circuit_log rules h key.circ.0) key.serial ≤ stream_packaged (circuit_log rules h key.circ.0) key.serial →
         edge_in_answer rules h key (EventStep.Data octets)
         ≡ Shut ShutWhy.Stream (stream_packaged (circuit_log rules h key.circ.0) key.serial) }
-    ensures circuit { (rules : Rules) (h : List Step) (key : StreamKey) (octets : Octets) → is_live_circuit rules h key.circ.0 ≡ true →
+    ensures circuit { (rules : Rules) (h : List Step) (key : StreamKey) (octets : Octets)
+        → is_live_circuit rules h key.circ.0 ≡ true →
         phase_of (circuit_log rules h key.circ.0) key ≡ Joined →
         stream_packaged (circuit_log rules h key.circ.0) key.serial < stream_grant (circuit_log rules h key.circ.0) key.serial →
         circuit_grant rules (circuit_log rules h key.circ.0) ≤ circuit_packaged (circuit_log rules h key.circ.0) →

@@ -68,7 +68,8 @@ nothing_given old new worker a jobs is nothing added =
             switch = adds.stands h st.switch;
             jobs =
                 jobs_stay old.start h (Steps.Claim worker None) jobs (legal h st.switch)
-                (record { jobs = λ l claim. refl; leaves = λ l note. record { claim_out = refl; away = refl }; own = tt }) st.jobs;
+                (record { jobs = λ l claim. refl; leaves = λ l note. record { claim_out = refl; away = refl }; own = tt })
+                st.jobs;
             own = (tt, st.own);
           });
       right_is = λ h st. right h st.switch;

@@ -9,7 +9,8 @@ use Rattle.tor_spec.specs.CellStream.{IsBytes}
 use Rattle.tape.specs.Fronts.{field}
 
 -- A field between what is before and behind it.
-pub field_of : (at n : ℕ) (before x later_bytes : List ℕ) → length before ≡ at → length x ≡ n → field at n (before ++ (x ++ later_bytes)) ≡ x
+pub field_of : (at n : ℕ) (before x later_bytes : List ℕ) → length before ≡ at → length x ≡ n
+    → field at n (before ++ (x ++ later_bytes)) ≡ x
 field_of at n before x later_bytes is_at is_n =
     let dropped : drop at (before ++ (x ++ later_bytes)) ≡ x ++ later_bytes =
     ap (λ k. drop k (before ++ (x ++ later_bytes))) (sym is_at) ∙ drop-append_seam before (x ++ later_bytes) in
@@ -18,8 +19,10 @@ field_of at n before x later_bytes is_at is_n =
 pub behind_of : (at : ℕ) (before later_bytes : List ℕ) → length before ≡ at → drop at (before ++ later_bytes) ≡ later_bytes
 behind_of at before later_bytes is = ap (λ k. drop k (before ++ later_bytes)) (sym is) ∙ drop-append_seam before later_bytes
 
-pub byte_of : (at : ℕ) (before : List ℕ) (x : ℕ) (later_bytes : List ℕ) → length before ≡ at → slice_index (before ++ x ∷ later_bytes) at ≡ x
-byte_of at before x later_bytes is = ap (λ k. slice_index (before ++ x ∷ later_bytes) k) (sym is) ∙ get_or-append_seam before x later_bytes 0
+pub byte_of : (at : ℕ) (before : List ℕ) (x : ℕ) (later_bytes : List ℕ) → length before ≡ at
+    → slice_index (before ++ x ∷ later_bytes) at ≡ x
+byte_of at before x later_bytes is =
+    ap (λ k. slice_index (before ++ x ∷ later_bytes) k) (sym is) ∙ get_or-append_seam before x later_bytes 0
 
 pub four : (n : ℕ) → length (to_be_bytes w32 n) ≡ 4
 four n = refl
@@ -34,12 +37,14 @@ field_bytes at n fields bytes i = elim (cases_lt i n) [
 ]
 
 -- The bytes of a number, from its place.
-pub field_4 : (at : ℕ) (fields : List ℕ) → IsBytes fields → at + 4 ≤ length fields → to_be_bytes w32 (from_be_bytes w32 (field at 4 fields)) ≡ field at 4 fields
+pub field_4 : (at : ℕ) (fields : List ℕ) → IsBytes fields → at + 4 ≤ length fields
+    → to_be_bytes w32 (from_be_bytes w32 (field at 4 fields)) ≡ field at 4 fields
 field_4 at fields bytes long =
     let size : length (field at 4 fields) ≡ 4 = length-take-le 4 (drop at fields) (omega (arith, length-drop at fields)) in
     be_bytes_4 (field at 4 fields) _ size (field_bytes at 4 fields bytes) refl
 
-pub field_8 : (at : ℕ) (fields : List ℕ) → IsBytes fields → at + 8 ≤ length fields → to_be_bytes w64 (from_be_bytes w64 (field at 8 fields)) ≡ field at 8 fields
+pub field_8 : (at : ℕ) (fields : List ℕ) → IsBytes fields → at + 8 ≤ length fields
+    → to_be_bytes w64 (from_be_bytes w64 (field at 8 fields)) ≡ field at 8 fields
 field_8 at fields bytes long =
     let size : length (field at 8 fields) ≡ 8 = length-take-le 8 (drop at fields) (omega (arith, length-drop at fields)) in
     be_bytes_8 (field at 8 fields) _ size (field_bytes at 8 fields bytes) refl

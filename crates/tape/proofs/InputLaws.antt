@@ -13,7 +13,8 @@ pub record Reading (before now : Option (List ℕ)) (faults_before faults_now : 
   pub chunk_long : length chunk ≡ 4096
 
 -- n bytes more were read.
-pub read_more : (before now after : Option (List ℕ)) (bytes buffer piece : List ℕ) (n : ℕ) → IsRead before bytes now → ReadsFrom now (Got n) buffer after → piece ≡ take n buffer → IsRead before (bytes ++ piece) after
+pub read_more : (before now after : Option (List ℕ)) (bytes buffer piece : List ℕ) (n : ℕ) → IsRead before bytes now
+    → ReadsFrom now (Got n) buffer after → piece ≡ take n buffer → IsRead before (bytes ++ piece) after
 read_more None now after bytes buffer piece n read reads is =
     subst (λ o. ReadsFrom o (Got n) buffer after) read reads
 read_more (Some told) None after bytes buffer piece n read reads is = absurd read

@@ -108,7 +108,14 @@ job_differs_nowhere s h claim job note place st stands live first =
 
 same-self : (note : ClaimNote) → same_note note note ≡ true
 same-self note =
-    rw (self_eq note.switch, self_eq note.claim, self_eq note.worker, self-way (way_of note), self_eq note.first, self_eq note.count)
+    rw (
+      self_eq note.switch,
+      self_eq note.claim,
+      self_eq note.worker,
+      self-way (way_of note),
+      self_eq note.first,
+      self_eq note.count,
+    )
     refl
 
 pub return_passes : (start : SwitchStart) (h : List Step) (note : ClaimNote) (answer : BackAnswer) →

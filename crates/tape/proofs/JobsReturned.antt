@@ -77,7 +77,8 @@ apart-by rules h claim number job note other true is differs counted stands live
     let same : way_of note ≡ way_of other = way-is (way_of note) (way_of other) is in
     let up : is_live_circuit rules h note.circ.0 ≡ true =
     subst (λ (w : Way). is_live_circuit rules h w.circ ≡ true) (sym same) live in
-    let own : claim_out h (way_of other) ≡ Some note = subst (λ (w : Way). claim_out h w ≡ Some note) same (stands.out up).claim_out in
+    let own : claim_out h (way_of other) ≡ Some note =
+    subst (λ (w : Way). claim_out h w ≡ Some note) same (stands.out up).claim_out in
     let both : Some note ≡ Some other = sym own ∙ out in
     absurd (other-number note other number differs counted cc)
 apart-by rules h claim number job note other false is differs counted stands live out = refl

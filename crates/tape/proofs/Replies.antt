@@ -19,12 +19,18 @@ either false x y first second = second
 refuses : (pad : Option (List ℕ)) (circuit : ℕ) → MayAnswer (refusal pad circuit)
 refuses pad circuit = record { fixed = refl; command = tt }
 
-answers : (pad : Option (List ℕ)) (circuit : ℕ) (answer : Option HandshakeAnswer) → MayAnswer (answered_opening pad circuit answer)
-answers pad circuit (Some answer) = either (nat_le (length answer.reply) 496) (accepted_opening pad circuit answer) (refusal pad circuit) (record { fixed = refl; command = refl }) (refuses pad circuit)
+answers : (pad : Option (List ℕ)) (circuit : ℕ) (answer : Option HandshakeAnswer)
+    → MayAnswer (answered_opening pad circuit answer)
+answers pad circuit (Some answer) =
+    either (nat_le (length answer.reply) 496) (accepted_opening pad circuit answer) (refusal pad circuit)
+    (record { fixed = refl; command = refl }) (refuses pad circuit)
 answers pad circuit None = refuses pad circuit
 
-pub may_answer : (rule : AnswerRule) (y : List ℕ) (pad : Option (List ℕ)) (cell : Cell) → IsReply (opening_under rule y pad cell).reply (opening_under rule y pad cell).keys
+pub may_answer : (rule : AnswerRule) (y : List ℕ) (pad : Option (List ℕ)) (cell : Cell)
+    → IsReply (opening_under rule y pad cell).reply (opening_under rule y pad cell).keys
 unfolding opening_under
 may_answer rule y pad cell =
     either (cell.command == create_fast_command) _ _ (record { fixed = refl; command = refl })
-    (either (cell.command == create2_command) _ _ (answers pad cell.circ (option_and_then (answer_to_request rule y) (handshake_request (payload_of cell.body)))) (refuses pad cell.circ))
+    (either (cell.command == create2_command) _ _
+    (answers pad cell.circ (option_and_then (answer_to_request rule y) (handshake_request (payload_of cell.body))))
+    (refuses pad cell.circ))

@@ -20,7 +20,8 @@ in_range window least are =
     (and_from _ _ (le-leb least 1 are.version) refl)
 
 by_range : (read window least : ℕ) (rest : List ℕ) → read ≡ window → are_rules window least 0 ≡ true →
-    (if are_rules read least 0 then rules_and (tape_rules read least) rest else no_rules) ≡ rules_and (tape_rules window least) rest
+    (if are_rules read least 0 then rules_and (tape_rules read least) rest else no_rules) ≡ rules_and (tape_rules window least)
+    rest
 by_range read window least rest is are =
     ap (λ n. if are_rules n least 0 then rules_and (tape_rules n least) rest else no_rules) is
     ∙ ap (λ (b : Bool). if b then rules_and (tape_rules window least) rest else no_rules) are
@@ -28,15 +29,20 @@ by_range read window least rest is are =
 two : (n : ℕ) → length (to_be_bytes w16 n) ≡ 2
 two n = refl
 
-rules_read : (window least : ℕ) (rest : List ℕ) → AreRules window least → said_rules (to_be_bytes w16 window ++ least ∷ 0 ∷ rest) ≡ rules_and (tape_rules window least) rest
+rules_read : (window least : ℕ) (rest : List ℕ) → AreRules window least
+    → said_rules (to_be_bytes w16 window ++ least ∷ 0 ∷ rest) ≡ rules_and (tape_rules window least) rest
 unfolding said_rules
 rules_read window least rest are =
-    let long : 4 ≤ length (to_be_bytes w16 window ++ least ∷ 0 ∷ rest) = omega (arith, length-append (to_be_bytes w16 window) (least ∷ 0 ∷ rest), two window) in
+    let long : 4 ≤ length (to_be_bytes w16 window ++ least ∷ 0 ∷ rest) =
+    omega (arith, length-append (to_be_bytes w16 window) (least ∷ 0 ∷ rest), two window) in
     let small : window < 2 ^ 16 = omega (arith, are.within) in
     rw (le-ltb (length (to_be_bytes w16 window ++ least ∷ 0 ∷ rest)) 4 long)
-    (by_range (from_be_bytes w16 (to_be_bytes w16 window)) window least rest (from_be_bytes-to_be_bytes_2 window small) (in_range window least are))
+    (by_range (from_be_bytes w16 (to_be_bytes w16 window)) window least rest (from_be_bytes-to_be_bytes_2 window small)
+    (in_range window least are))
 
-pub spelled_is_rules : (front : RulesFront) (tape : List ℕ) (window least : ℕ) (rest : List ℕ) → RulesFrontIs front (rules_ahead tape) → AreRules window least → tape ≡ rules_spelling window least ++ rest → RulesFrontIs front (rules_and (tape_rules window least) rest)
+pub spelled_is_rules : (front : RulesFront) (tape : List ℕ) (window least : ℕ) (rest : List ℕ)
+    → RulesFrontIs front (rules_ahead tape) → AreRules window least → tape ≡ rules_spelling window least ++ rest
+    → RulesFrontIs front (rules_and (tape_rules window least) rest)
 unfolding rules_ahead
 spelled_is_rules front tape window least rest is are spells =
     is ∙ ap rules_ahead spells
@@ -60,15 +66,19 @@ rules_whole fields bytes long zero =
 last_zero : (window least last : ℕ) → are_rules window least last ≡ true → last ≡ 0
 last_zero window least last are = eqb-true last 0 (and_parts _ _ (and_parts _ _ are).1).1
 
-said_by : (short are : Bool) (fields : List ℕ) (rules : Rules) (rest : List ℕ) → IsBytes fields → nat_lt (length fields) 4 ≡ short → are_rules (from_be_bytes w16 (field 0 2 fields)) (slice_index fields 2) (slice_index fields 3) ≡ are →
-    (if short then less_than_rules else (if are then rules_and (tape_rules (from_be_bytes w16 (field 0 2 fields)) (slice_index fields 2)) (drop 4 fields) else no_rules)) ≡ rules_and rules rest →
+said_by : (short are : Bool) (fields : List ℕ) (rules : Rules) (rest : List ℕ) → IsBytes fields → nat_lt (length fields) 4 ≡ short
+    → are_rules (from_be_bytes w16 (field 0 2 fields)) (slice_index fields 2) (slice_index fields 3) ≡ are →
+    (if short then less_than_rules
+    else (if are then rules_and (tape_rules (from_be_bytes w16 (field 0 2 fields)) (slice_index fields 2)) (drop 4 fields)
+    else no_rules)) ≡ rules_and rules rest →
     16 ∷ fields ≡ rules_spelling rules.window rules.least ++ rest
 said_by true are fields rules rest bytes is_short is_are is = cc
 said_by false false fields rules rest bytes is_short is_are is = cc
 said_by false true fields rules rest bytes is_short is_are is =
     let which : rules ≡ tape_rules (from_be_bytes w16 (field 0 2 fields)) (slice_index fields 2) = cc in
     let behind : rest ≡ drop 4 fields = cc in
-    rules_whole fields bytes (ltb-false (length fields) 4 is_short) (last_zero (from_be_bytes w16 (field 0 2 fields)) (slice_index fields 2) (slice_index fields 3) is_are)
+    rules_whole fields bytes (ltb-false (length fields) 4 is_short)
+    (last_zero (from_be_bytes w16 (field 0 2 fields)) (slice_index fields 2) (slice_index fields 3) is_are)
     ∙ ap (λ (q : Rules). rules_spelling q.window q.least ++ drop 4 fields) (sym which)
     ∙ ap (λ xs. rules_spelling rules.window rules.least ++ xs) (sym behind)
 
@@ -83,7 +93,8 @@ ahead_by false kind fields rules rest bytes is_said is =
     let behind : kind ∷ fields ≡ rest = cc in
     inl (which, behind)
 
-read_says_rules : (tape : List ℕ) (rules : Rules) (rest : List ℕ) → IsBytes tape → rules_ahead tape ≡ rules_and rules rest → SaysRules tape rules rest
+read_says_rules : (tape : List ℕ) (rules : Rules) (rest : List ℕ) → IsBytes tape → rules_ahead tape ≡ rules_and rules rest
+    → SaysRules tape rules rest
 unfolding rules_ahead
 read_says_rules [] rules rest bytes is =
     let which : rules ≡ standard_rules = cc in
@@ -92,5 +103,6 @@ read_says_rules [] rules rest bytes is =
 read_says_rules (kind ∷ fields) rules rest bytes is =
     ahead_by _ kind fields rules rest (λ i. bytes (suc i)) refl is
 
-pub rules_are_spelled : (front : RulesFront) (tape : List ℕ) (rules : Rules) (rest : List ℕ) → IsBytes tape → RulesFrontIs front (rules_ahead tape) → RulesFrontIs front (rules_and rules rest) → SaysRules tape rules rest
+pub rules_are_spelled : (front : RulesFront) (tape : List ℕ) (rules : Rules) (rest : List ℕ) → IsBytes tape
+    → RulesFrontIs front (rules_ahead tape) → RulesFrontIs front (rules_and rules rest) → SaysRules tape rules rest
 rules_are_spelled front tape rules rest fits is read = read_says_rules tape rules rest fits (sym is ∙ read)

@@ -31,24 +31,36 @@ use Rattle.tape.proofs.Takes.{take_read}
 use Rattle.tape.proofs.Teardowns.{tear_down_read}
 use Rattle.tape.proofs.Openings.{opened}
 
-up_read : (slot : ℕ) (side : Side) (rest : List ℕ) → slot < 2 ^ 32 → channel_up_front (to_be_bytes w32 slot ++ side_byte side ∷ rest) ≡ record_and (ChannelUp slot side) rest
+up_read : (slot : ℕ) (side : Side) (rest : List ℕ) → slot < 2 ^ 32
+    → channel_up_front (to_be_bytes w32 slot ++ side_byte side ∷ rest) ≡ record_and (ChannelUp slot side) rest
 unfolding channel_up_front
 up_read slot PeerOpened rest small =
-    let long : 5 ≤ length (to_be_bytes w32 slot ++ 0 ∷ rest) = omega (arith, length-append (to_be_bytes w32 slot) (0 ∷ rest), four slot) in
+    let long : 5 ≤ length (to_be_bytes w32 slot ++ 0 ∷ rest) =
+    omega (arith, length-append (to_be_bytes w32 slot) (0 ∷ rest), four slot) in
     rw (le-ltb (length (to_be_bytes w32 slot ++ 0 ∷ rest)) 5 long)
     (ap (λ n. record_and (ChannelUp n PeerOpened) rest) (from_be_bytes-to_be_bytes_4 slot small))
 up_read slot WeOpened rest small =
-    let long : 5 ≤ length (to_be_bytes w32 slot ++ 1 ∷ rest) = omega (arith, length-append (to_be_bytes w32 slot) (1 ∷ rest), four slot) in
+    let long : 5 ≤ length (to_be_bytes w32 slot ++ 1 ∷ rest) =
+    omega (arith, length-append (to_be_bytes w32 slot) (1 ∷ rest), four slot) in
     rw (le-ltb (length (to_be_bytes w32 slot ++ 1 ∷ rest)) 5 long)
     (ap (λ n. record_and (ChannelUp n WeOpened) rest) (from_be_bytes-to_be_bytes_4 slot small))
 
-next_read : (chan tick : ℕ) (rest : List ℕ) → chan < 2 ^ 64 → tick < 2 ^ 64 → next_cell_front (to_be_bytes w64 chan ++ (to_be_bytes w64 tick ++ rest)) ≡ record_and (NextCell (record { 0 = chan }) tick) rest
+next_read : (chan tick : ℕ) (rest : List ℕ) → chan < 2 ^ 64 → tick < 2 ^ 64
+    → next_cell_front (to_be_bytes w64 chan ++ (to_be_bytes w64 tick ++ rest)) ≡ record_and (NextCell (record { 0 = chan }) tick)
+    rest
 unfolding next_cell_front
 next_read chan tick rest c_small t_small =
     let long : 16 ≤ length (to_be_bytes w64 chan ++ (to_be_bytes w64 tick ++ rest)) =
-    omega (arith, length-append (to_be_bytes w64 chan) (to_be_bytes w64 tick ++ rest), length-append (to_be_bytes w64 tick) rest, eight chan, eight tick) in
+    omega (
+      arith,
+      length-append (to_be_bytes w64 chan) (to_be_bytes w64 tick ++ rest),
+      length-append (to_be_bytes w64 tick) rest,
+      eight chan,
+      eight tick,
+    ) in
     rw (le-ltb (length (to_be_bytes w64 chan ++ (to_be_bytes w64 tick ++ rest))) 16 long)
-    (ap (λ n. record_and (NextCell (record { 0 = n }) (from_be_bytes w64 (to_be_bytes w64 tick))) rest) (from_be_bytes-to_be_bytes_8 chan c_small)
+    (ap (λ n. record_and (NextCell (record { 0 = n }) (from_be_bytes w64 (to_be_bytes w64 tick))) rest)
+    (from_be_bytes-to_be_bytes_8 chan c_small)
     ∙ ap (λ n. record_and (NextCell (record { 0 = chan }) n) rest) (from_be_bytes-to_be_bytes_8 tick t_small))
 
 -- The fields of an opening's cell, one after another.
@@ -59,12 +71,15 @@ pub record CellFields (cell : List ℕ) (id command : ℕ) (payload rest : List 
   pub at_rest : drop 514 cell ≡ rest
   pub at_long : 514 ≤ length cell
 
-cell_fields : (id command : ℕ) (payload rest : List ℕ) → length payload ≡ 509 → CellFields (to_be_bytes w32 id ++ command ∷ (payload ++ rest)) id command payload rest
+cell_fields : (id command : ℕ) (payload rest : List ℕ) → length payload ≡ 509
+    → CellFields (to_be_bytes w32 id ++ command ∷ (payload ++ rest)) id command payload rest
 cell_fields id command payload rest p_long =
     let i : List ℕ = to_be_bytes w32 id in
     let at_payload : length (i ++ command ∷ []) ≡ 5 = omega (arith, length-append i (command ∷ []), four id) in
-    let at_rest : length ((i ++ command ∷ []) ++ payload) ≡ 514 = omega (arith, length-append (i ++ command ∷ []) payload, at_payload, p_long) in
-    let to_payload : i ++ command ∷ (payload ++ rest) ≡ (i ++ command ∷ []) ++ (payload ++ rest) = sym (append_assoc i (command ∷ []) (payload ++ rest)) in
+    let at_rest : length ((i ++ command ∷ []) ++ payload) ≡ 514 =
+    omega (arith, length-append (i ++ command ∷ []) payload, at_payload, p_long) in
+    let to_payload : i ++ command ∷ (payload ++ rest) ≡ (i ++ command ∷ []) ++ (payload ++ rest) =
+    sym (append_assoc i (command ∷ []) (payload ++ rest)) in
     let to_rest : i ++ command ∷ (payload ++ rest) ≡ ((i ++ command ∷ []) ++ payload) ++ rest =
     to_payload ∙ sym (append_assoc (i ++ command ∷ []) payload rest) in
     record {
@@ -82,7 +97,8 @@ pub record OpeningParts (fields : List ℕ) (chan : ℕ) (y pad cell : List ℕ)
   pub at_pad : field 28 (length pad) fields ≡ pad
   pub at_cell : drop (28 + length pad) fields ≡ cell
 
-opening_parts : (chan : ℕ) (y pad cell : List ℕ) → length y ≡ 20 → OpeningParts (to_be_bytes w64 chan ++ (y ++ (pad ++ cell))) chan y pad cell
+opening_parts : (chan : ℕ) (y pad cell : List ℕ) → length y ≡ 20
+    → OpeningParts (to_be_bytes w64 chan ++ (y ++ (pad ++ cell))) chan y pad cell
 opening_parts chan y pad cell y_long =
     let c : List ℕ = to_be_bytes w64 chan in
     let at_pad : length (c ++ y) ≡ 28 = omega (arith, length-append c y, eight chan, y_long) in
@@ -107,37 +123,46 @@ abbrev opening : ℕ → List ℕ → Option (List ℕ) → CreateCommand → �
 opening chan y pad command id payload rest =
     record_and (OpenCircuit (record { 0 = chan }) y pad (record { id = id; command = command; payload = payload })) rest
 
-open_read : (head : List ℕ) (pad : Option (List ℕ)) (cell : List ℕ) (chan : ℕ) (y : List ℕ) (id : ℕ) (command : CreateCommand) (payload rest : List ℕ) → chan < 2 ^ 64 → id < 2 ^ 32 →
+open_read : (head : List ℕ) (pad : Option (List ℕ)) (cell : List ℕ) (chan : ℕ) (y : List ℕ) (id : ℕ) (command : CreateCommand)
+    (payload rest : List ℕ) → chan < 2 ^ 64 → id < 2 ^ 32 →
     field 0 8 head ≡ to_be_bytes w64 chan → field 8 20 head ≡ y → CellFields cell id (command_byte command) payload rest →
     opening_front head pad cell ≡ opening chan y pad command id payload rest
 open_read head pad cell chan y id command payload rest c_small i_small at_chan at_y f =
     let short : 5 ≤ length cell = omega (arith, f.at_long) in
-    let read_chan : from_be_bytes w64 (field 0 8 head) ≡ chan = ap (from_be_bytes w64) at_chan ∙ from_be_bytes-to_be_bytes_8 chan c_small in
-    let read_id : from_be_bytes w32 (field 0 4 cell) ≡ id = ap (from_be_bytes w32) f.at_id ∙ from_be_bytes-to_be_bytes_4 id i_small in
+    let read_chan : from_be_bytes w64 (field 0 8 head) ≡ chan =
+    ap (from_be_bytes w64) at_chan ∙ from_be_bytes-to_be_bytes_8 chan c_small in
+    let read_id : from_be_bytes w32 (field 0 4 cell) ≡ id =
+    ap (from_be_bytes w32) f.at_id ∙ from_be_bytes-to_be_bytes_4 id i_small in
     sym (opened head pad cell command short (ap command_of f.at_command ∙ command_read command) f.at_long)
-    ∙ ap (λ n. opening n (field 8 20 head) pad command (from_be_bytes w32 (field 0 4 cell)) (field 5 509 cell) (drop 514 cell)) read_chan
+    ∙ ap (λ n. opening n (field 8 20 head) pad command (from_be_bytes w32 (field 0 4 cell)) (field 5 509 cell) (drop 514 cell))
+    read_chan
     ∙ ap (λ xs. opening chan xs pad command (from_be_bytes w32 (field 0 4 cell)) (field 5 509 cell) (drop 514 cell)) at_y
     ∙ ap (λ n. opening chan y pad command n (field 5 509 cell) (drop 514 cell)) read_id
     ∙ ap (λ xs. opening chan y pad command id xs (drop 514 cell)) f.at_payload
     ∙ ap (λ xs. opening chan y pad command id payload xs) f.at_rest
 
 -- The same of the fields of a whole record, whose cell begins here.
-read_at : (fields : List ℕ) (pad : Option (List ℕ)) (place : ℕ) (chan : ℕ) (y bytes : List ℕ) (request : CircuitRequest) (rest : List ℕ) → chan < 2 ^ 64 → request.id < 2 ^ 32 → length request.payload ≡ 509 →
-    OpeningParts fields chan y bytes (to_be_bytes w32 request.id ++ command_byte request.command ∷ (request.payload ++ rest)) → 28 + length bytes ≡ place →
+read_at : (fields : List ℕ) (pad : Option (List ℕ)) (place : ℕ) (chan : ℕ) (y bytes : List ℕ) (request : CircuitRequest)
+    (rest : List ℕ) → chan < 2 ^ 64 → request.id < 2 ^ 32 → length request.payload ≡ 509 →
+    OpeningParts fields chan y bytes (to_be_bytes w32 request.id ++ command_byte request.command ∷ (request.payload ++ rest))
+    → 28 + length bytes ≡ place →
     opening_front (take 28 fields) pad (drop place fields) ≡ opening chan y pad request.command request.id request.payload rest
 read_at fields pad place chan y bytes request rest c_small i_small p_long parts is_place =
     ap (λ n. opening_front (take 28 fields) pad (drop n fields)) (sym is_place)
     ∙ ap (opening_front (take 28 fields) pad) parts.at_cell
-    ∙ open_read (take 28 fields) pad _ chan y request.id request.command request.payload rest c_small i_small parts.at_chan parts.at_y
+    ∙ open_read (take 28 fields) pad _ chan y request.id request.command request.payload rest c_small i_small parts.at_chan
+    parts.at_y
     (cell_fields request.id (command_byte request.command) request.payload rest p_long)
 
 -- An opening's fields in front of other bytes.
-in_front : (c y pad i : List ℕ) (command : ℕ) (payload rest : List ℕ) → (c ++ (y ++ (pad ++ (i ++ command ∷ payload)))) ++ rest ≡ c ++ (y ++ (pad ++ (i ++ command ∷ (payload ++ rest))))
+in_front : (c y pad i : List ℕ) (command : ℕ) (payload rest : List ℕ)
+    → (c ++ (y ++ (pad ++ (i ++ command ∷ payload)))) ++ rest ≡ c ++ (y ++ (pad ++ (i ++ command ∷ (payload ++ rest))))
 in_front c y pad i command payload rest =
     append_assoc c (y ++ (pad ++ (i ++ command ∷ payload))) rest
     ∙ ap (λ xs. c ++ xs)
     (append_assoc y (pad ++ (i ++ command ∷ payload)) rest
-    ∙ ap (λ xs. y ++ xs) (append_assoc pad (i ++ command ∷ payload) rest ∙ ap (λ xs. pad ++ xs) (append_assoc i (command ∷ payload) rest)))
+    ∙ ap (λ xs. y ++ xs)
+    (append_assoc pad (i ++ command ∷ payload) rest ∙ ap (λ xs. pad ++ xs) (append_assoc i (command ∷ payload) rest)))
 
 pub spelled_is_read : (r : Record) (rest : List ℕ) → FitsFields r → front_of (spelling r ++ rest) ≡ record_and r rest
 unfolding front_of
@@ -147,7 +172,8 @@ spelled_is_read (OpenCircuit chan y None request) rest fits =
     let c : List ℕ = to_be_bytes w64 chan.0 in
     let cell : List ℕ = to_be_bytes w32 request.id ++ command_byte request.command ∷ (request.payload ++ rest) in
     ap open_circuit_front (in_front c y [] (to_be_bytes w32 request.id) (command_byte request.command) request.payload rest)
-    ∙ read_at (c ++ (y ++ cell)) None 28 chan.0 y [] request rest fits.0 fits.3 fits.4 (opening_parts chan.0 y [] cell fits.1) refl
+    ∙ read_at (c ++ (y ++ cell)) None 28 chan.0 y [] request rest fits.0 fits.3 fits.4 (opening_parts chan.0 y [] cell fits.1)
+    refl
 spelled_is_read (OpenCircuit chan y (Some pad) request) rest fits =
     let c : List ℕ = to_be_bytes w64 chan.0 in
     let cell : List ℕ = to_be_bytes w32 request.id ++ command_byte request.command ∷ (request.payload ++ rest) in
@@ -163,7 +189,8 @@ spelled_is_read (Claim worker) rest fits = claim_read worker rest fits
 spelled_is_read (GiveBack claim) rest fits = return_read GiveBack claim rest fits
 spelled_is_read (Abandon claim) rest fits = return_read Abandon claim rest fits
 spelled_is_read (NextCell chan tick) rest fits =
-    ap next_cell_front (append_assoc (to_be_bytes w64 chan.0) (to_be_bytes w64 tick) rest) ∙ next_read chan.0 tick rest fits.0 fits.1
+    ap next_cell_front (append_assoc (to_be_bytes w64 chan.0) (to_be_bytes w64 tick) rest)
+    ∙ next_read chan.0 tick rest fits.0 fits.1
 spelled_is_read (TearDown circ reason) rest fits =
     ap tear_down_front (append_assoc (to_be_bytes w64 circ.0) (reason ∷ []) rest) ∙ tear_down_read circ.0 reason rest fits.0
 

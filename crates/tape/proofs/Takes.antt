@@ -28,7 +28,8 @@ bare_by false (Var list) is = cc
 -- A cell that is well formed, without its spare places, follows from what lies on the link.
 bare_is : (cell : Cell) → IsWellFormed cell → bare_cell cell ≡ cell_from (wire_cell cell)
 bare_is cell formed =
-    ap (λ body. record { circ = cell.circ; command = cell.command; body = body }) (bare_by (is_variable cell.command) cell.body formed.kind)
+    ap (λ body. record { circ = cell.circ; command = cell.command; body = body })
+    (bare_by (is_variable cell.command) cell.body formed.kind)
 
 payload_by : (variable : Bool) (payload : List ℕ) → payload_of (body_from variable payload) ≡ payload
 payload_by true payload = refl
@@ -36,9 +37,12 @@ payload_by false payload = refl
 
 wire_again : (cell : WireCell) → wire_cell (cell_from cell) ≡ cell
 wire_again cell =
-    ap (λ payload. record { circuit = cell.circuit; command = cell.command; payload = payload }) (payload_by (is_variable cell.command) cell.payload)
+    ap (λ payload. record { circuit = cell.circuit; command = cell.command; payload = payload })
+    (payload_by (is_variable cell.command) cell.payload)
 
-pub taken : (chan : ℕ) (fields bytes behind : List ℕ) (cell : Cell) → 8 ≤ length fields → chan ≡ from_be_bytes w64 (field 0 8 fields) → bytes ≡ drop 8 fields → IsWellFormed cell → cell_at bytes ≡ Some (wire_cell cell, behind) →
+pub taken : (chan : ℕ) (fields bytes behind : List ℕ) (cell : Cell) → 8 ≤ length fields
+    → chan ≡ from_be_bytes w64 (field 0 8 fields) → bytes ≡ drop 8 fields → IsWellFormed cell
+    → cell_at bytes ≡ Some (wire_cell cell, behind) →
     record_and (Take (record { 0 = chan }) (bare_cell cell)) behind ≡ take_front fields
 unfolding take_front
 taken chan fields bytes behind cell long is_chan is_bytes formed found =
@@ -47,16 +51,19 @@ taken chan fields bytes behind cell long is_chan is_bytes formed found =
     ∙ ap (λ n. record_and (Take (record { 0 = n }) (cell_from (wire_cell cell))) behind) is_chan
     ∙ ap (front_with_cell (from_be_bytes w64 (field 0 8 fields))) (sym found ∙ ap cell_at is_bytes))
 
-pub cut_cell : (fields bytes : List ℕ) → 8 ≤ length fields → bytes ≡ drop 8 fields → cell_at bytes ≡ None → less ≡ take_front fields
+pub cut_cell : (fields bytes : List ℕ) → 8 ≤ length fields → bytes ≡ drop 8 fields → cell_at bytes ≡ None
+    → less ≡ take_front fields
 unfolding take_front
 cut_cell fields bytes long is_bytes none =
-    rw (le-ltb (length fields) 8 long) (ap (front_with_cell (from_be_bytes w64 (field 0 8 fields))) (sym none ∙ ap cell_at is_bytes))
+    rw (le-ltb (length fields) 8 long)
+    (ap (front_with_cell (from_be_bytes w64 (field 0 8 fields))) (sym none ∙ ap cell_at is_bytes))
 
 pub cut_channel : (fields : List ℕ) → length fields < 8 → less ≡ take_front fields
 unfolding take_front
 cut_channel fields short = rw (lt-ltb (length fields) 8 short) refl
 
-pub take_read : (chan : ℕ) (cell : Cell) (rest : List ℕ) → TakeFits chan cell → take_front (to_be_bytes w64 chan ++ (encoding (wire_cell cell) ++ rest)) ≡ record_and (Take (record { 0 = chan }) cell) rest
+pub take_read : (chan : ℕ) (cell : Cell) (rest : List ℕ) → TakeFits chan cell
+    → take_front (to_be_bytes w64 chan ++ (encoding (wire_cell cell) ++ rest)) ≡ record_and (Take (record { 0 = chan }) cell) rest
 unfolding take_front
 take_read chan cell rest fits =
     let c : List ℕ = to_be_bytes w64 chan in
@@ -67,8 +74,10 @@ take_read chan cell rest fits =
     ∙ ap (front_with_cell chan) (cell_again (wire_cell cell) rest fits.1)
     ∙ ap (λ x. record_and (Take (record { 0 = chan }) x) rest) (sym fits.2))
 
-take_by : (short : Bool) (found : Option (WireCell × List ℕ)) (fields : List ℕ) (r : Record) (rest : List ℕ) → IsBytes fields → nat_lt (length fields) 8 ≡ short → cell_at (drop 8 fields) ≡ found →
-    (if short then less else front_with_cell (from_be_bytes w64 (field 0 8 fields)) found) ≡ record_and r rest → 4 ∷ fields ≡ spelling r ++ rest
+take_by : (short : Bool) (found : Option (WireCell × List ℕ)) (fields : List ℕ) (r : Record) (rest : List ℕ) → IsBytes fields
+    → nat_lt (length fields) 8 ≡ short → cell_at (drop 8 fields) ≡ found →
+    (if short then less else front_with_cell (from_be_bytes w64 (field 0 8 fields)) found) ≡ record_and r rest
+    → 4 ∷ fields ≡ spelling r ++ rest
 take_by true found fields r rest bytes is_short is_found is = cc
 take_by false None fields r rest bytes is_short is_found is = cc
 take_by false (Some found) fields r rest bytes is_short is_found is =
@@ -76,7 +85,8 @@ take_by false (Some found) fields r rest bytes is_short is_found is =
     let which : r ≡ Take (record { 0 = n }) (cell_from found.0) = cc in
     let behind : rest ≡ found.1 = cc in
     let long : 8 ≤ length fields = ltb-false (length fields) 8 is_short in
-    let text : drop 8 fields ≡ encoding found.0 ++ found.1 = (cell_found (drop 8 fields) found (drop_bytes 8 fields bytes) is_found).text in
+    let text : drop 8 fields ≡ encoding found.0 ++ found.1 =
+    (cell_found (drop 8 fields) found (drop_bytes 8 fields bytes) is_found).text in
     let c : List ℕ = to_be_bytes w64 n in
     ap (λ xs. 4 ∷ xs)
     (part 0 8 fields
@@ -86,6 +96,7 @@ take_by false (Some found) fields r rest bytes is_short is_found is =
     ∙ ap (λ w. (c ++ encoding w) ++ found.1) (sym (wire_again found.0)))
     ∙ ap (λ q. spelling q ++ found.1) (sym which) ∙ ap (λ xs. spelling r ++ xs) (sym behind)
 
-pub take_spelled : (fields : List ℕ) (r : Record) (rest : List ℕ) → IsBytes fields → take_front fields ≡ record_and r rest → 4 ∷ fields ≡ spelling r ++ rest
+pub take_spelled : (fields : List ℕ) (r : Record) (rest : List ℕ) → IsBytes fields → take_front fields ≡ record_and r rest
+    → 4 ∷ fields ≡ spelling r ++ rest
 unfolding take_front
 take_spelled fields r rest bytes is = take_by _ _ fields r rest bytes refl refl is

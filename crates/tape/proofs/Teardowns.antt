@@ -12,10 +12,12 @@ use Rattle.tape.specs.Kinds.TearDown.{tear_down_front}
 use Rattle.tape.specs.Spelling.{spelling}
 use Rattle.tape.proofs.Fields.{eight, field_8, part}
 
-pub tear_down_read : (circ reason : ℕ) (rest : List ℕ) → circ < 2 ^ 64 → tear_down_front (to_be_bytes w64 circ ++ reason ∷ rest) ≡ record_and (TearDown (record { 0 = circ }) reason) rest
+pub tear_down_read : (circ reason : ℕ) (rest : List ℕ) → circ < 2 ^ 64
+    → tear_down_front (to_be_bytes w64 circ ++ reason ∷ rest) ≡ record_and (TearDown (record { 0 = circ }) reason) rest
 unfolding tear_down_front
 tear_down_read circ reason rest small =
-    let long : 9 ≤ length (to_be_bytes w64 circ ++ reason ∷ rest) = omega (arith, length-append (to_be_bytes w64 circ) (reason ∷ rest), eight circ) in
+    let long : 9 ≤ length (to_be_bytes w64 circ ++ reason ∷ rest) =
+    omega (arith, length-append (to_be_bytes w64 circ) (reason ∷ rest), eight circ) in
     rw (le-ltb (length (to_be_bytes w64 circ ++ reason ∷ rest)) 9 long)
     (ap (λ n. record_and (TearDown (record { 0 = n }) reason) rest) (from_be_bytes-to_be_bytes_8 circ small))
 
@@ -30,7 +32,8 @@ tear_down_whole fields bytes long =
     ∙ sym (append_assoc c (slice_index fields 8 ∷ []) (drop 9 fields)))
 
 tear_down_by : (short : Bool) (fields : List ℕ) (r : Record) (rest : List ℕ) → IsBytes fields → nat_lt (length fields) 9 ≡ short →
-    (if short then less else record_and (TearDown (record { 0 = from_be_bytes w64 (field 0 8 fields) }) (slice_index fields 8)) (drop 9 fields)) ≡ record_and r rest →
+    (if short then less else record_and (TearDown (record { 0 = from_be_bytes w64 (field 0 8 fields) }) (slice_index fields 8))
+    (drop 9 fields)) ≡ record_and r rest →
     14 ∷ fields ≡ spelling r ++ rest
 tear_down_by true fields r rest bytes is_short is = cc
 tear_down_by false fields r rest bytes is_short is =
@@ -39,6 +42,7 @@ tear_down_by false fields r rest bytes is_short is =
     tear_down_whole fields bytes (ltb-false (length fields) 9 is_short)
     ∙ ap (λ q. spelling q ++ drop 9 fields) (sym which) ∙ ap (λ xs. spelling r ++ xs) (sym behind)
 
-pub tear_down_spelled : (fields : List ℕ) (r : Record) (rest : List ℕ) → IsBytes fields → tear_down_front fields ≡ record_and r rest → 14 ∷ fields ≡ spelling r ++ rest
+pub tear_down_spelled : (fields : List ℕ) (r : Record) (rest : List ℕ) → IsBytes fields
+    → tear_down_front fields ≡ record_and r rest → 14 ∷ fields ≡ spelling r ++ rest
 unfolding tear_down_front
 tear_down_spelled fields r rest bytes is = tear_down_by _ fields r rest bytes refl is

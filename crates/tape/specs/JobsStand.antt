@@ -24,7 +24,8 @@ use Rattle.tape.specs.KeptJobs.{kept_job}
 -- The cipher of the next body of a circuit's direction (tor-spec, "Routing relay cells").
 abbrev pub way_cipher : Rules → Past → Dir → Cipher
 way_cipher rules p Forth = Cipher.Forth (opener_of (next_layer (log rules p.events)))
-way_cipher rules p Back = Cipher.Back (sealer_of (record { key = (born_keys (log rules p.events)).kb; sealed_count = p.sealed_count }))
+way_cipher rules p Back =
+    Cipher.Back (sealer_of (record { key = (born_keys (log rules p.events)).kb; sealed_count = p.sealed_count }))
 
 -- The claim that gave a job, and the job's bodies.
 pub record WasClaimed (rules : Rules) (h : List Step) (job : JobParts) (note : ClaimNote) : Type 0 where

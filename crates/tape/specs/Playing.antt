@@ -33,9 +33,10 @@ pub record PlayerStands (rules : Rules) (p : PlayerState) (h : List Step) : Type
   pub own : HasNoStranger h
 
 -- Whatever history the player stood for, it stands for it with the record's step, and this answer is right.
-pub record Makes {A : Type 0} (rules : Rules) (r : Record) (old new : PlayerState) (answer : A) (right : List Step → A) : Type 0 where
-  pub stands : (h : List Step) → PlayerStands rules old h → PlayerStands rules new (with_step (step_of rules h r) h)
-  pub right_is : (h : List Step) → PlayerStands rules old h → answer ≡ right h
+pub record Makes {A : Type 0} (rules : Rules) (r : Record) (old new : PlayerState) (answer : A) (right : List Step → A) : Type 0
+  where
+    pub stands : (h : List Step) → PlayerStands rules old h → PlayerStands rules new (with_step (step_of rules h r) h)
+    pub right_is : (h : List Step) → PlayerStands rules old h → answer ≡ right h
 
 -- The same where the answer is written behind the others.
 pub record PlaysOn (rules : Rules) (r : Record) (old new : PlayerState) (answers more : List ℕ) : Type 0 where
@@ -49,12 +50,14 @@ pub record HandedOn (answers left : List ℕ) (contents now : Option (List ℕ))
   pub whole : piece ++ left ≡ answers
 
 -- These records were played: their answers are written, but for those that are gathered.
-pub record Gathered (rules : Rules) (first rest : List ℕ) (records : List Record) (answers : List ℕ) (contents now : Option (List ℕ)) : Type 0 where
+pub record Gathered (rules : Rules) (first rest : List ℕ) (records : List Record) (answers : List ℕ)
+    (contents now : Option (List ℕ)) : Type 0 where
   pub read : IsRecords first records rest
   pub handed : HandedOn (output rules records) answers contents now
 
 -- The playing stopped at a place that begins no record which is built, or for want of memory.
-pub record Stopped (rules : Rules) (status : Status) (ending : Ending) (tape first answers : List ℕ) (contents now : Option (List ℕ)) : Type 0 where
+pub record Stopped (rules : Rules) (status : Status) (ending : Ending) (tape first answers : List ℕ)
+    (contents now : Option (List ℕ)) : Type 0 where
   pub records : List Record
   pub rest : List ℕ
   pub behind : SwitchBehind rules records

@@ -44,7 +44,14 @@ pub record SinkRun : Type 0 where
 
 abbrev pub sink_run : Option (List ℕ) → ℕ → Option (List ℕ) → Option (List ℕ) → ℕ → SinkRun
 sink_run contents faults contents_after flushed_after faults_after =
-    record { contents = contents; faults = faults; contents_after = contents_after; flushed_after = flushed_after; faults_after = faults_after }
+    record {
+      contents = contents;
+      faults = faults;
+      contents_after = contents_after;
+      flushed_after = flushed_after;
+      faults_after =
+          faults_after;
+    }
 
 -- All that the sink has taken is flushed.
 abbrev pub IsFlushed : SinkRun → Type 0
@@ -86,12 +93,14 @@ pub record SameReading (a b : List Record) (x y : List ℕ) : Type 0 where
 -- The bytes from the first record on have no other reading, up to a place that begins no record.
 abbrev pub IsOnlyReading : List ℕ → List Record → List ℕ → Type 0
 IsOnlyReading first records rest =
-    (others : List Record) (other : List ℕ) → IsRecords first others other → BeginsNone other → SameReading records others rest other
+    (others : List Record) (other : List ℕ) → IsRecords first others other → BeginsNone other
+    → SameReading records others rest other
 
 -- The answers of some first records are the front of those of all.
 abbrev pub IsFrontOfOutput : Rules → List ℕ → List ℕ → Type 0
 IsFrontOfOutput rules first answers =
-    (all : List Record) (rest : List ℕ) → IsRecords first all rest → BeginsNone rest → (behind : List ℕ) × (output rules all ≡ answers ++ behind)
+    (all : List Record) (rest : List ℕ) → IsRecords first all rest → BeginsNone rest
+    → (behind : List ℕ) × (output rules all ≡ answers ++ behind)
 
 -- What was sent on leg k of circuit c begins what the one-thread relay sends there.
 abbrev pub BeginsOnLeg : SwitchStart → List Step → ℕ → ℕ → Type 0

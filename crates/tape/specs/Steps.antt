@@ -45,7 +45,8 @@ abandon_of rules h note = abandon_answer (tape_start rules) h note None
 abbrev pub step_of : Rules → List Step → Record → Option Step
 step_of rules h (ChannelUp slot side) = Some (Steps.ChannelUp slot side (channel_up_answer h))
 step_of rules h (OpenCircuit chan y pad request) =
-    Some (Steps.OpenCircuit chan request.id (opening_for request y pad).reply (opening_for request y pad).keys (opening_for request y pad).pad
+    Some (Steps.OpenCircuit chan request.id (opening_for request y pad).reply (opening_for request y pad).keys
+    (opening_for request y pad).pad
     (open_answer (tape_start rules) h chan.0 request.id (opening_for request y pad).keys))
 step_of rules h (Take chan cell) = Some (Steps.Take chan cell (take_answer rules h chan.0 cell))
 step_of rules h (Claim worker) = Some (Steps.Claim worker (claim_answer (tape_start rules) h worker))

@@ -20,7 +20,8 @@ const PAYLOAD: usize = 509;
 /// The cell that the bytes begin with, if all of it is there, and what is behind it. Only a cell of variable length
 /// takes memory.
 pub fn first_cell(alloc: Global, bytes: &[u8]) -> Result<Option<(Cell, &[u8])>, AllocError>
-    ensures cell { IfOk result (λ found. MatchOption found (cell_at bytes.now ≡ None) (λ x. cell_at bytes.now ≡ Some (wire_cell x.0, x.1.now))) }
+    ensures cell { IfOk result
+        (λ found. MatchOption found (cell_at bytes.now ≡ None) (λ x. cell_at bytes.now ≡ Some (wire_cell x.0, x.1.now))) }
     ensures well_formed { IfOk result (λ found. IfSome found (λ x. IsWellFormed x.0)) }
     ensures shorter { IfOk result (λ found. IfSome found (λ x. length x.1.now < length bytes.now)) }
 {

@@ -13,8 +13,10 @@ use std::alloc::{AllocError, Global};
 /// as one spells it. Only a cell of variable length takes memory.
 pub fn read_front(alloc: Global, bytes: &[u8]) -> Result<Front<'_>, AllocError>
     ensures front { IfOk result (λ front. FrontIs front (front_of bytes.now)) }
-    ensures read { IfOk result (λ front. (r : RecordValue) (rest : List ℕ) → FitsFields r → bytes.now ≡ spelling r ++ rest → FrontIs front (record_and r rest)) }
-    ensures spelled { IfOk result (λ front. (r : RecordValue) (rest : List ℕ) → FrontIs front (record_and r rest) → bytes.now ≡ spelling r ++ rest) }
+    ensures read { IfOk result (λ front. (r : RecordValue) (rest : List ℕ) → FitsFields r → bytes.now ≡ spelling r ++ rest
+        → FrontIs front (record_and r rest)) }
+    ensures spelled { IfOk result (λ front. (r : RecordValue) (rest : List ℕ) → FrontIs front (record_and r rest)
+        → bytes.now ≡ spelling r ++ rest) }
     ensures meets { IfOk result FrontMeetsCall }
     ensures shorter { IfOk result (λ front. RestIsShorter front (length bytes.now)) }
 {

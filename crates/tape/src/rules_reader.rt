@@ -11,8 +11,10 @@ use crate::rules::{LEAST_WINDOW, RulesFront, STANDARD_WINDOW, TapeRules};
 #[tactic(auto, using(crate::proofs::RuleSpellings::spelled_is_rules))]
 pub fn read_rules(tape: &[u8]) -> RulesFront<'_>
     ensures front { RulesFrontIs result (rules_ahead tape.now) }
-    ensures read { (window least : ℕ) (rest : List ℕ) → AreRules window least → tape.now ≡ rules_spelling window least ++ rest → RulesFrontIs result (rules_and (tape_rules window least) rest) }
-    ensures spelled { (rules : Rules) (rest : List ℕ) → RulesFrontIs result (rules_and rules rest) → SaysRules tape.now rules rest }
+    ensures read { (window least : ℕ) (rest : List ℕ) → AreRules window least → tape.now ≡ rules_spelling window least ++ rest
+        → RulesFrontIs result (rules_and (tape_rules window least) rest) }
+    ensures spelled { (rules : Rules) (rest : List ℕ) → RulesFrontIs result (rules_and rules rest)
+        → SaysRules tape.now rules rest }
     ensures within { RestIsWithin result (length tape.now) }
 {
     rules_front(tape)

@@ -45,7 +45,8 @@ pub fn tape_main<S: Source, K: Sink>(
     ensures run { is_tape_line (map string_bytes words.now) ≡ true → IsRun result
         (source_run (S.rest source.old) (S.faults source.old) (S.rest source.new) (S.faults source.new))
         (sink_run (K.written sink.old) (K.faults sink.old) (K.written sink.new) (K.flushed sink.new) (K.faults sink.new)) }
-    ensures done { is_tape_line (map string_bytes words.now) ≡ true → (tape : List ℕ) (rules : Rules) (records : List Record) → IsGood tape rules records
+    ensures done { is_tape_line (map string_bytes words.now) ≡ true → (tape : List ℕ) (rules : Rules) (records : List Record)
+        → IsGood tape rules records
         (source_run (S.rest source.old) (S.faults source.old) (S.rest source.new) (S.faults source.new))
         (sink_run (K.written sink.old) (K.faults sink.old) (K.written sink.new) (K.flushed sink.new) (K.faults sink.new)) →
         IsDone result rules records (sink_run (K.written sink.old) (K.faults sink.old) (K.written sink.new) (K.flushed sink.new) (K.faults sink.new)) }
@@ -74,7 +75,8 @@ fn play<K: Sink>(alloc: Global, input: &Input, sink: &mut K) -> Status
     ensures status { IsRunStatus result }
     ensures read { result ≡ Status.ReadFault → input.now.ending ≡ Ending.Fault }
     ensures write { result ≡ Status.WriteFault → Rose (K.faults sink.old) (K.faults sink.new) }
-    ensures play { EndsPlay result input.now.ending input.now.bytes.items (sink_run (K.written sink.old) (K.faults sink.old) (K.written sink.new) (K.flushed sink.new) (K.faults sink.new)) }
+    ensures play { EndsPlay result input.now.ending input.now.bytes.items
+        (sink_run (K.written sink.old) (K.faults sink.old) (K.written sink.new) (K.flushed sink.new) (K.faults sink.new)) }
 {
     let tape = input.bytes.as_slice();
     match read_rules(tape) {
@@ -98,7 +100,8 @@ fn play_under<K: Sink>(
     ensures status { IsRunStatus result }
     ensures read { result ≡ Status.ReadFault → input.now.ending ≡ Ending.Fault }
     ensures write { result ≡ Status.WriteFault → Rose (K.faults sink.old) (K.faults sink.new) }
-    ensures play { EndsPlay result input.now.ending input.now.bytes.items (sink_run (K.written sink.old) (K.faults sink.old) (K.written sink.new) (K.flushed sink.new) (K.faults sink.new)) }
+    ensures play { EndsPlay result input.now.ending input.now.bytes.items
+        (sink_run (K.written sink.old) (K.faults sink.old) (K.written sink.new) (K.flushed sink.new) (K.faults sink.new)) }
 {
     let Ok(mut player) = Player::new(alloc, rules) else {
         return Status::Memory;
@@ -131,8 +134,12 @@ fn play_records<K: Sink>(
     ensures read { IfOk result (λ status. status ≡ Status.ReadFault → input.now.ending ≡ Ending.Fault) }
     ensures written { IfOk result (λ status. ¬ (status ≡ Status.WriteFault)) }
     ensures counted { K.faults sink.old ≤ K.faults sink.new }
-    ensures stopped { IfOk result (λ status. Stopped player.old.switch.start.rules status input.now.ending input.now.bytes.items first.now player.new.answers.items (K.written sink.old) (K.written sink.new)) }
-    ensures broken { OnErr result (Broken player.old.switch.start.rules first.now (K.written sink.old) (K.written sink.new) (K.faults sink.old) (K.faults sink.new)) }
+    ensures stopped { IfOk result
+        (λ status. Stopped player.old.switch.start.rules status input.now.ending input.now.bytes.items first.now
+        player.new.answers.items (K.written sink.old) (K.written sink.new)) }
+    ensures broken { OnErr result
+        (Broken player.old.switch.start.rules first.now (K.written sink.old) (K.written sink.new) (K.faults sink.old)
+        (K.faults sink.new)) }
 {
     let tape = input.bytes.as_slice();
     let mut rest = first;
@@ -173,7 +180,8 @@ fn hand_on<K: Sink>(player: &mut Player, sink: &mut K) -> Result<(), WriteFault>
     ensures switch { player.new.switch ≡ player.old.switch }
     ensures jobs { player.new.jobs ≡ player.old.jobs }
     ensures counted { K.faults sink.old ≤ K.faults sink.new }
-    ensures ok { OnOk result (HandedOn player.old.answers.items player.new.answers.items (K.written sink.old) (K.written sink.new)) }
+    ensures ok { OnOk result
+        (HandedOn player.old.answers.items player.new.answers.items (K.written sink.old) (K.written sink.new)) }
     ensures err { OnErr result (IsPartWritten (K.written sink.old) player.old.answers.items (K.written sink.new)) }
     ensures cause { OnErr result (Rose (K.faults sink.old) (K.faults sink.new)) }
 {

@@ -60,7 +60,8 @@ IsSaid text e =
     IsWritten e.contents text e.contents_after ⊎ (IsPartWritten e.contents text e.contents_after × Rose e.faults e.faults_after)
 
 -- A run of the command line that these words are ends with this status.
-pub record EndsAs {S K : Type 0} (words : List (List ℕ)) (status : Status) (source source_after : S) (sink sink_after : K) (r : SourceRun) (w : SinkRun) : Type 0 where
+pub record EndsAs {S K : Type 0} (words : List (List ℕ)) (status : Status) (source source_after : S) (sink sink_after : K)
+    (r : SourceRun) (w : SinkRun) : Type 0 where
   pub usage : is_tape_line words ≡ false → status ≡ Usage
   pub unused : is_tape_line words ≡ false → (source_after ≡ source) × (sink_after ≡ sink)
   pub possible : is_tape_line words ≡ true → IsRunStatus status
@@ -76,7 +77,8 @@ pub record Tells (number : ℕ) (status : Status) (e : SinkRun) : Type 0 where
   pub said : IsSaid (message status) e
 
 -- A run with these words.
-pub record IsProgramRun {S K : Type 0} (words : List (List ℕ)) (number : ℕ) (source source_after : S) (sink sink_after : K) (r : SourceRun) (w e : SinkRun) : Type 0 where
+pub record IsProgramRun {S K : Type 0} (words : List (List ℕ)) (number : ℕ) (source source_after : S) (sink sink_after : K)
+    (r : SourceRun) (w e : SinkRun) : Type 0 where
   pub status : Status
   pub tells : Tells number status e
   pub ends : EndsAs words status source source_after sink sink_after r w

@@ -41,7 +41,9 @@ pub fn run_program<S: Source, K: Sink, E: Sink>(
 
 /// Says how the program ended, and gives the number that it exits with.
 pub fn end_program<E: Sink>(status: Status, errors: &mut E) -> u8
-    ensures { Tells result status (sink_run (E.written errors.old) (E.faults errors.old) (E.written errors.new) (E.flushed errors.new) (E.faults errors.new)) }
+    ensures { Tells result status
+        (sink_run (E.written errors.old) (E.faults errors.old) (E.written errors.new) (E.flushed errors.new)
+        (E.faults errors.new)) }
 {
     report(status, errors);
     status.number()
@@ -61,7 +63,9 @@ pub fn end_without_words(error: &io::Error) -> Status
 /// Says how the program ended, unless all was done. A fault of standard error is passed over.
 #[tactic(auto, using(crate::proofs::Programs::says_nothing))]
 fn report<E: Sink>(status: Status, errors: &mut E)
-    ensures { IsSaid (message status) (sink_run (E.written errors.old) (E.faults errors.old) (E.written errors.new) (E.flushed errors.new) (E.faults errors.new)) }
+    ensures { IsSaid (message status)
+        (sink_run (E.written errors.old) (E.faults errors.old) (E.written errors.new) (E.flushed errors.new)
+        (E.faults errors.new)) }
 {
     match status {
         Status::Done => {}
@@ -71,7 +75,9 @@ fn report<E: Sink>(status: Status, errors: &mut E)
 
 /// Writes a text, as far as it can be.
 fn say<E: Sink>(text: &str, errors: &mut E)
-    ensures { IsSaid text.now (sink_run (E.written errors.old) (E.faults errors.old) (E.written errors.new) (E.flushed errors.new) (E.faults errors.new)) }
+    ensures { IsSaid text.now
+        (sink_run (E.written errors.old) (E.faults errors.old) (E.written errors.new) (E.flushed errors.new)
+        (E.faults errors.new)) }
 {
     let _ = write_all(text.as_bytes(), errors);
 }

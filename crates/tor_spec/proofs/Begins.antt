@@ -41,7 +41,8 @@ unfolding port_of_text
 port_bytes text port is =
     let value = decimal_value text in
     let tests = chosen (is_port_text text && leb 1 value && leb value 65535) value port is in
-    port_text text (and_true (is_port_text text) (leb 1 value) (and_true (is_port_text text && leb 1 value) (leb value 65535) tests.0).0).0
+    port_text text
+    (and_true (is_port_text text) (leb 1 value) (and_true (is_port_text text && leb 1 value) (leb value 65535) tests.0).0).0
 
 other_bytes : (text : List ℕ) (byte : ℕ) → IsPortText text → byte < 48 ⊎ 57 < byte → All (λ b. b ≢ byte) text
 other_bytes text byte is outside =

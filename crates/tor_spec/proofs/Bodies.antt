@@ -14,7 +14,8 @@ pub relay_body_head : (command stream : ℕ) (payload : List ℕ) → stream < 2
     → relay_head (relay_body command stream payload) ≡ unsealed_head command stream (length payload)
 unfolding relay_head relay_body relay_head_bytes
 relay_body_head command stream payload s_small p_small =
-    heads command (from_be_bytes w16 (to_be_bytes w16 stream)) (from_be_bytes w16 (to_be_bytes w16 (length payload))) stream (length payload)
+    heads command (from_be_bytes w16 (to_be_bytes w16 stream)) (from_be_bytes w16 (to_be_bytes w16 (length payload))) stream
+    (length payload)
     (from_be_bytes-to_be_bytes_2 stream s_small) (from_be_bytes-to_be_bytes_2 (length payload) p_small)
 
 relay_body_data : (command stream : ℕ) (payload : List ℕ)
@@ -26,7 +27,8 @@ pub relay_body_payload : (command stream : ℕ) (payload : List ℕ) → stream 
     → payload_of (relay_body command stream payload) ≡ payload
 unfolding payload_of
 relay_body_payload command stream payload s_small short =
-    ap (λ h. take h.length (drop 11 (relay_body command stream payload))) (relay_body_head command stream payload s_small (omega arith))
+    ap (λ h. take h.length (drop 11 (relay_body command stream payload)))
+    (relay_body_head command stream payload s_small (omega arith))
     ∙ ap (take (length payload)) (relay_body_data command stream payload)
     ∙ take_at payload (replicate (498 - length payload) 0) (length payload) refl
 

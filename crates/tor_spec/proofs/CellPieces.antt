@@ -79,7 +79,8 @@ first-pieces-at a b (Some x) w = first-wrong a b x w
 first-pieces-at a b None w = first-at a b w (first_at a) refl
 
 pieces-at : (opening : Bool) (bytes b : List ℕ)
-    → reading (record { opening = opening; bytes = bytes ++ b }) ≡ then_piece (reading (record { opening = opening; bytes = bytes })) b
+    → reading (record { opening = opening; bytes = bytes ++ b })
+    ≡ then_piece (reading (record { opening = opening; bytes = bytes })) b
 unfolding reading
 pieces-at true bytes b = first-pieces-at bytes b (wrong_start bytes) refl
 pieces-at false bytes b = later-pieces bytes b
@@ -116,7 +117,13 @@ unfolding refusal
 refused-wrong a b x e =
     let long = wrong_start-told a x e in
     let three : length (take 3 a) ≡ 3 = length-take-le 3 a long in
-    rw (first_reading-wrong a x e, wrong_start-append (take 3 a) b (omega arith), wrong_start-take a x e, wrong_start-append a b long, e) refl
+    rw (
+      first_reading-wrong a x e,
+      wrong_start-append (take 3 a) b (omega arith),
+      wrong_start-take a x e,
+      wrong_start-append a b long,
+      e,
+    ) refl
 
 refused-at : (a b : List ℕ) → wrong_start a ≡ None → (o : Option (WireCell × List ℕ)) → first_at a ≡ o
     → refusal (with_piece (first_reading a).left b) ≡ wrong_start (a ++ b)
@@ -134,7 +141,8 @@ refused-pieces-at a b (Some x) w = refused-wrong a b x w
 refused-pieces-at a b None w = refused-at a b w (first_at a) refl
 
 refused-by : (opening : Bool) (bytes b : List ℕ)
-    → refusal (with_piece (reading (record { opening = opening; bytes = bytes })).left b) ≡ refusal (record { opening = opening; bytes = bytes ++ b })
+    → refusal (with_piece (reading (record { opening = opening; bytes = bytes })).left b)
+    ≡ refusal (record { opening = opening; bytes = bytes ++ b })
 unfolding reading refusal
 refused-by true bytes b = refused-pieces-at bytes b (wrong_start bytes) refl
 refused-by false bytes b = refused-open (later_reading bytes).left b (later-open bytes)

@@ -116,7 +116,8 @@ first_size-take a n e within =
     let long : length (take n a) ≡ n = length-take-le n a within in
     let told = first_size_told a n e in
     let size = told.1 in
-    rw long (first_size_is (take n a) n (omega arith) (rw (get_or-take n a 3 0 (omega arith), get_or-take n a 4 0 (omega arith)) size))
+    rw long (first_size_is (take n a) n (omega arith)
+    (rw (get_or-take n a 3 0 (omega arith), get_or-take n a 4 0 (omega arith)) size))
 
 -- Where no size is told yet, the bytes are fewer than any size that will be.
 pub untold_short : (a b : List ℕ) (n : ℕ) → cell_size a ≡ None → cell_size (a ++ b) ≡ Some n → length a ≤ n

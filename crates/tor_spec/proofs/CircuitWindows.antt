@@ -10,7 +10,8 @@ spread true d xs ys zs e = ap (λ (l : List (List ℕ)). d ∷ l) e
 spread false d xs ys zs e = e
 
 pub hundredths-append : (n : ℕ) (digests : List (List ℕ)) (digest : List ℕ) →
-    hundredths n (digests ++ digest ∷ []) ≡ hundredths n digests ++ (if (n + length digests + 1) % 100 == 0 then digest ∷ [] else [])
+    hundredths n (digests ++ digest ∷ []) ≡ hundredths n digests
+    ++ (if (n + length digests + 1) % 100 == 0 then digest ∷ [] else [])
 hundredths-append n [] digest =
     let here : n + 0 + 1 ≡ n + 1 = omega arith in
     rw here refl
@@ -31,7 +32,8 @@ length-hundredths n [] =
     rw here (omega arith)
 length-hundredths n (d ∷ digests) =
     let on : n + suc (length digests) ≡ n + 1 + length digests = omega arith in
-    let more : length (if (n + 1) % 100 == 0 then d ∷ hundredths (n + 1) digests else hundredths (n + 1) digests) ≡ (if (n + 1) % 100 == 0 then 1 else 0) + length (hundredths (n + 1) digests) =
+    let more : length (if (n + 1) % 100 == 0 then d ∷ hundredths (n + 1) digests else hundredths (n + 1) digests)
+    ≡ (if (n + 1) % 100 == 0 then 1 else 0) + length (hundredths (n + 1) digests) =
     counted ((n + 1) % 100 == 0) d (hundredths (n + 1) digests) in
     rw (on, more) (omega (arith, one_more n, length-hundredths (n + 1) digests))
 

@@ -57,9 +57,11 @@ option_map-option_or f None b = refl
 option_map-option_or f (Some x) b = refl
 
 -- a step of a loop over the specifiers
-pub destination_step : {X : Type 0} (f : X → Address) (to address next : Option X) (count i : ℕ) (bytes : List ℕ) (s : Specifier) (rest : List ℕ)
+pub destination_step : {X : Type 0} (f : X → Address) (to address next : Option X) (count i : ℕ) (bytes : List ℕ) (s : Specifier)
+    (rest : List ℕ)
     → i < count → specifier bytes ≡ Some (s, rest) → option_map f address ≡ first_address (s ∷ []) → next ≡ option_or to address
-    → behind_earlier (option_map f to) (destination (count - i) bytes) ≡ behind_earlier (option_map f next) (destination (count - (i + 1)) rest)
+    → behind_earlier (option_map f to) (destination (count - i) bytes) ≡ behind_earlier (option_map f next)
+    (destination (count - (i + 1)) rest)
 destination_step f to address next count i bytes s rest more read found is =
     let left : count - i ≡ suc (count - (i + 1)) = omega arith in
     ap (λ n. behind_earlier (option_map f to) (destination n bytes)) left

@@ -24,7 +24,8 @@ fewer_behind (kind ∷ size ∷ more) a rest e =
 
 same_later : (o : Option (Answer × List ℕ)) (f g : List ℕ → Option (List Answer))
     → ((a : Answer) (rest : List ℕ) → o ≡ Some (a, rest) → f rest ≡ g rest)
-    → option_and_then (λ read. option_map (put_answer read.0) (f read.1)) o ≡ option_and_then (λ read. option_map (put_answer read.0) (g read.1)) o
+    → option_and_then (λ read. option_map (put_answer read.0) (f read.1)) o
+    ≡ option_and_then (λ read. option_map (put_answer read.0) (g read.1)) o
 same_later None f g same = refl
 same_later (Some read) f g same = ap (option_map (put_answer read.0)) (same read.0 read.1 refl)
 
@@ -70,7 +71,8 @@ none_found (Some answers) = refl
 
 first_of_both : (found : Option (List ℕ)) (a : Answer) (is_ip : Bool) (later : Option Answer)
     → option_or found (option_map (λ answer. answer.value) (cond is_ip (Some a) later))
-    ≡ option_or (option_or found (option_map (λ answer. answer.value) (cond is_ip (Some a) None))) (option_map (λ answer. answer.value) later)
+    ≡ option_or (option_or found (option_map (λ answer. answer.value) (cond is_ip (Some a) None)))
+    (option_map (λ answer. answer.value) later)
 first_of_both (Some ip) a is_ip later = refl
 first_of_both None a true later = refl
 first_of_both None a false later = refl

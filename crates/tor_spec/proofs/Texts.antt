@@ -76,8 +76,13 @@ split_at_colon text i within here behind =
 pub no_colon : (text : List ℕ) → EachIndex text (λ k. get_or text k 0 ≢ 58) → split_at_last_colon text ≡ None
 unfolding split_at_last_colon
 no_colon text each =
-    ap (λ b. cond b (Some (take (length text - suffix_len (λ b. not (is_colon b)) text - 1) text, drop (length text - suffix_len (λ b. not (is_colon b)) text) text)) None)
-    (list_any_none is_colon text (All-from_get_or (λ b. is_colon b ≡ false) text 0 (λ i h. colon_test (get_or text i 0) (each i h))))
+    ap (λ b. cond b
+    (Some (
+      take (length text - suffix_len (λ b. not (is_colon b)) text - 1) text,
+      drop (length text - suffix_len (λ b. not (is_colon b)) text) text,
+    )) None)
+    (list_any_none is_colon text
+    (All-from_get_or (λ b. is_colon b ≡ false) text 0 (λ i h. colon_test (get_or text i 0) (each i h))))
 
 pub and_true : (a b : Bool) → a && b ≡ true → (a ≡ true) × (b ≡ true)
 and_true true true e = (refl, refl)

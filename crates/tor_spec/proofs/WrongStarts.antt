@@ -12,7 +12,13 @@ use Rattle.tor_spec.proofs.CellSizes.{kept, reaches}
 pub wrong_start-append : (a b : List ℕ) → 3 ≤ length a → wrong_start (a ++ b) ≡ wrong_start a
 unfolding wrong_start
 wrong_start-append a b long =
-    rw (le-ltb _ _ (reaches a b 3 long), le-ltb _ _ long, kept a b 0 (omega arith), kept a b 1 (omega arith), kept a b 2 (omega arith)) refl
+    rw (
+      le-ltb _ _ (reaches a b 3 long),
+      le-ltb _ _ long,
+      kept a b 0 (omega arith),
+      kept a b 1 (omega arith),
+      kept a b 2 (omega arith),
+    ) refl
 
 pub wrong_start-told : (a : List ℕ) (x : ℕ × ℕ) → wrong_start a ≡ Some x → 3 ≤ length a
 unfolding wrong_start

@@ -52,7 +52,8 @@ first_at bytes = option_and_then (cut_off first_of bytes) (first_size bytes)
 unfoldable pub wrong_start : List ℕ → Option (ℕ × ℕ)
 wrong_start bytes =
     if nat_lt (length bytes) 3 then None
-    else if (from_be_bytes w16 (slice_index bytes 0 ∷ slice_index bytes 1 ∷ []) == 0) && (slice_index bytes 2 == versions_command) then None
+    else if (from_be_bytes w16 (slice_index bytes 0 ∷ slice_index bytes 1 ∷ []) == 0) && (slice_index bytes 2 == versions_command)
+    then None
     else Some (from_be_bytes w16 (slice_index bytes 0 ∷ slice_index bytes 1 ∷ []), slice_index bytes 2)
 
 -- What a link's bytes leave unread: the bytes behind its last cell, and whether its first cell

@@ -40,7 +40,10 @@ answer_at [] = None
 answer_at (kind ∷ []) = None
 answer_at (kind ∷ size ∷ rest) =
     if is_value_length kind size && nat_le (size + 4) (length rest)
-    then Some (record { kind = kind; value = take size rest; ttl = from_be_bytes w32 (take 4 (drop size rest)) }, drop 4 (drop size rest))
+    then Some (
+      record { kind = kind; value = take size rest; ttl = from_be_bytes w32 (take 4 (drop size rest)) },
+      drop 4 (drop size rest),
+    )
     else None
 
 abbrev pub put_answer : Answer → List Answer → List Answer

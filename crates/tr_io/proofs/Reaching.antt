@@ -10,7 +10,8 @@ unfolding sessions_from
 more_from number last [] to is =
     let same : number ≡ last = omega (arith, is) in ap {A = ℕ} (λ n. record { number = n; to = to } ∷ []) same
 more_from number last (x ∷ before) to is =
-    ap {A = List OutletSession} (λ rest. record { number = number; to = x } ∷ rest) (more_from (suc number) last before to (omega (arith, is)))
+    ap {A = List OutletSession} (λ rest. record { number = number; to = x } ∷ rest)
+    (more_from (suc number) last before to (omega (arith, is)))
 
 pub reached : (before after : List Dest) (to : Dest) (last : ℕ) → after ≡ before ++ to ∷ [] → last ≡ length before
     → outlet_sessions after ≡ outlet_sessions before ++ record { number = last; to = to } ∷ []

@@ -10,6 +10,7 @@ pub goes_on : (bytes given front rest : List ℕ) (at n : ℕ) → given ≡ byt
     → take (at + n) bytes ≡ take at bytes ++ take n (front ++ rest)
 goes_on bytes given front rest at n same is size =
     let next : front ≡ take n (drop at bytes) =
-    subst (λ xs. front ≡ take n (drop at xs)) same (is ∙ ap (take n) (take_all (drop at given) (length given - at) (length-drop at given))) in
+    subst (λ xs. front ≡ take n (drop at xs)) same
+    (is ∙ ap (take n) (take_all (drop at given) (length given - at) (length-drop at given))) in
     take-add at n bytes
     ∙ ap (λ xs. take at bytes ++ xs) (sym next ∙ sym (take-append_seam front rest) ∙ ap (λ k. take k (front ++ rest)) (sym size))

@@ -7,7 +7,14 @@ use Rattle.tr_io.specs.Pieces.{Piece}
 
 abbrev pub session_of : MemorySession → Session
 session_of m =
-    record { number = m.number; to = m.to; input = take m.read_count m.bytes.items; is_at_end = length m.bytes.items == m.read_count; greeting = m.greeting.items }
+    record {
+      number = m.number;
+      to = m.to;
+      input = take m.read_count m.bytes.items;
+      is_at_end =
+          length m.bytes.items == m.read_count;
+      greeting = m.greeting.items;
+    }
 
 abbrev pub sessions_of : List MemorySession → Option MemorySession → SlotSessions
 sessions_of past_sessions present_session =

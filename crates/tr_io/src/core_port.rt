@@ -74,7 +74,8 @@ pub trait CorePort {
         requires command { IfSome (Self.Opening.keys opening.now) (λ _. IsTrue (opens_circuit (Self.Opening.reply opening.now).command)) }
         ensures own { is_own self.now pass.new }
         ensures spent { IfSpent result (is_spent pass.new) }
-        ensures step { CallAdds (open_steps chan id (Self.Opening.reply opening.now) (Self.Opening.keys opening.now) (Self.Opening.pad opening.now)) (mine pass.old) result (mine pass.new) };
+        ensures step { CallAdds (open_steps chan id (Self.Opening.reply opening.now) (Self.Opening.keys opening.now)
+            (Self.Opening.pad opening.now)) (mine pass.old) result (mine pass.new) };
 
     /// Takes in a cell, which is well formed.
     fn take(&self, pass: &mut Self::Pass, chan: ChanNo, cell: &Cell) -> Turn<TakeAnswer>
@@ -99,7 +100,8 @@ pub trait CorePort {
         requires { is_own self.now pass.old }
         ensures own { is_own self.now pass.new }
         ensures spent { IfSpent result (is_spent pass.new) }
-        ensures step { (place : Option ℕ) × CallAdds (λ a. Made.GiveBack (Self.Done.note done) place a ∷ []) (mine pass.old) result (mine pass.new) }
+        ensures step { (place : Option ℕ) × CallAdds (λ a. Made.GiveBack (Self.Done.note done) place a ∷ []) (mine pass.old) result
+            (mine pass.new) }
         ensures same { (job : Self.Job) → gave pass.old job → Self.Done.is_of done job →
             CallAdds (λ a. Made.GiveBack (Self.Done.note done) None a ∷ []) (mine pass.old) result (mine pass.new) };
 
@@ -108,7 +110,8 @@ pub trait CorePort {
         requires { is_own self.now pass.old }
         ensures own { is_own self.now pass.new }
         ensures spent { IfSpent result (is_spent pass.new) }
-        ensures step { (place : Option ℕ) × CallAdds (λ a. Made.Abandon (Self.Job.note job) place a ∷ []) (mine pass.old) result (mine pass.new) }
+        ensures step { (place : Option ℕ) × CallAdds (λ a. Made.Abandon (Self.Job.note job) place a ∷ []) (mine pass.old) result
+            (mine pass.new) }
         ensures same { gave pass.old job →
             CallAdds (λ a. Made.Abandon (Self.Job.note job) None a ∷ []) (mine pass.old) result (mine pass.new) };
 

@@ -36,7 +36,13 @@ impl MemorySource {
     /// with the listed numbers, counted from 0.
     pub fn new(bytes: Vec<u8>, most: usize, failing_numbers: Vec<u64>) -> MemorySource
         requires { 1 ≤ most }
-        ensures { result ≡ record { rest = bytes.items; most = most; failing_numbers = failing_numbers.items; calls = 0; faults = 0 } }
+        ensures { result ≡ record {
+          rest = bytes.items;
+          most = most;
+          failing_numbers = failing_numbers.items;
+          calls = 0;
+          faults = 0;
+        } }
     {
         MemorySource {
             bytes,
@@ -104,7 +110,14 @@ impl MemorySink {
     /// counted. It fails, too, where memory for the bytes is wanting.
     pub fn new(alloc: Global, most: usize, failing_numbers: Vec<u64>) -> MemorySink
         requires { 1 ≤ most }
-        ensures { result ≡ record { written = []; flushed_count = 0; most = most; failing_numbers = failing_numbers.items; calls = 0; faults = 0 } }
+        ensures { result ≡ record {
+          written = [];
+          flushed_count = 0;
+          most = most;
+          failing_numbers = failing_numbers.items;
+          calls = 0;
+          faults = 0;
+        } }
     {
         MemorySink {
             bytes: Vec::new(alloc),
@@ -140,11 +153,13 @@ impl Sink for MemorySink {
         ensures within { TookWithin result piece.now }
         ensures empty { piece.now ≡ [] → result ≡ WriteAnswer.Took 0 }
         ensures bytes { WritesTo (Some self.old.written) result piece.now (Some self.new.written) }
-        ensures flushed { KeepsFlushed (Some (take self.old.flushed_count self.old.written)) (Some (take self.new.flushed_count self.new.written)) }
+        ensures flushed { KeepsFlushed (Some (take self.old.flushed_count self.old.written))
+            (Some (take self.new.flushed_count self.new.written)) }
         ensures counted { self.old.faults ≤ self.new.faults }
         ensures cause { result ≡ WriteAnswer.Failed → Rose self.old.faults self.new.faults }
         ensures steady { result ≢ WriteAnswer.Failed → self.new.faults ≡ self.old.faults }
-        ensures listed { piece.now ≢ [] → IsTrue (is_listed self.old.failing_numbers self.old.calls) → result ≡ WriteAnswer.Failed }
+        ensures listed { piece.now ≢ [] → IsTrue (is_listed self.old.failing_numbers self.old.calls)
+            → result ≡ WriteAnswer.Failed }
         ensures took { result ≢ WriteAnswer.Failed → result ≡ WriteAnswer.Took (min (length piece.now) self.old.most) }
         ensures kept { self.new.flushed_count ≡ self.old.flushed_count }
         ensures calls { self.new.calls ≡ calls_after_write self.old.calls piece.now }
@@ -168,7 +183,8 @@ impl Sink for MemorySink {
     fn flush(&mut self) -> WriteAnswer
         ensures within { TookWithin result [] }
         ensures bytes { WritesTo (Some self.old.written) result [] (Some self.new.written) }
-        ensures flushed { KeepsFlushed (Some (take self.old.flushed_count self.old.written)) (Some (take self.new.flushed_count self.new.written)) }
+        ensures flushed { KeepsFlushed (Some (take self.old.flushed_count self.old.written))
+            (Some (take self.new.flushed_count self.new.written)) }
         ensures all { FlushesAll result (Some self.new.written) (Some (take self.new.flushed_count self.new.written)) }
         ensures counted { self.old.faults ≤ self.new.faults }
         ensures cause { result ≡ WriteAnswer.Failed → Rose self.old.faults self.new.faults }

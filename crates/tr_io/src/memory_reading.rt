@@ -41,7 +41,8 @@ impl MemorySession {
     }
 
     pub(crate) fn say(&mut self, piece: &[u8]) -> Result<(), AllocError>
-        ensures session { SaysOn (if is_ok result then Took (length piece.now) else Failed) piece.now (session_of self.old) (session_of self.new) }
+        ensures session { SaysOn (if is_ok result then Took (length piece.now) else Failed) piece.now (session_of self.old)
+            (session_of self.new) }
     {
         self.greeting.extend_from_slice(piece)
     }

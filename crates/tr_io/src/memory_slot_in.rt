@@ -63,7 +63,8 @@ impl MemorySlotIn {
     fn come(&mut self, to: Option<Dest>) -> DoorAnswer
         ensures slot { self.new.slot ≡ self.old.slot }
         ensures numbers { Numbers result self.old.next self.new.next }
-        ensures sessions { Comes result to (sessions_of self.old.past_sessions.items self.old.present_session) (sessions_of self.new.past_sessions.items self.new.present_session) }
+        ensures sessions { Comes result to (sessions_of self.old.past_sessions.items self.old.present_session)
+            (sessions_of self.new.past_sessions.items self.new.present_session) }
         ensures none { result ≡ DoorAnswer.NoMore → length self.old.scripts.items ≡ 0 }
         ensures counted { self.old.calls.faults ≤ self.new.calls.faults }
         ensures cause { result ≡ DoorAnswer.Failed → Rose self.old.calls.faults self.new.calls.faults }

@@ -29,7 +29,8 @@ module _ {E : Type 0} where
   pub by_longer : (xs ys : List E) (P : List E → List E → Type 0) → (length xs < length ys → P ys xs)
       → (length ys ≤ length xs → P xs ys) → P (longer xs ys) (shorter xs ys)
   by_longer xs ys P less more =
-      by_length (nat_lt (length xs) (length ys)) xs ys P (λ e. less (grind (arith, nat_tests))) (λ e. more (grind (arith, nat_tests)))
+      by_length (nat_lt (length xs) (length ys)) xs ys P (λ e. less (grind (arith, nat_tests)))
+      (λ e. more (grind (arith, nat_tests)))
 
   pub record ArePrefixes (xs ys log long short : List E) : Type 0 where
     pub long_is : IsPrefix long log
@@ -57,7 +58,18 @@ module _ {T E : Type 0} where
 
   pub releases : (v : View T E) (st : Maybe E) → Releases v (released v st)
   releases v None =
-      record { parts = refl; opening = refl; seats = refl; closed = refl; turn = refl; seen = prefix-self v.seen; shorter = refl; places = λ p. refl; placed = λ low. low }
+      record {
+        parts = refl;
+        opening = refl;
+        seats = refl;
+        closed = refl;
+        turn = refl;
+        seen = prefix-self v.seen;
+        shorter =
+            refl;
+        places = λ p. refl;
+        placed = λ low. low;
+      }
   releases v (Some e) = let n = length-snoc v.seen e in record {
     parts = refl;
     opening = refl;
@@ -67,9 +79,12 @@ module _ {T E : Type 0} where
     seen = (e ∷ [], refl);
     shorter = refl;
     places =
-        λ p. let a = times_in-to_first p (length v.seen) v.shares in let b = once_below-suc p (length v.seen) in let c : once_below p (length (v.seen ++ e ∷ [])) ≡ once_below p (suc (length v.seen)) = ap (once_below p) n in omega arith;
+        λ p. let a = times_in-to_first p (length v.seen) v.shares in let b = once_below-suc p (length v.seen) in
+        let c : once_below p (length (v.seen ++ e ∷ [])) ≡ once_below p (suc (length v.seen)) =
+        ap (once_below p) n in omega arith;
     placed =
-        λ low p l. let z = low p (omega arith) in let a = times_in-to_first p (length v.seen) v.shares in let b = times-above p (length v.seen) (omega arith) in omega arith;
+        λ low p l. let z = low p (omega arith) in let a = times_in-to_first p (length v.seen) v.shares in let b =
+        times-above p (length v.seen) (omega arith) in omega arith;
   }
 
 module _ {T E B : Type 0} (stands : T → B → List E → Type 0) (legal : B → List E → Type 0) (begun : Maybe T) (seats : ℕ) where
@@ -104,13 +119,15 @@ module _ {T E B : Type 0} (stands : T → B → List E → Type 0) (legal : B �
   still : (s : State T V) (r : Rule s) (id : ℕ) (cs : List (ℕ × T)) (v : V) → get_elem? s.views id ≡ some v
       → Rule (stepped s 0 (get_or s.words 0 0) id cs v keeps)
   still s r id cs v at =
-      subst (λ (x : List ℕ × List V). Rule record { words = x.0; homes = s.homes; views = x.1 }) (λ i. (sym (set-get_or s.words 0 0) i, sym (set_again s.views id v at) i)) r
+      subst (λ (x : List ℕ × List V). Rule record { words = x.0; homes = s.homes; views = x.1 })
+      (λ i. (sym (set-get_or s.words 0 0) i, sym (set_again s.views id v at) i)) r
 
   -- the history so far is seen
   pub meets : (slots id : ℕ) (m : Me T V) → m.0.has_turn ≡ false → 0 < m.0.parts
       → Allows Rule slots id m 0 (λ n. n) (Met stands legal m)
   meets slots id m off some_part s r wide at low =
-      let v : V = m.0 in let w : V = caught_up v r.log in let a = r.viewed in let k = a.each id v at in let count = count_is s r in let bit = bit_small r.phase in (
+      let v : V = m.0 in let w : V = caught_up v r.log in let a = r.viewed in let k = a.each id v at in let count =
+      count_is s r in let bit = bit_small r.phase in (
         w,
         keeps,
         tt,
@@ -120,11 +137,17 @@ module _ {T E B : Type 0} (stands : T → B → List E → Type 0) (legal : B �
           holder = r.holder;
           stored = again s r;
           viewed =
-              change begun seats r.log r.log r.phase r.phase r.holder r.holder seats seats (λ p. once_below p (length r.log)) (λ p. once_below p (length r.log)) s.views id v w a at
-              (renewed begun seats r.log r.log r.phase r.phase r.holder r.holder id v w k some_part refl refl some_part (prefix-self r.log) (prefix-through v.shorter v.seen r.log k.shorter_is k.seen_is)
-              (λ p l. k.placed p (let n = prefix-length v.seen r.log k.seen_is in omega arith)) (λ on. absurd (true≢false (sym on ∙ off))) (λ h. ((k.closing h).0, refl, (k.closing h).2)))
-              (λ j u other x. x) (still_turning begun seats r.log r.phase r.holder seats (λ p. once_below p (length r.log)) s.views a id v at w off) refl (λ p. refl)
-              (whole_here begun seats r.log r.phase r.holder seats (λ p. once_below p (length r.log)) s.views a id v at w some_part refl);
+              change begun seats r.log r.log r.phase r.phase r.holder r.holder seats seats (λ p. once_below p (length r.log))
+              (λ p. once_below p (length r.log)) s.views id v w a at
+              (renewed begun seats r.log r.log r.phase r.phase r.holder r.holder id v w k some_part refl refl some_part
+              (prefix-self r.log) (prefix-through v.shorter v.seen r.log k.shorter_is k.seen_is)
+              (λ p l. k.placed p (let n = prefix-length v.seen r.log k.seen_is in omega arith))
+              (λ on. absurd (true≢false (sym on ∙ off))) (λ h. ((k.closing h).0, refl, (k.closing h).2)))
+              (λ j u other x. x)
+              (still_turning begun seats r.log r.phase r.holder seats (λ p. once_below p (length r.log)) s.views a id v at w
+              off) refl (λ p. refl)
+              (whole_here begun seats r.log r.phase r.holder seats (λ p. once_below p (length r.log)) s.views a id v at w
+              some_part refl);
         },
         record {
           log = r.log;
@@ -134,7 +157,8 @@ module _ {T E B : Type 0} (stands : T → B → List E → Type 0) (legal : B �
           small = r.stored.small;
           legal_is = subst (λ (b : Maybe T). IsLegal stands legal b r.log) (sym (k.start some_part).0) r.stored.legal_is;
           places =
-              λ all. places_alone begun seats r.log r.phase r.holder seats (λ p. once_below p (length r.log)) s.views a id v at (all ∙ (k.start some_part).1);
+              λ all. places_alone begun seats r.log r.phase r.holder seats (λ p. once_below p (length r.log)) s.views a id v at
+              (all ∙ (k.start some_part).1);
         },
       )
 
@@ -150,8 +174,10 @@ module _ {T E B : Type 0} (stands : T → B → List E → Type 0) (legal : B �
       → st.first % 2 ≡ 0 → st.first < 2 ^ 63 → new ≡ st.first + 1
       → Allows Rule slots id m 0 (λ n. either (eqb n st.first) new n) (TookIf stands legal st m)
   takes_turn slots id m st new off some_part bare even low up s r wide at small =
-      let n : ℕ = get_or s.words 0 0 in let v : V = m.0 in let a = r.viewed in let k = a.each id v at in let count = count_is s r in dite (ℕ_discrete n st.first)
-      (λ hit. let h = free_home r.log r.phase s.homes n count (ap (λ (z : ℕ). z % 2) hit ∙ even) r.stored.home in let t : T = h.1.0 in let w : V = with_turn v r.log in
+      let n : ℕ = get_or s.words 0 0 in let v : V = m.0 in let a = r.viewed in let k = a.each id v at in let count =
+      count_is s r in dite (ℕ_discrete n st.first)
+      (λ hit. let h = free_home r.log r.phase s.homes n count (ap (λ (z : ℕ). z % 2) hit ∙ even) r.stored.home in let t : T =
+      h.1.0 in let w : V = with_turn v r.log in
       let no_bit : held_bit r.phase ≡ 0 = ap held_bit h.0 in let plain : n ≡ 2 * length r.log = omega arith in (
         w,
         takes 0 t,
@@ -164,18 +190,24 @@ module _ {T E B : Type 0} (stands : T → B → List E → Type 0) (legal : B �
             legal_is = r.stored.legal_is;
             sleep_words = r.stored.sleep_words;
             count =
-                set_count s.words r.stored.sleep_words (2 * length r.log + held_bit r.phase) new (2 * length r.log + 1) r.stored.count (omega arith);
+                set_count s.words r.stored.sleep_words (2 * length r.log + held_bit r.phase) new (2 * length r.log + 1)
+                r.stored.count (omega arith);
             small = r.stored.small;
             room = λ _. omega arith;
             home = ap (λ (hs : List (Option T)). set hs 0 none) h.1.1;
           };
           viewed =
-              change begun seats r.log r.log r.phase out r.holder id seats seats (λ p. once_below p (length r.log)) (λ p. once_below p (length r.log)) s.views id v w a at
-              (renewed begun seats r.log r.log r.phase out r.holder id id v w k some_part refl refl some_part (prefix-self r.log) (prefix-through v.shorter v.seen r.log k.shorter_is k.seen_is)
-              (λ p l. k.placed p (let n = prefix-length v.seen r.log k.seen_is in omega arith)) (λ on. (refl, refl, refl, some_part)) (λ c. absurd (shut-free (sym (k.closing c).0 ∙ h.0))))
-              (λ j u other x. carried begun seats r.log r.log r.phase out r.holder id j u x (prefix-self r.log) (λ on. absurd (out-free (sym (x.turn on).0 ∙ h.0))) (λ c. absurd (shut-free (sym (x.closing c).0 ∙ h.0))))
+              change begun seats r.log r.log r.phase out r.holder id seats seats (λ p. once_below p (length r.log))
+              (λ p. once_below p (length r.log)) s.views id v w a at
+              (renewed begun seats r.log r.log r.phase out r.holder id id v w k some_part refl refl some_part (prefix-self r.log)
+              (prefix-through v.shorter v.seen r.log k.shorter_is k.seen_is)
+              (λ p l. k.placed p (let n = prefix-length v.seen r.log k.seen_is in omega arith))
+              (λ on. (refl, refl, refl, some_part)) (λ c. absurd (shut-free (sym (k.closing c).0 ∙ h.0))))
+              (λ j u other x. carried begun seats r.log r.log r.phase out r.holder id j u x (prefix-self r.log)
+              (λ on. absurd (out-free (sym (x.turn on).0 ∙ h.0))) (λ c. absurd (shut-free (sym (x.closing c).0 ∙ h.0))))
               (λ _. (w, set-here s.views id v w at, refl)) refl (λ p. refl)
-              (whole_here begun seats r.log r.phase r.holder seats (λ p. once_below p (length r.log)) s.views a id v at w some_part refl);
+              (whole_here begun seats r.log r.phase r.holder seats (λ p. once_below p (length r.log)) s.views a id v at w
+              some_part refl);
         },
         record {
           missed = λ miss. absurd (miss hit);
@@ -210,9 +242,11 @@ module _ {T E B : Type 0} (stands : T → B → List E → Type 0) (legal : B �
       → IsLegal stands legal m.0.opening (released m.0 st).seen
       → Allows Rule slots id m 0 (λ _. new) (λ _. Gave st m)
   gives_turn slots id m t st new on has count top fit lg s r wide at small =
-      let v : V = m.0 in let a = r.viewed in let k = a.each id v at in let w : V = released v st in let mine = k.turn on in let g = releases v st in
+      let v : V = m.0 in let a = r.viewed in let k = a.each id v at in let w : V = released v st in let mine =
+      k.turn on in let g = releases v st in
       let log : List E =
-      w.seen in let more : IsPrefix r.log log = subst (λ (l : List E). IsPrefix l log) mine.2 g.seen in let some_part = mine.3 in let b = k.start some_part in let n = g.parts in (
+      w.seen in let more : IsPrefix r.log log = subst (λ (l : List E). IsPrefix l log) mine.2 g.seen in let some_part =
+      mine.3 in let b = k.start some_part in let n = g.parts in (
         w,
         gives,
         tt,
@@ -224,19 +258,32 @@ module _ {T E B : Type 0} (stands : T → B → List E → Type 0) (legal : B �
             legal_is = subst (λ (b : Maybe T). IsLegal stands legal b log) b.0 lg;
             sleep_words = r.stored.sleep_words;
             count =
-                set_count s.words r.stored.sleep_words (2 * length r.log + held_bit r.phase) new (2 * length log + 0) r.stored.count (omega arith);
+                set_count s.words r.stored.sleep_words (2 * length r.log + held_bit r.phase) new (2 * length log + 0)
+                r.stored.count (omega arith);
             small = omega arith;
             room = λ h. absurd (out-free (sym h));
-            home =
-                (t, ap (put_back s.homes) has ∙ ap (λ (hs : List (Option T)). set hs 0 (some t)) (out_home r.log r.phase s.homes mine.0 r.stored.home), subst (λ (b : Maybe T). StandsForHistory stands legal b t log) b.0 fit);
+            home = (
+              t,
+              ap (put_back s.homes) has
+                  ∙ ap (λ (hs : List (Option T)). set hs 0 (some t)) (out_home r.log r.phase s.homes mine.0 r.stored.home),
+              subst (λ (b : Maybe T). StandsForHistory stands legal b t log) b.0 fit,
+            );
           };
           viewed =
-              change begun seats r.log log r.phase free r.holder 0 seats seats (λ p. once_below p (length r.log)) (λ p. once_below p (length log)) s.views id v w a at
-              (renewed begun seats r.log log r.phase free r.holder 0 id v w k some_part g.opening g.seats (omega arith) (prefix-self log) (subst (λ (l : List E). IsPrefix l log) (sym g.shorter) (prefix-through v.shorter v.seen log k.shorter_is g.seen))
-              (g.placed k.placed) (λ h. absurd (true≢false (sym h ∙ g.turn))) (λ c. absurd (out-shut (sym mine.0 ∙ (k.closing (sym g.closed ∙ c)).0))))
-              (λ j u other x. carried begun seats r.log log r.phase free r.holder 0 j u x more (λ h. absurd (other ((x.turn h).1 ∙ sym mine.1))) (λ c. absurd (out-shut (sym mine.0 ∙ (x.closing c).0))))
+              change begun seats r.log log r.phase free r.holder 0 seats seats (λ p. once_below p (length r.log))
+              (λ p. once_below p (length log)) s.views id v w a at
+              (renewed begun seats r.log log r.phase free r.holder 0 id v w k some_part g.opening g.seats (omega arith)
+              (prefix-self log)
+              (subst (λ (l : List E). IsPrefix l log) (sym g.shorter)
+              (prefix-through v.shorter v.seen log k.shorter_is g.seen))
+              (g.placed k.placed) (λ h. absurd (true≢false (sym h ∙ g.turn)))
+              (λ c. absurd (out-shut (sym mine.0 ∙ (k.closing (sym g.closed ∙ c)).0))))
+              (λ j u other x. carried begun seats r.log log r.phase free r.holder 0 j u x more
+              (λ h. absurd (other ((x.turn h).1 ∙ sym mine.1))) (λ c. absurd (out-shut (sym mine.0 ∙ (x.closing c).0))))
               (λ h. absurd (out-free (sym h))) (omega arith)
-              (λ p. let q : times_in p w.shares + once_below p (length r.log) ≡ times_in p v.shares + once_below p (length log) = subst (λ (l : List E). times_in p w.shares + once_below p (length l) ≡ times_in p v.shares + once_below p (length log)) mine.2 (g.places p) in omega arith)
+              (λ p. let q : times_in p w.shares + once_below p (length r.log) ≡ times_in p v.shares + once_below p (length log) =
+              subst (λ (l : List E). times_in p w.shares + once_below p (length l) ≡ times_in p v.shares
+              + once_below p (length log)) mine.2 (g.places p) in omega arith)
               (id, w, set-here s.views id v w at, omega arith, refl);
         },
         refl,
@@ -245,10 +292,13 @@ module _ {T E B : Type 0} (stands : T → B → List E → Type 0) (legal : B �
   -- one part goes to a new pass
   pub splits : (id : ℕ) (v : V) → v.has_turn ≡ false → 2 ≤ v.parts → Splits Rule id v (one_part_less v) (new_part v)
   splits id v off two s r at =
-      let l : V = one_part_less v in let w : V = new_part v in let a = r.viewed in let k = a.each id v at in let once = λ (p : ℕ). once_below p (length r.log) in
+      let l : V = one_part_less v in let w : V = new_part v in let a = r.viewed in let k = a.each id v at in let once =
+      λ (p : ℕ). once_below p (length r.log) in
       let first = change begun seats r.log r.log r.phase r.phase r.holder r.holder seats (seats - 1) once once s.views id v l a at
-      (renewed begun seats r.log r.log r.phase r.phase r.holder r.holder id v l k (omega arith) refl refl (omega arith) k.seen_is k.shorter_is k.placed (λ on. absurd (true≢false (sym on ∙ off))) k.closing)
-      (λ j u other x. x) (still_turning begun seats r.log r.phase r.holder seats once s.views a id v at l off) (let n = sum_by-one (λ (u : V). u.parts) s.views id v at in let p = a.all_parts in omega arith) (λ p. refl)
+      (renewed begun seats r.log r.log r.phase r.phase r.holder r.holder id v l k (omega arith) refl refl (omega arith) k.seen_is
+      k.shorter_is k.placed (λ on. absurd (true≢false (sym on ∙ off))) k.closing)
+      (λ j u other x. x) (still_turning begun seats r.log r.phase r.holder seats once s.views a id v at l off) (let n =
+      sum_by-one (λ (u : V). u.parts) s.views id v at in let p = a.all_parts in omega arith) (λ p. refl)
       (still_whole begun seats r.log r.phase r.holder seats once s.views a id v at l (omega arith) (λ e. e)) in record {
         log = r.log;
         phase = r.phase;
@@ -263,7 +313,8 @@ module _ {T E B : Type 0} (stands : T → B → List E → Type 0) (legal : B �
               turn = λ on. absurd (true≢false (sym on ∙ off));
               closing = k.closing;
               spent = k.spent;
-            } (omega arith) refl refl (omega arith) k.seen_is (v.seen, refl) (λ p _. refl) (λ on. absurd (true≢false (sym on))) (λ on. absurd (true≢false (sym on))))
+            } (omega arith) refl refl (omega arith) k.seen_is (v.seen, refl) (λ p _. refl) (λ on. absurd (true≢false (sym on)))
+            (λ on. absurd (true≢false (sym on))))
             (let n = sum_by-one (λ (u : V). u.parts) s.views id v at in let p = a.all_parts in omega arith) (λ p. refl);
       }
 
@@ -273,27 +324,51 @@ module _ {T E B : Type 0} (stands : T → B → List E → Type 0) (legal : B �
   joins id v other w off off' some_part some_part' s r at apart_is there =
       let l : V = joined v w in let vs : List V = set s.views id l in let a = r.viewed in let k = a.each id v at in
       let q =
-      a.each other w (sym (set_else s.views id other l apart_is) ∙ there) in let once = λ (p : ℕ). once_below p (length r.log) in let twice = λ (p : ℕ). once_below p (length r.log) + times_in p w.shares in
+      a.each other w (sym (set_else s.views id other l apart_is) ∙ there) in let once = λ (p : ℕ). once_below p (length r.log) in
+      let twice = λ (p : ℕ). once_below p (length r.log) + times_in p w.shares in
       let pre = are_prefixes v.seen w.seen r.log k.seen_is q.seen_is in
       let first =
       change begun seats r.log r.log r.phase r.phase r.holder r.holder seats (seats + w.parts) once twice s.views id v l a at
-      (renewed begun seats r.log r.log r.phase r.phase r.holder r.holder id v l k some_part refl refl (omega arith) pre.long_is pre.short_is
-      (λ p n. let i = pre.left in let j = pre.right in let x = k.placed p (omega arith) in let y = q.placed p (omega arith) in let t = times_in-append p v.shares w.shares in omega arith)
+      (renewed begun seats r.log r.log r.phase r.phase r.holder r.holder id v l k some_part refl refl (omega arith) pre.long_is
+      pre.short_is
+      (λ p n. let i = pre.left in let j = pre.right in let x = k.placed p (omega arith) in let y =
+      q.placed p (omega arith) in let t = times_in-append p v.shares w.shares in omega arith)
       (λ on. absurd (true≢false (sym on ∙ off)))
-      (λ c. let t = k.closing c in (t.0, prefix-whole l.seen r.log pre.long_is (let n : length v.seen ≡ length r.log = ap length t.1 in let i = pre.left in omega arith), t.2)))
-      (λ j u other x. x) (still_turning begun seats r.log r.phase r.holder seats once s.views a id v at l off) (omega arith) (λ p. let t = times_in-append p v.shares w.shares in omega arith)
-      (still_whole begun seats r.log r.phase r.holder seats once s.views a id v at l (omega arith) (λ e. prefix-whole l.seen r.log pre.long_is (let n : length v.seen ≡ length r.log = ap length e in let i = pre.left in omega arith))) in record {
+      (λ c. let t =
+      k.closing c in (
+        t.0,
+        prefix-whole l.seen r.log pre.long_is (let n : length v.seen ≡ length r.log = ap length t.1 in let i = pre.left in
+            omega arith),
+        t.2,
+      )))
+      (λ j u other x. x) (still_turning begun seats r.log r.phase r.holder seats once s.views a id v at l off) (omega arith)
+      (λ p. let t = times_in-append p v.shares w.shares in omega arith)
+      (still_whole begun seats r.log r.phase r.holder seats once s.views a id v at l (omega arith)
+      (λ e. prefix-whole l.seen r.log pre.long_is (let n : length v.seen ≡ length r.log = ap length e in let i = pre.left in
+      omega arith))) in record {
         log = r.log;
         phase = r.phase;
         holder = r.holder;
         stored = r.stored;
         viewed =
-            change begun seats r.log r.log r.phase r.phase r.holder r.holder (seats + w.parts) seats twice once vs other w spent_view first there (spent_is begun seats r.log r.phase r.holder other)
-            (λ j u other x. x) (still_turning begun seats r.log r.phase r.holder (seats + w.parts) twice vs first other w there spent_view off') (omega arith) (λ p. omega arith)
-            (let x = first.whole in let mine : length r.log ≤ length l.seen → (j : ℕ) × (u : V) × (get_elem? (set vs other spent_view) j ≡ some u) × (0 < u.parts) × (u.seen ≡ r.log) = λ n.
-            (id, l, set_else vs other id spent_view (λ e. apart_is (sym e)) ∙ set-here s.views id v l at, omega arith, prefix-whole l.seen r.log pre.long_is n) in
+            change begun seats r.log r.log r.phase r.phase r.holder r.holder (seats + w.parts) seats twice once vs other w
+            spent_view first there (spent_is begun seats r.log r.phase r.holder other)
+            (λ j u other x. x)
+            (still_turning begun seats r.log r.phase r.holder (seats + w.parts) twice vs first other w there spent_view off')
+            (omega arith) (λ p. omega arith)
+            (let x = first.whole in
+            let mine : length r.log ≤ length l.seen → (j : ℕ) × (u : V) × (get_elem? (set vs other spent_view) j ≡ some u)
+            × (0 < u.parts) × (u.seen ≡ r.log) = λ n. (
+              id,
+              l,
+              set_else vs other id spent_view (λ e. apart_is (sym e)) ∙ set-here s.views id v l at,
+              omega arith,
+              prefix-whole l.seen r.log pre.long_is n,
+            ) in
             dite (ℕ_discrete x.0 other)
-            (λ is. mine (let e : x.1 ≡ w = some-injective x.1 w (sym x.2 ∙ (ap (get_elem? vs) is ∙ there)) in let n : length w.seen ≡ length r.log = ap length (ap (λ (u : V). u.seen) (sym e) ∙ x.4) in let i = pre.right in omega arith))
+            (λ is. mine (let e : x.1 ≡ w = some-injective x.1 w (sym x.2 ∙ (ap (get_elem? vs) is ∙ there)) in
+            let n : length w.seen ≡ length r.log = ap length (ap (λ (u : V). u.seen) (sym e) ∙ x.4) in let i =
+            pre.right in omega arith))
             (λ not_other. (x.0, x.1, set_else vs other x.0 spent_view not_other ∙ x.2, x.3, x.4)));
       }
 
@@ -301,7 +376,8 @@ module _ {T E B : Type 0} (stands : T → B → List E → Type 0) (legal : B �
   pub settles : (slots id : ℕ) (m : Me T V) → m.0.has_turn ≡ false → 0 < m.0.parts
       → Allows Rule slots id m 0 (λ n. n) (λ _. Settled m)
   settles slots id m off some_part s r wide at low =
-      let v : V = m.0 in let w : V = settled v in let a = r.viewed in let k = a.each id v at in let once = λ (p : ℕ). once_below p (length r.log) in (
+      let v : V = m.0 in let w : V = settled v in let a = r.viewed in let k = a.each id v at in let once =
+      λ (p : ℕ). once_below p (length r.log) in (
         w,
         keeps,
         tt,
@@ -311,15 +387,18 @@ module _ {T E B : Type 0} (stands : T → B → List E → Type 0) (legal : B �
           holder = r.holder;
           stored = again s r;
           viewed = change begun seats r.log r.log r.phase r.phase r.holder r.holder seats seats once once s.views id v w a at
-              (renewed begun seats r.log r.log r.phase r.phase r.holder r.holder id v w k some_part refl refl some_part k.seen_is (v.seen, refl) k.placed k.turn k.closing)
-              (λ j u other x. x) (still_turning begun seats r.log r.phase r.holder seats once s.views a id v at w off) refl (λ p. refl)
+              (renewed begun seats r.log r.log r.phase r.phase r.holder r.holder id v w k some_part refl refl some_part k.seen_is
+              (v.seen, refl) k.placed k.turn k.closing)
+              (λ j u other x. x) (still_turning begun seats r.log r.phase r.holder seats once s.views a id v at w off) refl
+              (λ p. refl)
               (still_whole begun seats r.log r.phase r.holder seats once s.views a id v at w some_part (λ e. e));
         },
         record {
           after = refl;
           older = k.shorter_is;
           once =
-              λ p. let t = sum_by-one (λ (u : V). times_in p u.shares) s.views id v at in let q = a.all_places p in let o = once_below-le p (length r.log) in omega arith;
+              λ p. let t = sum_by-one (λ (u : V). times_in p u.shares) s.views id v at in let q = a.all_places p in let o =
+              once_below-le p (length r.log) in omega arith;
         },
       )
 
@@ -333,10 +412,12 @@ module _ {T E B : Type 0} (stands : T → B → List E → Type 0) (legal : B �
   pub closes : (slots id : ℕ) (m : Me T V) (new : ℕ) → m.0.has_turn ≡ false → HasAllParts m.0 → 0 < m.0.parts
       → new ≡ 2 * length m.0.seen + 1 → Allows Rule slots id m 0 (λ _. new) (λ _. Closed m)
   closes slots id m new off all some_part is s r wide at low =
-      let v : V = m.0 in let w : V = closed v in let a = r.viewed in let k = a.each id v at in let once = λ (p : ℕ). once_below p (length r.log) in
+      let v : V = m.0 in let w : V = closed v in let a = r.viewed in let k = a.each id v at in let once =
+      λ (p : ℕ). once_below p (length r.log) in
       let every : v.parts ≡ seats =
       all
-      ∙ (k.start some_part).1 in let up : v.seen ≡ r.log = seen_alone begun seats r.log r.phase r.holder seats once s.views a id v at every in
+      ∙ (k.start some_part).1 in let up : v.seen ≡ r.log =
+      seen_alone begun seats r.log r.phase r.holder seats once s.views a id v at every in
       let not_out = not_out_alone begun seats r.log r.phase r.holder seats once s.views a id v at every off in (
         w,
         keeps,
@@ -349,29 +430,42 @@ module _ {T E B : Type 0} (stands : T → B → List E → Type 0) (legal : B �
             legal_is = r.stored.legal_is;
             sleep_words = r.stored.sleep_words;
             count =
-                set_count s.words r.stored.sleep_words (2 * length r.log + held_bit r.phase) new (2 * length r.log + 1) r.stored.count (is ∙ ap (λ (l : List E). 2 * length l + 1) up);
+                set_count s.words r.stored.sleep_words (2 * length r.log + held_bit r.phase) new (2 * length r.log + 1)
+                r.stored.count (is ∙ ap (λ (l : List E). 2 * length l + 1) up);
             small = r.stored.small;
             room = λ h. absurd (out-shut (sym h));
             home = shut_home r.log r.phase s.homes not_out r.stored.home;
           };
           viewed = change begun seats r.log r.log r.phase shut r.holder r.holder seats seats once once s.views id v w a at
-              (renewed begun seats r.log r.log r.phase shut r.holder r.holder id v w k some_part refl refl some_part k.seen_is k.shorter_is k.placed (λ on. absurd (true≢false (sym on ∙ off))) (λ _. (refl, up, (k.start some_part).0)))
-              (λ j u n x. carried begun seats r.log r.log r.phase shut r.holder r.holder j u x (prefix-self r.log) (λ on. absurd (not_out (x.turn on).0)) (λ c. (refl, (x.closing c).1, (x.closing c).2)))
-              (λ h. absurd (out-shut (sym h))) refl (λ p. refl) (whole_here begun seats r.log r.phase r.holder seats once s.views a id v at w some_part up);
+              (renewed begun seats r.log r.log r.phase shut r.holder r.holder id v w k some_part refl refl some_part k.seen_is
+              k.shorter_is k.placed (λ on. absurd (true≢false (sym on ∙ off))) (λ _. (refl, up, (k.start some_part).0)))
+              (λ j u n x. carried begun seats r.log r.log r.phase shut r.holder r.holder j u x (prefix-self r.log)
+              (λ on. absurd (not_out (x.turn on).0)) (λ c. (refl, (x.closing c).1, (x.closing c).2)))
+              (λ h. absurd (out-shut (sym h))) refl (λ p. refl)
+              (whole_here begun seats r.log r.phase r.holder seats once s.views a id v at w some_part up);
         },
-        record { after = refl; places = λ p. places_alone begun seats r.log r.phase r.holder seats once s.views a id v at every p ∙ ap (λ (l : List E). once_below p (length l)) (sym up) },
+        record {
+          after = refl;
+          places = λ p. places_alone begun seats r.log r.phase r.holder seats once s.views a id v at every p
+              ∙ ap (λ (l : List E). once_below p (length l)) (sym up);
+        },
       )
 
   -- a seat that shows that the lock is closed
   pub witnesses : (id : ℕ) (v : V) → v.is_closed ≡ true → Splits Rule id v v (witness v)
   witnesses id v is s r at =
-      let w : V = witness v in let a = r.viewed in let k = a.each id v at in subst (λ (vs : List V). Rule record { words = s.words; homes = s.homes; views = vs ++ w ∷ [] }) (sym (set_again s.views id v at)) record {
+      let w : V = witness v in let a = r.viewed in let k =
+      a.each id v at in
+      subst (λ (vs : List V). Rule record { words = s.words; homes = s.homes; views = vs ++ w ∷ [] })
+      (sym (set_again s.views id v at)) record {
         log = r.log;
         phase = r.phase;
         holder = r.holder;
         stored = r.stored;
         viewed =
-            add begun seats r.log r.phase r.holder seats seats (λ p. once_below p (length r.log)) s.views w a (λ j. partless begun seats r.log r.phase r.holder j w refl refl k.seen_is (v.seen, refl) refl (λ _. k.closing is)) (omega arith) (λ p. refl);
+            add begun seats r.log r.phase r.holder seats seats (λ p. once_below p (length r.log)) s.views w a
+            (λ j. partless begun seats r.log r.phase r.holder j w refl refl k.seen_is (v.seen, refl) refl (λ _. k.closing is))
+            (omega arith) (λ p. refl);
       }
 
   closed_home : (log : List E) (phase : LockPhase) (homes : List (Option T)) → phase ≡ shut → IsHome Fits log phase homes
@@ -384,7 +478,8 @@ module _ {T E B : Type 0} (stands : T → B → List E → Type 0) (legal : B �
   pub leaves : (id : ℕ) (v : V) (ws : List ℕ) (xs : List T) (t : T) → Final (Seen Rule id v) ws xs → v.is_closed ≡ true
       → get_elem? xs 0 ≡ some t → StandsForHistory stands legal v.opening t v.seen
   leaves id v ws xs t f is e =
-      let s = f.0 in let r = f.1.0 in let k = (r.viewed.each id v f.1.1).closing is in let h = closed_home r.log r.phase s.homes k.0 r.stored.home in
+      let s = f.0 in let r = f.1.0 in let k = (r.viewed.each id v f.1.1).closing is in let h =
+      closed_home r.log r.phase s.homes k.0 r.stored.home in
       let same : h.0 ≡ t = some-injective h.0 t (sym (f.4 0 h.0 (ap (λ (hs : List (Option T)). get_elem? hs 0) h.1)) ∙ e) in
       subst (λ (x : T × List E × Maybe T). StandsForHistory stands legal x.2 x.0 x.1) (λ i. (same i, sym k.1 i, sym k.2 i)) h.2
 
@@ -396,7 +491,15 @@ module _ {T E B : Type 0} (stands : T → B → List E → Type 0) (legal : B �
     phase = free;
     holder = 0;
     stored =
-        record { legal_is = lg; sleep_words = 0 ∷ 0 ∷ 0 ∷ 0 ∷ []; count = refl; small = omega arith; room = λ h. absurd (out-free (sym h)); home = (t, refl, fit) };
+        record {
+          legal_is = lg;
+          sleep_words = 0 ∷ 0 ∷ 0 ∷ 0 ∷ [];
+          count = refl;
+          small = omega arith;
+          room =
+              λ h. absurd (out-free (sym h));
+          home = (t, refl, fit);
+        };
     viewed = record {
       each = first t is some_part;
       holding = λ h. absurd (out-free (sym h));
@@ -424,20 +527,21 @@ module _ {T E B : Type 0} (stands : T → B → List E → Type 0) (legal : B �
     m.0,
     keeps,
     tt,
-    subst (λ (vs : List V). Rule record { words = set s.words (suc i) new; homes = s.homes; views = vs }) (sym (set_again s.views id m.0 at)) record {
-      log = r.log;
-      phase = r.phase;
-      holder = r.holder;
-      stored = record {
-        legal_is = r.stored.legal_is;
-        sleep_words = set r.stored.sleep_words i new;
-        count = ap (λ (ws : List ℕ). set ws (suc i) new) r.stored.count;
-        small = r.stored.small;
-        room = r.stored.room;
-        home = r.stored.home;
-      };
-      viewed = r.viewed;
-    },
+    subst (λ (vs : List V). Rule record { words = set s.words (suc i) new; homes = s.homes; views = vs })
+        (sym (set_again s.views id m.0 at)) record {
+          log = r.log;
+          phase = r.phase;
+          holder = r.holder;
+          stored = record {
+            legal_is = r.stored.legal_is;
+            sleep_words = set r.stored.sleep_words i new;
+            count = ap (λ (ws : List ℕ). set ws (suc i) new) r.stored.count;
+            small = r.stored.small;
+            room = r.stored.room;
+            home = r.stored.home;
+          };
+          viewed = r.viewed;
+        },
     refl,
   )
 
@@ -451,7 +555,8 @@ module _ {T E B : Type 0} (stands : T → B → List E → Type 0) (legal : B �
       holder = r.holder;
       stored = r.stored;
       viewed =
-          add begun seats r.log r.phase r.holder seats seats (λ p. once_below p (length r.log)) s.views spent_view r.viewed (λ j. spent_is begun seats r.log r.phase r.holder j) (omega arith) (λ p. refl);
+          add begun seats r.log r.phase r.holder seats seats (λ p. once_below p (length r.log)) s.views spent_view r.viewed
+          (λ j. spent_is begun seats r.log r.phase r.holder j) (omega arith) (λ p. refl);
     },
     tt,
   )

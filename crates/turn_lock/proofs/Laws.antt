@@ -39,40 +39,51 @@ module _ {E : Type 0} where
   pub steps_at-more : (ss : List (List ℕ)) (seen log : List E) → ((p : ℕ) → length seen ≤ p → times_in p ss ≡ 0)
       → IsPrefix seen log → steps_at ss 0 log ≡ steps_at ss 0 seen
   steps_at-more ss seen log low more = ap (steps_at ss 0) (sym more.1) ∙ (steps_at-append ss 0 seen more.0
-      ∙ (ap (λ (l : List E). steps_at ss 0 seen ++ l) (steps_at-none ss (0 + length seen) more.0 (λ p l. low p (omega arith))) ∙ append-nil (steps_at ss 0 seen)))
+      ∙ (ap (λ (l : List E). steps_at ss 0 seen ++ l) (steps_at-none ss (0 + length seen) more.0 (λ p l. low p (omega arith)))
+      ∙ append-nil (steps_at ss 0 seen)))
 
   -- one own step more
   pub steps_at-own : (ss : List (List ℕ)) (log : List E) (e : E)
       → steps_at (to_first ss (length log)) 0 (log ++ e ∷ []) ≡ steps_at ss 0 log ++ e ∷ []
   steps_at-own ss log e = let ts = to_first ss (length log) in let n : ℕ = times_in (0 + length log) ss in
       let here : times_in (0 + length log) ts ≡ suc n =
-      let a = times_in-to_first (0 + length log) (length log) ss in let b = times-same (0 + length log) (length log) (omega arith) in omega arith in
+      let a = times_in-to_first (0 + length log) (length log) ss in let b =
+      times-same (0 + length log) (length log) (omega arith) in omega arith in
       steps_at-append ts 0 log (e ∷ [])
       ∙ (ap (λ (k : ℕ). steps_at ts 0 log ++ add_unless_zero k e []) here
-      ∙ ap (λ (l : List E). l ++ e ∷ []) (steps_at-same ts ss 0 log (λ p l. let a = times_in-to_first p (length log) ss in let b = times-below p (length log) (omega arith) in omega arith)))
+      ∙ ap (λ (l : List E). l ++ e ∷ [])
+      (steps_at-same ts ss 0 log (λ p l. let a = times_in-to_first p (length log) ss in
+      let b = times-below p (length log) (omega arith) in omega arith)))
 
   -- the same share by share: steps that others made
   pub steps_of_each-more : (ss : List (List ℕ)) (seen log : List E) → ((p : ℕ) → length seen ≤ p → times_in p ss ≡ 0)
       → IsPrefix seen log → steps_of_each ss log ≡ steps_of_each ss seen
   steps_of_each-more [] seen log low more = refl
   steps_of_each-more (s ∷ ss) seen log low more =
-      ap (λ (l : List E). l ∷ steps_of_each ss log) (steps_at-more (s ∷ []) seen log (λ p l. let z = low p l in let a = sum_by-cons (times p) s ss in let b = sum_by-cons (times p) s [] in omega arith) more)
-      ∙ ap (λ (ls : List (List E)). steps_at (s ∷ []) 0 seen ∷ ls) (steps_of_each-more ss seen log (λ p l. let z = low p l in let a = sum_by-cons (times p) s ss in omega arith) more)
+      ap (λ (l : List E). l ∷ steps_of_each ss log)
+      (steps_at-more (s ∷ []) seen log (λ p l. let z = low p l in let a = sum_by-cons (times p) s ss in
+      let b = sum_by-cons (times p) s [] in omega arith) more)
+      ∙ ap (λ (ls : List (List E)). steps_at (s ∷ []) 0 seen ∷ ls)
+      (steps_of_each-more ss seen log (λ p l. let z = low p l in let a = sum_by-cons (times p) s ss in omega arith) more)
 
   -- one own step more
   pub steps_of_each-own : (ss : List (List ℕ)) (log : List E) (e : E) → ((p : ℕ) → length log ≤ p → times_in p ss ≡ 0)
       → steps_of_each (to_first ss (length log)) (log ++ e ∷ []) ≡ to_first (steps_of_each ss log) e
   steps_of_each-own [] log e low =
-      ap (λ (l : List E). l ∷ []) (steps_at-own [] log e ∙ ap (λ (l : List E). l ++ e ∷ []) (steps_at-none [] 0 log (λ p l. refl)))
+      ap (λ (l : List E). l ∷ [])
+      (steps_at-own [] log e ∙ ap (λ (l : List E). l ++ e ∷ []) (steps_at-none [] 0 log (λ p l. refl)))
   steps_of_each-own (s ∷ ss) log e low = ap (λ (l : List E). l ∷ steps_of_each ss (log ++ e ∷ [])) (steps_at-own (s ∷ []) log e)
-      ∙ ap (λ (ls : List (List E)). (steps_at (s ∷ []) 0 log ++ e ∷ []) ∷ ls) (steps_of_each-more ss log (log ++ e ∷ []) (λ p l. let z = low p l in let a = sum_by-cons (times p) s ss in omega arith) (e ∷ [], refl))
+      ∙ ap (λ (ls : List (List E)). (steps_at (s ∷ []) 0 log ++ e ∷ []) ∷ ls)
+      (steps_of_each-more ss log (log ++ e ∷ []) (λ p l. let z = low p l in let a = sum_by-cons (times p) s ss in omega arith)
+      (e ∷ [], refl))
 
   -- two passes that saw less
   pub steps_of_each-both : (ss ts : List (List ℕ)) (xs ys log : List E) → ((p : ℕ) → length xs ≤ p → times_in p ss ≡ 0)
       → ((p : ℕ) → length ys ≤ p → times_in p ts ≡ 0) → IsPrefix xs log → IsPrefix ys log
       → steps_of_each (ss ++ ts) log ≡ steps_of_each ss xs ++ steps_of_each ts ys
   steps_of_each-both ss ts xs ys log low low' more more' = map-append (λ (s : List ℕ). steps_at (s ∷ []) 0 log) ss ts
-      ∙ (ap (λ (ls : List (List E)). ls ++ steps_of_each ts log) (steps_of_each-more ss xs log low more) ∙ ap (λ (ls : List (List E)). steps_of_each ss xs ++ ls) (steps_of_each-more ts ys log low' more'))
+      ∙ (ap (λ (ls : List (List E)). ls ++ steps_of_each ts log) (steps_of_each-more ss xs log low more)
+      ∙ ap (λ (ls : List (List E)). steps_of_each ss xs ++ ls) (steps_of_each-more ts ys log low' more'))
 
   steps_at-all : (ss : List (List ℕ)) (k : ℕ) (xs : List E) → ((p : ℕ) → k ≤ p → p < k + length xs → times_in p ss ≡ 1)
       → steps_at ss k xs ≡ xs
@@ -86,9 +97,11 @@ module _ {E : Type 0} where
   both_step zero zero c x us vs ws is low r =
       let z : c ≡ 0 = omega arith in subst (λ (n : ℕ). Interleaves us vs (add_unless_zero n x ws)) (sym z) r
   both_step (suc a) zero c x us vs ws is low r =
-      let z : c ≡ suc a = omega arith in subst (λ (n : ℕ). Interleaves (x ∷ us) vs (add_unless_zero n x ws)) (sym z) (inl (us, refl, r))
+      let z : c ≡ suc a =
+      omega arith in subst (λ (n : ℕ). Interleaves (x ∷ us) vs (add_unless_zero n x ws)) (sym z) (inl (us, refl, r))
   both_step zero (suc b) c x us vs ws is low r =
-      let z : c ≡ suc b = omega arith in subst (λ (n : ℕ). Interleaves us (x ∷ vs) (add_unless_zero n x ws)) (sym z) (inr (vs, refl, r))
+      let z : c ≡ suc b =
+      omega arith in subst (λ (n : ℕ). Interleaves us (x ∷ vs) (add_unless_zero n x ws)) (sym z) (inr (vs, refl, r))
   both_step (suc a) (suc b) c x us vs ws is low r = absurd (omega arith)
 
   -- the steps of two passes that have no step in common
@@ -96,15 +109,18 @@ module _ {E : Type 0} where
       → Interleaves (steps_at ss k xs) (steps_at ts k xs) (steps_at (ss ++ ts) k xs)
   steps_at-both ss ts k [] once = (refl, refl)
   steps_at-both ss ts k (x ∷ xs) once =
-      both_step (times_in k ss) (times_in k ts) (times_in k (ss ++ ts)) x (steps_at ss (suc k) xs) (steps_at ts (suc k) xs) (steps_at (ss ++ ts) (suc k) xs)
+      both_step (times_in k ss) (times_in k ts) (times_in k (ss ++ ts)) x (steps_at ss (suc k) xs) (steps_at ts (suc k) xs)
+      (steps_at (ss ++ ts) (suc k) xs)
       (times_in-append k ss ts) (once k) (steps_at-both ss ts (suc k) xs once)
 
   -- as many elements as both have
   pub length-Interleaves : (xs ys zs : List E) → Interleaves xs ys zs → length zs ≡ length xs + length ys
   length-Interleaves xs ys [] i = let a : length xs ≡ 0 = ap length i.0 in let b : length ys ≡ 0 = ap length i.1 in omega arith
   length-Interleaves xs ys (z ∷ zs) i =
-      ⊎_elim (λ (t : (rest : List E) × (xs ≡ z ∷ rest) × Interleaves rest ys zs). let r = length-Interleaves t.0 ys zs t.2 in let n : length xs ≡ suc (length t.0) = ap length t.1 in omega arith)
-      (λ (t : (rest : List E) × (ys ≡ z ∷ rest) × Interleaves xs rest zs). let r = length-Interleaves xs t.0 zs t.2 in let n : length ys ≡ suc (length t.0) = ap length t.1 in omega arith) i
+      ⊎_elim (λ (t : (rest : List E) × (xs ≡ z ∷ rest) × Interleaves rest ys zs). let r = length-Interleaves t.0 ys zs t.2 in
+      let n : length xs ≡ suc (length t.0) = ap length t.1 in omega arith)
+      (λ (t : (rest : List E) × (ys ≡ z ∷ rest) × Interleaves xs rest zs). let r = length-Interleaves xs t.0 zs t.2 in
+      let n : length ys ≡ suc (length t.0) = ap length t.1 in omega arith) i
 
   pub Interleaves-swap : (xs ys zs : List E) → Interleaves xs ys zs → Interleaves ys xs zs
   Interleaves-swap xs ys [] i = (i.1, i.0)
@@ -123,8 +139,10 @@ module _ {E N : Type 0} where
       → flat_map g zs ≡ flat_map g xs
   flat_map-Interleaves g xs ys [] i none = sym (ap (flat_map g) i.0)
   flat_map-Interleaves g xs ys (z ∷ zs) i none =
-      ⊎_elim (λ (t : (rest : List E) × (xs ≡ z ∷ rest) × Interleaves rest ys zs). ap (λ (l : List N). g z ++ l) (flat_map-Interleaves g t.0 ys zs t.2 none) ∙ sym (ap (flat_map g) t.1))
-      (λ (t : (rest : List E) × (ys ≡ z ∷ rest) × Interleaves xs rest zs). let e = both_empty (g z) (flat_map g t.0) (sym (ap (flat_map g) t.1) ∙ none) in
+      ⊎_elim (λ (t : (rest : List E) × (xs ≡ z ∷ rest) × Interleaves rest ys zs). ap (λ (l : List N). g z ++ l)
+      (flat_map-Interleaves g t.0 ys zs t.2 none) ∙ sym (ap (flat_map g) t.1))
+      (λ (t : (rest : List E) × (ys ≡ z ∷ rest) × Interleaves xs rest zs). let e =
+      both_empty (g z) (flat_map g t.0) (sym (ap (flat_map g) t.1) ∙ none) in
       ap (λ (l : List N). l ++ flat_map g zs) e.0 ∙ flat_map-Interleaves g xs t.0 zs t.2 e.1) i
 
 module _ {T E : Type 0} where
@@ -137,4 +155,5 @@ module _ {T E : Type 0} where
   -- a new pass has no steps
   pub no_steps : (v : View T E) → (own_steps (new_part v) ≡ []) × (steps_by_share (new_part v) ≡ [] ∷ [])
   no_steps v =
-      let none : steps_at ([] ∷ []) 0 v.seen ≡ [] = steps_at-none ([] ∷ []) 0 v.seen (λ p l. refl) in (none, ap (λ (l : List E). l ∷ []) none)
+      let none : steps_at ([] ∷ []) 0 v.seen ≡ [] = steps_at-none ([] ∷ []) 0 v.seen (λ p l. refl) in
+      (none, ap (λ (l : List E). l ∷ []) none)

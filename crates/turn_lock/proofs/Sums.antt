@@ -16,7 +16,8 @@ module _ {A : Type 0} (f : A → ℕ) where
   pub sum_by-changed : (l : List A) (i : ℕ) (v w : A) → get_elem? l i ≡ some v → sum_by f (set l i w) + f v ≡ sum_by f l + f w
   sum_by-changed [] i v w e = absurd (some-ne-none v (sym e))
   sum_by-changed (x ∷ xs) zero v w e =
-      let same : f x ≡ f v = ap f (some-injective x v e) in let a = sum_by-cons f w xs in let b = sum_by-cons f x xs in omega arith
+      let same : f x ≡ f v = ap f (some-injective x v e) in let a = sum_by-cons f w xs in let b =
+      sum_by-cons f x xs in omega arith
   sum_by-changed (x ∷ xs) (suc i) v w e =
       let r = sum_by-changed xs i v w e in let a = sum_by-cons f x (set xs i w) in let b = sum_by-cons f x xs in omega arith
 
@@ -30,9 +31,11 @@ module _ {A : Type 0} (f : A → ℕ) where
   sum_by-two [] i j v w e e' n = absurd (some-ne-none v (sym e))
   sum_by-two (x ∷ xs) zero zero v w e e' n = absurd (n refl)
   sum_by-two (x ∷ xs) zero (suc j) v w e e' n =
-      let same : f x ≡ f v = ap f (some-injective x v e) in let r = sum_by-one xs j w e' in let b = sum_by-cons f x xs in omega arith
+      let same : f x ≡ f v = ap f (some-injective x v e) in let r = sum_by-one xs j w e' in let b =
+      sum_by-cons f x xs in omega arith
   sum_by-two (x ∷ xs) (suc i) zero v w e e' n =
-      let same : f x ≡ f w = ap f (some-injective x w e') in let r = sum_by-one xs i v e in let b = sum_by-cons f x xs in omega arith
+      let same : f x ≡ f w = ap f (some-injective x w e') in let r = sum_by-one xs i v e in let b =
+      sum_by-cons f x xs in omega arith
   sum_by-two (x ∷ xs) (suc i) (suc j) v w e e' n =
       let r = sum_by-two xs i j v w e e' (λ h. n (ap suc h)) in let b = sum_by-cons f x xs in omega arith
 
@@ -46,10 +49,13 @@ module _ {A : Type 0} (f : A → ℕ) where
       → ((j : ℕ) (u : A) → j ≢ i → get_elem? l j ≡ some u → f u ≡ 0) → sum_by f l ≡ f v
   sum_by-only [] i v e none = absurd (some-ne-none v (sym e))
   sum_by-only (x ∷ xs) zero v e none =
-      let same : f x ≡ f v = ap f (some-injective x v e) in let r = sum_by-none xs (λ j u h. none (suc j) u (λ z. let y : suc j ≡ 0 = z in absurd (omega arith)) h) in let b = sum_by-cons f x xs in omega arith
+      let same : f x ≡ f v = ap f (some-injective x v e) in let r =
+      sum_by-none xs (λ j u h. none (suc j) u (λ z. let y : suc j ≡ 0 = z in absurd (omega arith)) h) in let b =
+      sum_by-cons f x xs in omega arith
   sum_by-only (x ∷ xs) (suc i) v e none = let a = none 0 x (λ z. let y : 0 ≡ suc i = z in absurd (omega arith)) refl in
       let r =
-      sum_by-only xs i v e (λ j u n h. none (suc j) u (λ z. n (let y : suc j ≡ suc i = z in omega arith)) h) in let b = sum_by-cons f x xs in omega arith
+      sum_by-only xs i v e (λ j u n h. none (suc j) u (λ z. n (let y : suc j ≡ suc i = z in omega arith)) h) in let b =
+      sum_by-cons f x xs in omega arith
 
 pub times_in-append : (p : ℕ) (xs ys : List (List ℕ)) → times_in p (xs ++ ys) ≡ times_in p xs + times_in p ys
 times_in-append p xs ys = sum_by-append (times p) xs ys
@@ -86,7 +92,8 @@ times-above p n l = grind (arith, nat_tests, common_steps)
 below_by : (b : Bool) (p n : ℕ) (ps : List ℕ) → nat_lt p n ≡ b → ((q : ℕ) → n ≤ q → times q (p ∷ ps) ≡ 0) → p < n
 below_by true p n ps e low = grind (arith, nat_tests)
 below_by false p n ps e low =
-    let l : n ≤ p = grind (arith, nat_tests) in let z = low p l in let o = times-same p p refl in let a = sum_by-cons (λ (x : ℕ). cond (x == p) 1 0) p ps in
+    let l : n ≤ p = grind (arith, nat_tests) in let z = low p l in let o = times-same p p refl in let a =
+    sum_by-cons (λ (x : ℕ). cond (x == p) 1 0) p ps in
     let b = sum_by-cons (λ (x : ℕ). cond (x == p) 1 0) p [] in absurd (omega arith)
 
 none_after : (p n : ℕ) (ps : List ℕ) → ((q : ℕ) → n ≤ q → times q (p ∷ ps) ≡ 0) → (q : ℕ) → n ≤ q → times q ps ≡ 0
@@ -94,7 +101,8 @@ none_after p n ps low q l = let z = low q l in let a = sum_by-cons (λ (x : ℕ)
 
 increasing-tail : (p : ℕ) (ps : List ℕ) → IsStrictlyIncreasing (p ∷ ps) → IsStrictlyIncreasing ps
 increasing-tail p ps up k l =
-    let e : suc k + 1 ≡ suc (k + 1) = omega arith in subst (λ (m : ℕ). slice_index (p ∷ ps) (suc k) < slice_index (p ∷ ps) m) e (up (suc k) (omega arith))
+    let e : suc k + 1 ≡ suc (k + 1) =
+    omega arith in subst (λ (m : ℕ). slice_index (p ∷ ps) (suc k) < slice_index (p ∷ ps) m) e (up (suc k) (omega arith))
 
 increasing-snoc : (ps : List ℕ) (n : ℕ) → IsStrictlyIncreasing ps → ((q : ℕ) → n ≤ q → times q ps ≡ 0)
     → IsStrictlyIncreasing (ps ++ n ∷ [])
@@ -112,7 +120,8 @@ pub rising-to_first : (ss : List (List ℕ)) (n : ℕ) → ((p : ℕ) → n ≤ 
 rising-to_first [] n low up =
     All-cons IsStrictlyIncreasing (n ∷ []) [] (λ k l. absurd (omega arith)) (All-nil IsStrictlyIncreasing)
 rising-to_first (s ∷ ss) n low up = All-cons IsStrictlyIncreasing (s ++ n ∷ []) ss
-    (increasing-snoc s n (All-head IsStrictlyIncreasing s ss up) (λ p l. let z = low p l in let a = sum_by-cons (times p) s ss in omega arith))
+    (increasing-snoc s n (All-head IsStrictlyIncreasing s ss up) (λ p l. let z = low p l in let a = sum_by-cons (times p) s ss in
+    omega arith))
     (All-tail IsStrictlyIncreasing s ss up)
 
 module _ {A : Type 0} where

@@ -41,7 +41,12 @@ module _ {T E B : Type 0} (stands : T → B → List E → Type 0) (legal : B �
   -- a look after a look
   pub look_on : (m n o : M T E) (r : ℕ) → Looked m n → Met stands legal n r o → Looked m o
   look_on m n o r k l =
-      record { log = l.log; after = l.after ∙ ap (λ (x : M T E). (caught_up x.0 l.log, x.1)) k.after; older = longer_on m n l.log k l.older }
+      record {
+        log = l.log;
+        after = l.after ∙ ap (λ (x : M T E). (caught_up x.0 l.log, x.1)) k.after;
+        older =
+            longer_on m n l.log k l.older;
+      }
 
   -- the turn taken after a look
   pub took_on : (m n o : M T E) (r : ℕ) → Looked m n → Took stands legal n r o → Took stands legal m r o
@@ -52,7 +57,8 @@ module _ {T E B : Type 0} (stands : T → B → List E → Type 0) (legal : B �
     older = longer_on m n t.log k t.older;
     count = t.count;
     stands_is =
-        subst (λ (b : Option T). StandsForHistory stands legal b t.state t.log) (ap (λ (x : M T E). x.0.opening) k.after) t.stands_is;
+        subst (λ (b : Option T). StandsForHistory stands legal b t.state t.log) (ap (λ (x : M T E). x.0.opening) k.after)
+        t.stands_is;
   }
 
   -- a full history found after a look
@@ -112,7 +118,8 @@ module _ {T E B : Type 0} (stands : T → B → List E → Type 0) (legal : B �
       room = let a = t.count in omega arith;
       after = after;
       legal_is = λ b begins. only r.state b p.0.seen (subst (λ (x : View T E). stands r.state b x.seen) (sym kept)
-          (r.stands_is.1 b (subst (λ (x : Option T). BeginsFrom stands legal x b) (ap (λ (x : M T E). x.0.opening) (sym t.after)) begins)));
+          (r.stands_is.1 b
+          (subst (λ (x : Option T). BeginsFrom stands legal x b) (ap (λ (x : M T E). x.0.opening) (sym t.after)) begins)));
       mine = ap own_steps after ∙ own_on m.0 t.log st low t.older;
       by_share = ap steps_by_share after ∙ each_on m.0 t.log st low t.older;
     }
@@ -122,14 +129,17 @@ module _ {T E B : Type 0} (stands : T → B → List E → Type 0) (legal : B �
 
     pub rising_on : IsRising m.0 → IsRising p.0
     rising_on up =
-        subst IsRising (sym after) (rising_released (with_turn m.0 t.log) st (λ q l. low q (let n = prefix-length m.0.seen t.log t.older in omega arith)) up)
+        subst IsRising (sym after)
+        (rising_released (with_turn m.0 t.log) st (λ q l. low q (let n = prefix-length m.0.seen t.log t.older in omega arith))
+        up)
 
     pub placed_on : IsPlaced p.0
     placed_on = release.placed (λ q l. low q (let n = prefix-length m.0.seen t.log t.older in omega arith))
 
 module _ {E : Type 0} where
   pub length-longer : (xs ys : List E)
-      → (length xs ≤ length (longer xs ys)) × (length ys ≤ length (longer xs ys)) × (max (length xs) (length ys) ≡ length (longer xs ys))
+      → (length xs ≤ length (longer xs ys)) × (length ys ≤ length (longer xs ys))
+      × (max (length xs) (length ys) ≡ length (longer xs ys))
   length-longer xs ys =
       by_longer xs ys (λ a b. (length xs ≤ length a) × (length ys ≤ length a) × (max (length xs) (length ys) ≡ length a))
       (λ l. (omega arith, omega arith, omega arith)) (λ l. (omega arith, omega arith, omega arith))
@@ -137,12 +147,14 @@ module _ {E : Type 0} where
   both_older : (xs ys : List E) → IsPrefix (shorter xs ys) (longer xs ys)
       → IsPrefix xs (longer xs ys) × IsPrefix ys (longer xs ys)
   both_older xs ys =
-      by_longer xs ys (λ a b. IsPrefix b a → IsPrefix xs a × IsPrefix ys a) (λ l p. (p, prefix-self ys)) (λ l p. (prefix-self xs, p))
+      by_longer xs ys (λ a b. IsPrefix b a → IsPrefix xs a × IsPrefix ys a) (λ l p. (p, prefix-self ys))
+      (λ l p. (prefix-self xs, p))
 
 module _ {T E : Type 0} where
   pub joined_placed : (v w : View T E) → IsPlaced v → IsPlaced w → IsPlaced (settled (joined v w))
   joined_placed v w a b p l =
-      let n = length-longer v.seen w.seen in let i = n.0 in let j = n.1 in let x = a p (omega arith) in let y = b p (omega arith) in let t = times_in-append p v.shares w.shares in omega arith
+      let n = length-longer v.seen w.seen in let i = n.0 in let j = n.1 in let x = a p (omega arith) in let y =
+      b p (omega arith) in let t = times_in-append p v.shares w.shares in omega arith
 
   pub joined_rising : (v w : View T E) → IsRising v → IsRising w → IsRising (settled (joined v w))
   joined_rising v w = All-append IsStrictlyIncreasing v.shares w.shares
@@ -160,11 +172,13 @@ module _ {T E : Type 0} where
       let once : (p : ℕ) → times_in p (v.shares ++ w.shares) ≤ 1 =
       subst (λ (x : View T E). (p : ℕ) → times_in p x.shares ≤ 1) is s.once in
       let older =
-      both_older v.seen w.seen (subst (λ (x : View T E). IsPrefix x.shorter x.seen) is s.older) in let log : List E = longer v.seen w.seen in record {
+      both_older v.seen w.seen (subst (λ (x : View T E). IsPrefix x.shorter x.seen) is s.older) in let log : List E =
+      longer v.seen w.seen in record {
         older = older;
         once = once;
         mine =
-            subst (λ (x : List E × List E). Interleaves x.0 x.1 (own_steps (settled (joined v w)))) (λ i. (steps_at-more v.shares v.seen log a older.0 i, steps_at-more w.shares w.seen log b older.1 i))
+            subst (λ (x : List E × List E). Interleaves x.0 x.1 (own_steps (settled (joined v w))))
+            (λ i. (steps_at-more v.shares v.seen log a older.0 i, steps_at-more w.shares w.seen log b older.1 i))
             (steps_at-both v.shares w.shares 0 log once);
         by_share = steps_of_each-both v.shares w.shares v.seen w.seen log a b older.0 older.1;
       })

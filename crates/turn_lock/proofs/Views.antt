@@ -68,7 +68,8 @@ module _ {T E : Type 0} (opening : Maybe T) (seats : ℕ) where
       → IsPrefix w.seen log' → IsPrefix w.shorter w.seen → IsPlaced w
       → (w.has_turn ≡ true → (phase' ≡ out) × (id ≡ holder') × (w.seen ≡ log') × (0 < w.parts))
       → (w.is_closed ≡ true → (phase' ≡ shut) × (w.seen ≡ log') × (w.opening ≡ opening)) → One log' phase' holder' id w
-  renewed log log' phase phase' holder holder' id v w k some_part opening_is seats_is left seen_is shorter_is placed turn closing =
+  renewed log log' phase phase' holder holder' id v w k some_part opening_is seats_is left seen_is shorter_is placed turn
+      closing =
       record {
         start = λ _. let e = k.start some_part in (opening_is ∙ e.0, seats_is ∙ e.1);
         seen_is = seen_is;
@@ -99,7 +100,8 @@ module _ {T E : Type 0} (opening : Maybe T) (seats : ℕ) where
       partless log phase holder j spent_view refl refl (log, refl) ([], refl) refl (λ on. absurd (true≢false (sym on)))
 
   -- one view changes
-  pub change : (log log' : List E) (phase phase' : LockPhase) (holder holder' parts parts' : ℕ) (once once' : ℕ → ℕ) (vs : List (View T E)) (id : ℕ) (v w : View T E)
+  pub change : (log log' : List E) (phase phase' : LockPhase) (holder holder' parts parts' : ℕ) (once once' : ℕ → ℕ)
+      (vs : List (View T E)) (id : ℕ) (v w : View T E)
       → All log phase holder parts once vs → get_elem? vs id ≡ some v
       → One log' phase' holder' id w → ((j : ℕ) (u : View T E) → j ≢ id → One log phase holder j u → One log' phase' holder' j u)
       → Turning phase' holder' (set vs id w)
@@ -109,12 +111,15 @@ module _ {T E : Type 0} (opening : Maybe T) (seats : ℕ) where
   change log log' phase phase' holder holder' parts parts' once once' vs id v w r at mine others holding same places whole =
       record {
         each =
-            λ j u e. ⊎_elim (λ (t : (j ≡ id) × (w ≡ u)). subst (λ (x : ℕ × View T E). One log' phase' holder' x.0 x.1) (λ i. (sym t.0 i, t.1 i)) mine)
+            λ j u e. ⊎_elim
+            (λ (t : (j ≡ id) × (w ≡ u)). subst (λ (x : ℕ × View T E). One log' phase' holder' x.0 x.1)
+            (λ i. (sym t.0 i, t.1 i)) mine)
             (λ (t : (j ≢ id) × (get_elem? vs j ≡ some u)). others j u t.0 (r.each j u t.1)) (at_set vs id j w u e);
         holding = holding;
         all_parts = let t = sum_by-changed (λ (u : View T E). u.parts) vs id v w at in let p = r.all_parts in omega arith;
         all_places =
-            λ p. let t = sum_by-changed (λ (u : View T E). times_in p u.shares) vs id v w at in let q = r.all_places p in let g = places p in omega arith;
+            λ p. let t = sum_by-changed (λ (u : View T E). times_in p u.shares) vs id v w at in let q = r.all_places p in let g =
+            places p in omega arith;
         whole = whole;
       }
 
@@ -124,19 +129,23 @@ module _ {T E : Type 0} (opening : Maybe T) (seats : ℕ) where
       → parts' ≡ parts + w.parts → ((p : ℕ) → times_in p w.shares ≡ 0) → All log phase holder parts' once (vs ++ w ∷ [])
   add log phase holder parts parts' once vs w r mine same none = record {
     each =
-        λ j u e. ⊎_elim (λ (there : get_elem? vs j ≡ some u). r.each j u there) (λ (is : w ≡ u). subst (One log phase holder j) is (mine j)) (at_snoc vs w u j e);
+        λ j u e. ⊎_elim (λ (there : get_elem? vs j ≡ some u). r.each j u there)
+        (λ (is : w ≡ u). subst (One log phase holder j) is (mine j)) (at_snoc vs w u j e);
     holding = λ h. let t = r.holding h in (t.0, at_longer vs (w ∷ []) holder t.0 t.1, t.2);
     all_parts = let a = sum_by_push (λ (u : View T E). u.parts) vs w in let p = r.all_parts in omega arith;
     all_places =
-        λ p. let a = sum_by_push (λ (u : View T E). times_in p u.shares) vs w in let q = r.all_places p in let n = none p in omega arith;
+        λ p. let a = sum_by_push (λ (u : View T E). times_in p u.shares) vs w in let q = r.all_places p in let n =
+        none p in omega arith;
     whole = let x = r.whole in (x.0, x.1, at_longer vs (w ∷ []) x.0 x.1 x.2, x.3, x.4);
   }
 
-  module _ (log : List E) (phase : LockPhase) (holder parts : ℕ) (once : ℕ → ℕ) (vs : List (View T E)) (r : All log phase holder parts once vs) (id : ℕ) (v : View T E) (at : get_elem? vs id ≡ some v) where
+  module _ (log : List E) (phase : LockPhase) (holder parts : ℕ) (once : ℕ → ℕ) (vs : List (View T E))
+      (r : All log phase holder parts once vs) (id : ℕ) (v : View T E) (at : get_elem? vs id ≡ some v) where
     -- a seat that hasn't the turn is another than the one that has it
     apart : v.has_turn ≡ false → phase ≡ out → holder ≢ id
     apart off h same =
-        let t = r.holding h in true≢false (sym t.2 ∙ (ap (λ (u : View T E). u.has_turn) (same_view vs holder id t.0 v same t.1 at) ∙ off))
+        let t = r.holding h in
+        true≢false (sym t.2 ∙ (ap (λ (u : View T E). u.has_turn) (same_view vs holder id t.0 v same t.1 at) ∙ off))
 
     pub still_turning : (w : View T E) → v.has_turn ≡ false → Turning phase holder (set vs id w)
     still_turning w off h = let t = r.holding h in (t.0, set_else vs id holder w (apart off h) ∙ t.1, t.2)
@@ -157,7 +166,8 @@ module _ {T E : Type 0} (opening : Maybe T) (seats : ℕ) where
 
     pub places_alone : v.parts ≡ parts → (p : ℕ) → times_in p v.shares ≡ once p
     places_alone all p =
-        sym (sum_by-only (λ (u : View T E). times_in p u.shares) vs id v at (λ j u n e. (r.each j u e).spent (alone all j u n e) p))
+        sym (sum_by-only (λ (u : View T E). times_in p u.shares) vs id v at
+        (λ j u n e. (r.each j u e).spent (alone all j u n e) p))
         ∙ r.all_places p
 
     pub seen_alone : v.parts ≡ parts → v.seen ≡ log
@@ -167,4 +177,5 @@ module _ {T E : Type 0} (opening : Maybe T) (seats : ℕ) where
 
     pub not_out_alone : v.parts ≡ parts → v.has_turn ≡ false → phase ≢ out
     not_out_alone all off h =
-        let t = r.holding h in let z = alone all holder t.0 (apart off h) t.1 in let x = ((r.each holder t.0 t.1).turn t.2).3 in absurd (omega arith)
+        let t = r.holding h in let z = alone all holder t.0 (apart off h) t.1 in let x = ((r.each holder t.0 t.1).turn t.2).3 in
+        absurd (omega arith)

@@ -29,22 +29,24 @@ module _ {T E : Type 0} where
   IsHome fits log shut homes = (t : T) × (homes ≡ some t ∷ []) × fits t log
 
   -- The view v of the seat j, where the seat `holder` has the turn if the state is out.
-  pub record IsView (opening : Maybe T) (seats : ℕ) (log : List E) (phase : LockPhase) (holder j : ℕ) (v : View T E) : Type 0 where
-    -- a view that isn't spent carries the one start
-    pub start : 0 < v.parts → (v.opening ≡ opening) × (v.seats ≡ seats)
-    -- what was seen begins the history
-    pub seen_is : IsPrefix v.seen log
-    pub shorter_is : IsPrefix v.shorter v.seen
-    -- the places of its shares lie below the length of what was seen
-    pub placed : IsPlaced v
-    -- one seat at most has the turn, one that isn't spent and has seen the whole history, and then the state is out
-    pub turn : v.has_turn ≡ true → (phase ≡ out) × (j ≡ holder) × (v.seen ≡ log) × (0 < v.parts)
-    pub closing : v.is_closed ≡ true → (phase ≡ shut) × (v.seen ≡ log) × (v.opening ≡ opening)
-    -- a spent view has no part, no share and, by `turn`, not the turn
-    pub spent : v.parts ≡ 0 → (p : ℕ) → times_in p v.shares ≡ 0
+  pub record IsView (opening : Maybe T) (seats : ℕ) (log : List E) (phase : LockPhase) (holder j : ℕ) (v : View T E) : Type 0
+    where
+      -- a view that isn't spent carries the one start
+      pub start : 0 < v.parts → (v.opening ≡ opening) × (v.seats ≡ seats)
+      -- what was seen begins the history
+      pub seen_is : IsPrefix v.seen log
+      pub shorter_is : IsPrefix v.shorter v.seen
+      -- the places of its shares lie below the length of what was seen
+      pub placed : IsPlaced v
+      -- one seat at most has the turn, one that isn't spent and has seen the whole history, and then the state is out
+      pub turn : v.has_turn ≡ true → (phase ≡ out) × (j ≡ holder) × (v.seen ≡ log) × (0 < v.parts)
+      pub closing : v.is_closed ≡ true → (phase ≡ shut) × (v.seen ≡ log) × (v.opening ≡ opening)
+      -- a spent view has no part, no share and, by `turn`, not the turn
+      pub spent : v.parts ≡ 0 → (p : ℕ) → times_in p v.shares ≡ 0
 
   -- All views. `parts` and `place_count` say how many parts, and how often each place, they have together.
-  pub record AreViews (opening : Maybe T) (seats : ℕ) (log : List E) (phase : LockPhase) (holder : ℕ) (parts : ℕ) (place_count : ℕ → ℕ) (views : List (View T E)) : Type 0 where
+  pub record AreViews (opening : Maybe T) (seats : ℕ) (log : List E) (phase : LockPhase) (holder : ℕ) (parts : ℕ)
+      (place_count : ℕ → ℕ) (views : List (View T E)) : Type 0 where
     pub each : (j : ℕ) (v : View T E) → get_elem? views j ≡ some v → IsView opening seats log phase holder j v
     -- while the state is out, a seat has the turn
     pub holding : phase ≡ out → (v : View T E) × (get_elem? views holder ≡ some v) × (v.has_turn ≡ true)
@@ -55,15 +57,16 @@ module _ {T E : Type 0} where
 
 module _ {T E B : Type 0} (stands : T → B → List E → Type 0) (legal : B → List E → Type 0) where
   -- The words and the slot.
-  pub record IsStored (opening : Maybe T) (log : List E) (phase : LockPhase) (words : List ℕ) (homes : List (Option T)) : Type 0 where
-    -- the history is legal from the start
-    pub legal_is : IsLegal stands legal opening log
-    -- the count is the length of the history; `sleep_words` are the words that count and ring sleepers
-    pub sleep_words : List ℕ
-    pub count : words ≡ (2 * length log + held_bit phase) ∷ sleep_words
-    pub small : length log ≤ 2 ^ 62
-    pub room : phase ≡ out → length log < 2 ^ 62
-    pub home : IsHome (StandsForHistory stands legal opening) log phase homes
+  pub record IsStored (opening : Maybe T) (log : List E) (phase : LockPhase) (words : List ℕ) (homes : List (Option T)) : Type 0
+    where
+      -- the history is legal from the start
+      pub legal_is : IsLegal stands legal opening log
+      -- the count is the length of the history; `sleep_words` are the words that count and ring sleepers
+      pub sleep_words : List ℕ
+      pub count : words ≡ (2 * length log + held_bit phase) ∷ sleep_words
+      pub small : length log ≤ 2 ^ 62
+      pub room : phase ≡ out → length log < 2 ^ 62
+      pub home : IsHome (StandsForHistory stands legal opening) log phase homes
 
   -- The rule: one history, for which the state stands; the parts are `seats` together; each place below the
   -- history's end is one own step of one pass.

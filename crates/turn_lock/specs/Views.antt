@@ -50,7 +50,17 @@ module _ {T E : Type 0} where
   -- the first pass of a lock
   abbrev pub opening_view : T → ℕ → View T E
   opening_view t seats =
-      record { opening = Some t; seats = seats; seen = []; shorter = []; shares = [] ∷ []; parts = seats; has_turn = false; is_closed = false }
+      record {
+        opening = Some t;
+        seats = seats;
+        seen = [];
+        shorter = [];
+        shares = [] ∷ [];
+        parts = seats;
+        has_turn =
+            false;
+        is_closed = false;
+      }
 
   -- the history so far is seen
   abbrev pub caught_up : View T E → List E → View T E
@@ -71,12 +81,28 @@ module _ {T E : Type 0} where
 
   abbrev pub new_part : View T E → View T E
   new_part v =
-      record { opening = v.opening; seats = v.seats; seen = v.seen; shorter = []; shares = [] ∷ []; parts = 1; has_turn = false; is_closed = false }
+      record {
+        opening = v.opening;
+        seats = v.seats;
+        seen = v.seen;
+        shorter = [];
+        shares = [] ∷ [];
+        parts = 1;
+        has_turn =
+            false;
+        is_closed = false;
+      }
 
   -- two passes become one
   abbrev pub joined : View T E → View T E → View T E
   joined v w =
-      record v { seen = longer v.seen w.seen; shorter = shorter v.seen w.seen; shares = v.shares ++ w.shares; parts = v.parts + w.parts }
+      record v {
+        seen = longer v.seen w.seen;
+        shorter = shorter v.seen w.seen;
+        shares = v.shares ++ w.shares;
+        parts =
+            v.parts + w.parts;
+      }
 
   abbrev pub settled : View T E → View T E
   settled v = record v { shorter = [] }
@@ -92,7 +118,17 @@ module _ {T E : Type 0} where
 
   abbrev pub witness : View T E → View T E
   witness v =
-      record { opening = v.opening; seats = v.seats; seen = v.seen; shorter = []; shares = []; parts = 0; has_turn = false; is_closed = v.is_closed }
+      record {
+        opening = v.opening;
+        seats = v.seats;
+        seen = v.seen;
+        shorter = [];
+        shares = [];
+        parts = 0;
+        has_turn =
+            false;
+        is_closed = v.is_closed;
+      }
 
 module _ {T E B : Type 0} (stands : T → B → List E → Type 0) (legal : B → List E → Type 0) where
   -- the state that the lock began with stood for no step from the start b

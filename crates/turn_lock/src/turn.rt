@@ -33,7 +33,9 @@ impl<T: Kept> TurnLock<T> {
     ) -> Turn<S::Answer>
         requires own { lock_of pass.old ≡ lock_id self.now }
         ensures own { IsSamePass pass.old pass.new }
-        ensures turn { TurnCase result (CaughtUp T.stands T.is_legal (known pass.old) (known pass.new) × (length (known pass.new).seen ≡ 2 ^ 62)) (λ a. Turned T.stands T.is_legal (known pass.old) (step_if (S.counts a) (S.step_of step.old a)) (known pass.new)) }
+        ensures turn { TurnCase result
+            (CaughtUp T.stands T.is_legal (known pass.old) (known pass.new) × (length (known pass.new).seen ≡ 2 ^ 62))
+            (λ a. Turned T.stands T.is_legal (known pass.old) (step_if (S.counts a) (S.step_of step.old a)) (known pass.new)) }
     {
         let step_snapshot = Snapshot::of(step);
         let Some(word) = self.take(rt, &mut pass.seat, pass.count) else {
@@ -57,7 +59,8 @@ impl<T: Kept> TurnLock<T> {
         requires rests { (seat.old.me.1 ≡ []) × (seat.old.me.0.has_turn ≡ false) × (0 < seat.old.me.0.parts) }
         requires low { count ≤ 2 ^ 62 }
         ensures own { (seat.new.table_id ≡ seat.old.table_id) × (seat.new.id ≡ seat.old.id) }
-        ensures taken { MatchOption result (CaughtUpFull T.stands T.is_legal seat.old.me seat.new.me) (λ n. (n < 2 ^ 63) × Took T.stands T.is_legal seat.old.me n seat.new.me) }
+        ensures taken { MatchOption result (CaughtUpFull T.stands T.is_legal seat.old.me seat.new.me)
+            (λ n. (n < 2 ^ 63) × Took T.stands T.is_legal seat.old.me n seat.new.me) }
     {
         let word = count * 2;
         if word < FULL && self.seize(seat, word) {
@@ -72,7 +75,8 @@ impl<T: Kept> TurnLock<T> {
         requires own { seat.old.table_id ≡ self.now.table.shared.table_id }
         requires rests { (seat.old.me.1 ≡ []) × (seat.old.me.0.has_turn ≡ false) × (0 < seat.old.me.0.parts) }
         ensures own { (seat.new.table_id ≡ seat.old.table_id) × (seat.new.id ≡ seat.old.id) }
-        ensures taken { MatchOption result (CaughtUpFull T.stands T.is_legal seat.old.me seat.new.me) (λ n. (n < 2 ^ 63) × Took T.stands T.is_legal seat.old.me n seat.new.me) }
+        ensures taken { MatchOption result (CaughtUpFull T.stands T.is_legal seat.old.me seat.new.me)
+            (λ n. (n < 2 ^ 63) × Took T.stands T.is_legal seat.old.me n seat.new.me) }
     {
         let mut looks = 0;
         for _ in rt.forever() {

@@ -26,13 +26,15 @@ impl Circuit {
         requires calls { HasCallsFor 32 relay.old }
         requires bodies { counters.old.bodies < 2 ^ 99 }
         requires dials { counters.old.dial_orders < 2 ^ 99 }
-        ensures settles { (events : List Event) → RelayIs relay.old (rules_of rules.now) events self.old.back → AreOpened opened_bodies.now (rules_of rules.now) events self.old →
+        ensures settles { (events : List Event) → RelayIs relay.old (rules_of rules.now) events self.old.back
+            → AreOpened opened_bodies.now (rules_of rules.now) events self.old →
             SettlesForth (rules_of rules.now) events self.old self.new counters.old counters.new relay.new result }
         ensures grown { CallsGrow (length opened_bodies.now) relay.old relay.new }
         ensures counts { counters.new ≡ record counters.old { bodies = counters.new.bodies; dial_orders = counters.new.dial_orders } }
         ensures bodies { counters.new.bodies ≤ counters.old.bodies + 32 }
         ensures dials { counters.new.dial_orders ≤ counters.old.dial_orders + 32 }
-        ensures taken { self.new.forth.claimed_count + length self.new.forth.waiting_bodies ≤ self.old.forth.claimed_count + length self.old.forth.waiting_bodies }
+        ensures taken { self.new.forth.claimed_count + length self.new.forth.waiting_bodies ≤ self.old.forth.claimed_count
+            + length self.old.forth.waiting_bodies }
     {
         for number in 0..opened_bodies.len() {
             let command = self.forth.command_out(number);

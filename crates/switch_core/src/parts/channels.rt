@@ -31,7 +31,8 @@ impl Parts {
 
     /// The channel with this number, if it is live.
     pub(super) fn channel(&self, chan: ChanNo) -> Option<&Channel>
-        ensures { MatchOption result (slot_at self.now.channels chan.0 ≡ None) (λ channel. slot_at self.now.channels chan.0 ≡ Some channel.now) }
+        ensures { MatchOption result (slot_at self.now.channels chan.0 ≡ None)
+            (λ channel. slot_at self.now.channels chan.0 ≡ Some channel.now) }
     {
         if chan.0 < self.channels.len() as u64 {
             Some(&self.channels[chan.0 as usize])

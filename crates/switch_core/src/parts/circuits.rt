@@ -33,7 +33,8 @@ impl Parts {
         requires steps { self.old.steps < 2 ^ 62 }
         requires fixed { is_var opening.now.reply.body ≡ false }
         requires command { IfSome opening.now.keys (λ _. IsTrue (opens_circuit opening.now.reply.command)) }
-        ensures state { OpenCase result (self.new ≡ self.old) (self.new ≡ open_state most self.old chan.0 id opening.now.reply opening.now.keys) }
+        ensures state { OpenCase result (self.new ≡ self.old)
+            (self.new ≡ open_state most self.old chan.0 id opening.now.reply opening.now.keys) }
         ensures answer { OpenCase result ⊤ (result ≡ open_result most self.old chan.0 id opening.now.keys) }
     {
         let answer = self.open_answer(most, chan, id, &opening.keys);

@@ -24,7 +24,8 @@ impl Parts {
     pub fn take(&mut self, chan: ChanNo, cell: &Cell) -> TakeAnswer
         requires steps { self.old.steps < 2 ^ 62 }
         requires formed { IsWellFormed cell.now }
-        ensures state { TakeCase result (self.new ≡ self.old) ((rules : Rules) (ev : ℕ → List Event) → self.new ≡ take_state rules ev self.old chan.0 cell.now) }
+        ensures state { TakeCase result (self.new ≡ self.old) ((rules : Rules) (ev : ℕ → List Event)
+            → self.new ≡ take_state rules ev self.old chan.0 cell.now) }
         ensures answer { TakeCase result ⊤ ((rules : Rules) (ev : ℕ → List Event) → result ≡ take_result rules ev self.old chan.0 cell.now) }
         ensures leg { TakeCase result ⊤ (IsOnLeg result self.old chan.0 cell.now.circ) }
     {
@@ -80,8 +81,11 @@ impl Parts {
         requires formed { IsWellFormed cell.now }
         requires command { IsTrue (is_for_circuit cell.now.command) }
         requires one_leg { HasOneLeg (slot_at self.old.circuits number) }
-        ensures state { TakeCase result (self.new ≡ self.old) ((rules : Rules) (ev : ℕ → List Event) → self.new ≡ circuit_state rules ev self.old (first_leg_of number) (circuit_cell cell.now) (slot_at self.old.circuits number) result) }
-        ensures answer { TakeCase result ⊤ ((rules : Rules) (ev : List Event) → result ≡ leg_result rules ev (first_leg_of number) (circuit_cell cell.now) (slot_at self.old.circuits number)) }
+        ensures state { TakeCase result (self.new ≡ self.old) ((rules : Rules) (ev : ℕ → List Event)
+            → self.new ≡ circuit_state rules ev self.old (first_leg_of number) (circuit_cell cell.now)
+            (slot_at self.old.circuits number) result) }
+        ensures answer { TakeCase result ⊤ ((rules : Rules) (ev : List Event)
+            → result ≡ leg_result rules ev (first_leg_of number) (circuit_cell cell.now) (slot_at self.old.circuits number)) }
     {
         let circ = CircNo(number as u64);
         if cell.command == command::DESTROY {
@@ -137,7 +141,8 @@ impl Parts {
     fn queue_forth(&mut self, number: usize, cell: &Cell) -> TakeAnswer
         requires steps { self.old.steps < 2 ^ 62 }
         requires fixed { is_var cell.now.body ≡ false }
-        ensures state { TakeCase result (self.new ≡ self.old) (self.new ≡ forth_queued_state self.old number (circuit_cell cell.now) (slot_at self.old.circuits number)) }
+        ensures state { TakeCase result (self.new ≡ self.old)
+            (self.new ≡ forth_queued_state self.old number (circuit_cell cell.now) (slot_at self.old.circuits number)) }
         ensures answer { TakeCase result ⊤ (result ≡ queued_answer (slot_at self.old.circuits number)) }
     {
         let Body::Fixed(payload) = &cell.body else {

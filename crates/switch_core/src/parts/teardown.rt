@@ -45,7 +45,8 @@ impl Parts {
     /// A leg's DESTROY waits on its channel, which is a step.
     fn put_destroy(&mut self, leg: Leg, reason: u8)
         requires { self.old.steps < 2 ^ 62 }
-        ensures { self.new ≡ record (counted self.old) { channels = with_lanes (λ n. destroy_of n reason (Some leg.state)) 0 self.old.channels } }
+        ensures { self.new
+            ≡ record (counted self.old) { channels = with_lanes (λ n. destroy_of n reason (Some leg.state)) 0 self.old.channels } }
     {
         let chan = leg.chan();
         if chan.0 >= self.channels.len() as u64 {

@@ -21,9 +21,11 @@ impl Switch {
         requires { self.old.state.steps < 2 ^ 62 }
         ensures start { self.new.start ≡ self.old.start }
         ensures steps { self.new.state.steps ≡ self.old.state.steps + 1 }
-        ensures whole { OfPlace self.old job.note job.cipher job.bodies.items (λ place. SwitchAdds self.old self.new (Abandon job.note place result)) }
+        ensures whole { OfPlace self.old job.note job.cipher job.bodies.items
+            (λ place. SwitchAdds self.old self.new (Abandon job.note place result)) }
         ensures refused { RefusedCase result (self.new ≡ record self.old { state = counted self.old.state }) }
-        ensures answer { OfPlace self.old job.note job.cipher job.bodies.items (λ place. result ≡ abandon_result self.old.start.name self.old.state job.note place) }
+        ensures answer { OfPlace self.old job.note job.cipher job.bodies.items
+            (λ place. result ≡ abandon_result self.old.start.name self.old.state job.note place) }
     {
         let JobParts {
             note,
@@ -44,7 +46,8 @@ impl Switch {
         requires { self.old.state.steps < 2 ^ 62 }
         ensures start { self.new.start ≡ self.old.start }
         ensures steps { self.new.state.steps ≡ self.old.state.steps + 1 }
-        ensures whole { OfPlace self.old done.note done.start done.input.items (λ place. SwitchAdds self.old self.new (GiveBack done.note place result)) }
+        ensures whole { OfPlace self.old done.note done.start done.input.items
+            (λ place. SwitchAdds self.old self.new (GiveBack done.note place result)) }
         ensures refused { RefusedCase result (self.new ≡ record self.old { state = counted self.old.state }) }
     {
         let DoneParts {

@@ -33,14 +33,17 @@ use Rattle.tr_io.specs.declared.step.Step.TheVariants.{Abandon}
 abbrev giving_up : ClaimNote → Option ℕ → ℕ → Step
 giving_up n place reason = Abandon n place (BackAnswer.Down reason)
 
-torn-kept : (start : SwitchStart) (s : State) (h : List Step) (n : ClaimNote) (place : Option ℕ) (reason : ℕ) (x : CircuitState) → Stands start s h → slot_at s.circuits n.circ.0 ≡ Some x → BackAnswer.Down reason ≡ abandon_answer start h n place →
-    Stands start (torn_state start.rules (events start.rules h n.circ.0) (counted s) n.circ.0 reason x) (giving_up n place reason ∷ h)
+torn-kept : (start : SwitchStart) (s : State) (h : List Step) (n : ClaimNote) (place : Option ℕ) (reason : ℕ) (x : CircuitState)
+    → Stands start s h → slot_at s.circuits n.circ.0 ≡ Some x → BackAnswer.Down reason ≡ abandon_answer start h n place →
+    Stands start (torn_state start.rules (events start.rules h n.circ.0) (counted s) n.circ.0 reason x)
+    (giving_up n place reason ∷ h)
 torn-kept start s h n place reason x st found said =
     let rules = start.rules in
     let c = n.circ.0 in
     let step = giving_up n place reason in
     let own : CircuitStands rules s.last_closes x c (past rules h c) (λ j. holds_id h c j) (edge_past rules h c) =
-    circuit-own rules s.last_closes s.circuits (λ d. past rules h d) (λ d j. holds_id h d j) (λ d. edge_past rules h d) c x found st.circuits in
+    circuit-own rules s.last_closes s.circuits (λ d. past rules h d) (λ d j. holds_id h d j) (λ d. edge_past rules h d) c x found
+    st.circuits in
     let alive : is_live_circuit rules h c ≡ true = own.live in
     let inside = slot_at-inside s.circuits c x found in
     torn-by start s (counted s) h step c reason x (λ m. lane rules h m) st (record {
@@ -48,10 +51,12 @@ torn-kept start s h n place reason x st found said =
       steps = omega (arith, st.steps.count_is);
       numbers = st.numbers;
       channels = st.channels;
-      others = λ d other. rw (other_pasts rules h step d (rw other refl), other_edges rules h step d (rw other refl) refl) (st.circuits.circuit d);
+      others = λ d other. rw (other_pasts rules h step d (rw other refl), other_edges rules h step d (rw other refl) refl)
+          (st.circuits.circuit d);
       fresh = λ d beyond.
           let other = not_equal c d (λ same. absurd (omega (arith, beyond, inside, same))) in
-          rw (other_pasts rules h step d (rw other refl), other_edges rules h step d (rw other refl) refl) (st.circuits.fresh d beyond);
+          rw (other_pasts rules h step d (rw other refl), other_edges rules h step d (rw other refl) refl)
+          (st.circuits.fresh d beyond);
       ids = st.ids;
       legs_stand = st.legs;
       dials = st.dials;
@@ -66,7 +71,9 @@ torn-kept start s h n place reason x st found said =
     })
 
 -- a refusal changes nothing
-refused-kept : (start : SwitchStart) (s : State) (h : List Step) (n : ClaimNote) (place : Option ℕ) (a : BackAnswer) → is_accepted_return a ≡ false → Stands start s h → a ≡ abandon_answer start h n place → Stands start (counted s) (Abandon n place a ∷ h)
+refused-kept : (start : SwitchStart) (s : State) (h : List Step) (n : ClaimNote) (place : Option ℕ) (a : BackAnswer)
+    → is_accepted_return a ≡ false → Stands start s h → a ≡ abandon_answer start h n place
+    → Stands start (counted s) (Abandon n place a ∷ h)
 refused-kept start s h n place BackAnswer.Settled refused st said = absurd cc
 refused-kept start s h n place (BackAnswer.Down reason) refused st said = absurd cc
 refused-kept start s h n place BackAnswer.Gone refused st said =
@@ -74,15 +81,18 @@ refused-kept start s h n place BackAnswer.Gone refused st said =
 refused-kept start s h n place (BackAnswer.Stranger why) refused st said =
     step-alone start s h (Abandon n place (BackAnswer.Stranger why)) refl (tt, said) st
 
-refused-state : (rules : Rules) (ev : List Event) (s : State) (n : ClaimNote) (x : Option CircuitState) (a : BackAnswer) → is_accepted_return a ≡ false → abandon_state_of rules ev s n x a ≡ counted s
+refused-state : (rules : Rules) (ev : List Event) (s : State) (n : ClaimNote) (x : Option CircuitState) (a : BackAnswer)
+    → is_accepted_return a ≡ false → abandon_state_of rules ev s n x a ≡ counted s
 refused-state rules ev s n None a refused = refl
 refused-state rules ev s n (Some x) BackAnswer.Settled refused = refl
 refused-state rules ev s n (Some x) (BackAnswer.Down reason) refused = absurd cc
 refused-state rules ev s n (Some x) BackAnswer.Gone refused = refl
 refused-state rules ev s n (Some x) (BackAnswer.Stranger why) refused = refl
 
-by-answer : (start : SwitchStart) (s : State) (h : List Step) (n : ClaimNote) (place : Option ℕ) (a : BackAnswer) → Stands start s h → abandon_result start.name s n place ≡ a → a ≡ abandon_answer start h n place →
-    Stands start (abandon_state_of start.rules (events start.rules h n.circ.0) s n (slot_at s.circuits n.circ.0) a) (Abandon n place a ∷ h)
+by-answer : (start : SwitchStart) (s : State) (h : List Step) (n : ClaimNote) (place : Option ℕ) (a : BackAnswer)
+    → Stands start s h → abandon_result start.name s n place ≡ a → a ≡ abandon_answer start h n place →
+    Stands start (abandon_state_of start.rules (events start.rules h n.circ.0) s n (slot_at s.circuits n.circ.0) a)
+    (Abandon n place a ∷ h)
 by-answer start s h n place BackAnswer.Settled st same said =
     let accepted = accepts start.name s n place (λ x. BackAnswer.Down destroy_internal) BackAnswer.Settled refl same in
     absurd (let no = accepted.says in cc)
@@ -90,10 +100,14 @@ by-answer start s h n place (BackAnswer.Down reason) st same said =
     let accepted = accepts start.name s n place (λ x. BackAnswer.Down destroy_internal) (BackAnswer.Down reason) refl same in
     rw accepted.found (torn-kept start s h n place reason accepted.circuit st accepted.found said)
 by-answer start s h n place BackAnswer.Gone st same said =
-    rw (refused-state start.rules (events start.rules h n.circ.0) s n (slot_at s.circuits n.circ.0) BackAnswer.Gone refl) (refused-kept start s h n place BackAnswer.Gone refl st said)
+    rw (refused-state start.rules (events start.rules h n.circ.0) s n (slot_at s.circuits n.circ.0) BackAnswer.Gone refl)
+    (refused-kept start s h n place BackAnswer.Gone refl st said)
 by-answer start s h n place (BackAnswer.Stranger why) st same said =
-    rw (refused-state start.rules (events start.rules h n.circ.0) s n (slot_at s.circuits n.circ.0) (BackAnswer.Stranger why) refl) (refused-kept start s h n place (BackAnswer.Stranger why) refl st said)
+    rw (refused-state start.rules (events start.rules h n.circ.0) s n (slot_at s.circuits n.circ.0) (BackAnswer.Stranger why)
+    refl) (refused-kept start s h n place (BackAnswer.Stranger why) refl st said)
 
 pub abandon_kept : (start : SwitchStart) (s : State) (h : List Step) (n : ClaimNote) (place : Option ℕ) → Stands start s h →
-    Stands start (abandon_state start.name start.rules (events start.rules h) s n place) (Abandon n place (abandon_result start.name s n place) ∷ h)
-abandon_kept start s h n place st = by-answer start s h n place (abandon_result start.name s n place) st refl (abandon_said start s h n place st)
+    Stands start (abandon_state start.name start.rules (events start.rules h) s n place)
+    (Abandon n place (abandon_result start.name s n place) ∷ h)
+abandon_kept start s h n place st =
+    by-answer start s h n place (abandon_result start.name s n place) st refl (abandon_said start s h n place st)

@@ -11,5 +11,8 @@ use Rattle.tr_io.specs.declared.answers.BackAnswer.{BackAnswer}
 use Rattle.tr_io.specs.declared.names.ClaimNote.{ClaimNote}
 use Rattle.tr_io.specs.declared.step.Step.{Step}
 
-pub abandon_said : (start : SwitchStart) (s : State) (h : List Step) (n : ClaimNote) (place : Option ℕ) → Stands start s h → abandon_result start.name s n place ≡ abandon_answer start h n place
-abandon_said start s h n place st = return-said start s h n place (λ x. BackAnswer.Down destroy_internal) (BackAnswer.Down destroy_internal) st (λ y found is. refl)
+pub abandon_said : (start : SwitchStart) (s : State) (h : List Step) (n : ClaimNote) (place : Option ℕ) → Stands start s h
+    → abandon_result start.name s n place ≡ abandon_answer start h n place
+abandon_said start s h n place st =
+    return-said start s h n place (λ x. BackAnswer.Down destroy_internal) (BackAnswer.Down destroy_internal) st
+    (λ y found is. refl)

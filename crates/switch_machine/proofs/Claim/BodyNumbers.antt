@@ -17,7 +17,8 @@ self-dir Back = refl
 pub self-way : (a : Way) → same_way a a ≡ true
 self-way a = rw (self_eq a.circ) (self-dir a.dir)
 
-push-get : {A : Type 0} (xs : List A) (x y : A) (i : ℕ) → slice_get (xs ++ x ∷ []) i ≡ Some y → (slice_get xs i ≡ Some y) ⊎ ((i ≡ length xs) × (x ≡ y))
+push-get : {A : Type 0} (xs : List A) (x y : A) (i : ℕ) → slice_get (xs ++ x ∷ []) i ≡ Some y
+    → (slice_get xs i ≡ Some y) ⊎ ((i ≡ length xs) × (x ≡ y))
 push-get [] x y zero e = inr (refl, cc)
 push-get [] x y (suc i) e = absurd cc
 push-get (z ∷ xs) x y zero e = inl e
@@ -32,7 +33,8 @@ pub get-at-end : {A : Type 0} (xs : List A) (x : A) (i : ℕ) → i ≡ length x
 get-at-end xs x i e = grind (arith, common_steps, gets)
 
 length-by : (w : Way) (older : List Way) (b : Bool) → length (numbers_of w older) ≡ count_way w older →
-    length (if b then numbers_of w older ++ length older ∷ [] else numbers_of w older) ≡ (if b then count_way w older + 1 else count_way w older)
+    length (if b then numbers_of w older ++ length older ∷ [] else numbers_of w older)
+    ≡ (if b then count_way w older + 1 else count_way w older)
 length-by w older true e = grind (arith, common_steps)
 length-by w older false e = e
 
@@ -41,7 +43,8 @@ numbers-length w [] = refl
 numbers-length w (other ∷ older) = length-by w older (same_way other w) (numbers-length w older)
 
 -- a number that a direction has: an older one, or the newest body
-pub number-by : (w : Way) (older : List Way) (b : Bool) (i n : ℕ) → slice_get (if b then numbers_of w older ++ length older ∷ [] else numbers_of w older) i ≡ Some n →
+pub number-by : (w : Way) (older : List Way) (b : Bool) (i n : ℕ)
+    → slice_get (if b then numbers_of w older ++ length older ∷ [] else numbers_of w older) i ≡ Some n →
     (slice_get (numbers_of w older) i ≡ Some n) ⊎ ((b ≡ true) × ((i ≡ count_way w older) × (n ≡ length older)))
 number-by w older true i n e = elim (push-get (numbers_of w older) (length older) n i e) [ inl f ↦ inl f | inr f ↦ inr (refl, (f.0 ∙ numbers-length w older, sym f.1)) ]
 number-by w older false i n e = inl e
@@ -51,7 +54,8 @@ numbers-below w [] i n e = absurd cc
 numbers-below w (other ∷ older) i n e = elim (number-by w older (same_way other w) i n e) [ inl f ↦ omega (arith, numbers-below w older i n f) | inr f ↦ omega (arith, f.1.1) ]
 
 -- a number is of one direction
-pub numbers-apart : (v w : Way) (l : List Way) (i j n : ℕ) → slice_get (numbers_of v l) i ≡ Some n → slice_get (numbers_of w l) j ≡ Some n → v ≡ w
+pub numbers-apart : (v w : Way) (l : List Way) (i j n : ℕ) → slice_get (numbers_of v l) i ≡ Some n
+    → slice_get (numbers_of w l) j ≡ Some n → v ≡ w
 numbers-apart v w [] i j n e f = absurd cc
 numbers-apart v w (other ∷ older) i j n e f = elim (number-by v older (same_way other v) i n e) [
   | inl old ↦ elim (number-by w older (same_way other w) j n f) [

@@ -37,18 +37,22 @@ pub some-none : {A : Type 0} (o : Option A) (x : A) → o ≡ None → o ≡ Som
 some-none o x e f = cc
 
 -- one more body
-offer-by : (w : Way) (older : List Way) (b ready : Bool) (i n : ℕ) → (if ready then slice_get (if b then numbers_of w older ++ length older ∷ [] else numbers_of w older) i else None) ≡ Some n →
-    ((if ready then slice_get (numbers_of w older) i else None) ≡ Some n) ⊎ ((ready ≡ true) × ((b ≡ true) × ((i ≡ count_way w older) × (n ≡ length older))))
+offer-by : (w : Way) (older : List Way) (b ready : Bool) (i n : ℕ)
+    → (if ready then slice_get (if b then numbers_of w older ++ length older ∷ [] else numbers_of w older) i else None) ≡ Some n →
+    ((if ready then slice_get (numbers_of w older) i else None) ≡ Some n)
+    ⊎ ((ready ≡ true) × ((b ≡ true) × ((i ≡ count_way w older) × (n ≡ length older))))
 offer-by w older b true i n e = elim (number-by w older b i n e) [ inl f ↦ inl f | inr f ↦ inr (refl, f) ]
 offer-by w older b false i n e = absurd cc
 
-offer-more : (w : Way) (older : List Way) (b ready : Bool) (i n : ℕ) → (if ready then slice_get (numbers_of w older) i else None) ≡ Some n →
+offer-more : (w : Way) (older : List Way) (b ready : Bool) (i n : ℕ)
+    → (if ready then slice_get (numbers_of w older) i else None) ≡ Some n →
     (if ready then slice_get (if b then numbers_of w older ++ length older ∷ [] else numbers_of w older) i else None) ≡ Some n
 offer-more w older true true i n e = get-push (numbers_of w older) (length older) n i e
 offer-more w older false true i n e = e
 offer-more w older b false i n e = absurd cc
 
-offer-below : (rules : Rules) (h : List Step) (l : List Way) (w : Way) (ready : Bool) (i n : ℕ) → (if ready then slice_get (numbers_of w l) i else None) ≡ Some n → n < length l
+offer-below : (rules : Rules) (h : List Step) (l : List Way) (w : Way) (ready : Bool) (i n : ℕ)
+    → (if ready then slice_get (numbers_of w l) i else None) ≡ Some n → n < length l
 offer-below rules h l w true i n e = numbers-below w l i n e
 offer-below rules h l w false i n e = absurd cc
 
@@ -60,24 +64,31 @@ none-if (Some x) none = absurd (none x refl)
 get-none : (xs : List ℕ) (i : ℕ) → slice_get xs i ≡ None → length xs ≤ i
 get-none xs i e = grind (arith, common_steps, gets)
 
-at-end : (w : Way) (older : List Way) (ready : Bool) (i : ℕ) → ready ≡ true → (if ready then slice_get (numbers_of w older) i else None) ≡ None → nat_le i (count_way w older) ≡ true → i ≡ count_way w older
+at-end : (w : Way) (older : List Way) (ready : Bool) (i : ℕ) → ready ≡ true
+    → (if ready then slice_get (numbers_of w older) i else None) ≡ None → nat_le i (count_way w older) ≡ true
+    → i ≡ count_way w older
 at-end w older true i is none le =
     let past : length (numbers_of w older) ≤ i = get-none (numbers_of w older) i none in
     let below : i ≤ count_way w older = grind (arith, nat_tests) in
     omega (arith, numbers-length w older)
 at-end w older false i is none le = absurd cc
 
-waits-not : (rules : Rules) (h : List Step) (v : Way) (older : List Way) (i : ℕ) → is_ready rules h v ≡ true → claimed_count h v ≡ count_way v older → waits_here rules h v older ≡ false → ⊥
-waits-not rules h v older i ready last not = let yes : nat_le (claimed_count h v) (count_way v older) ≡ true = grind (arith, nat_tests) in let both : (true && true) ≡ false = rw (ready, yes) at not in cc
+waits-not : (rules : Rules) (h : List Step) (v : Way) (older : List Way) (i : ℕ) → is_ready rules h v ≡ true
+    → claimed_count h v ≡ count_way v older → waits_here rules h v older ≡ false → ⊥
+waits-not rules h v older i ready last not = let yes : nat_le (claimed_count h v) (count_way v older) ≡ true =
+    grind (arith, nat_tests) in let both : (true && true) ≡ false = rw (ready, yes) at not in cc
 
-here : (rules : Rules) (h : List Step) (way : Way) (older : List Way) → IsSoonest (offers_on rules h older) None → (b : Bool) → waits_here rules h way older ≡ b →
+here : (rules : Rules) (h : List Step) (way : Way) (older : List Way) → IsSoonest (offers_on rules h older) None → (b : Bool)
+    → waits_here rules h way older ≡ b →
     IsSoonest (offers_on rules h (way ∷ older)) (if b then Some way else None)
 here rules h way older none true is =
     let ready = and-first (is_ready rules h way) _ is in
-    let last = at-end way older (is_ready rules h way) (claimed_count h way) ready (none way) (and-second (is_ready rules h way) _ is) in
+    let last = at-end way older (is_ready rules h way) (claimed_count h way) ready (none way)
+    (and-second (is_ready rules h way) _ is) in
     record {
       number = length older;
-      has = rw (ready, self-way way) (get-at-end (numbers_of way older) (length older) (claimed_count h way) (last ∙ sym (numbers-length way older)));
+      has = rw (ready, self-way way)
+          (get-at-end (numbers_of way older) (length older) (claimed_count h way) (last ∙ sym (numbers-length way older)));
       least = λ v n e. elim (offer-by v older (same_way way v) (is_ready rules h v) (claimed_count h v) n e) [
         | inl f ↦ absurd (some-none (offers_on rules h older v) n (none v) f)
         | inr f ↦ omega (arith, f.1.1.1)
@@ -88,7 +99,8 @@ here rules h way older none false is = λ v. none-if (offers_on rules h (way ∷
   | inr f ↦ waits-not rules h v older 0 f.0 f.1.1.0 (subst (λ w. waits_here rules h w older ≡ false) (way-is way v f.1.0) is)
 ])
 
-found-by : (rules : Rules) (h : List Step) (way : Way) (older : List Way) (o : Option Way) → IsSoonest (offers_on rules h older) o →
+found-by : (rules : Rules) (h : List Step) (way : Way) (older : List Way) (o : Option Way) → IsSoonest (offers_on rules h older) o
+    →
     IsSoonest (offers_on rules h (way ∷ older)) (option_or o (if waits_here rules h way older then Some way else None))
 found-by rules h way older None none = here rules h way older none (waits_here rules h way older) refl
 found-by rules h way older (Some w) own = record {
@@ -119,8 +131,10 @@ abbrev pub IsBest : (Way → Option ℕ) → (Way → Type 0) → Option Offer �
 IsBest offers Known None = (v : Way) → Known v → offers v ≡ None
 IsBest offers Known (Some best) = BestOffer offers Known best
 
-sooner-new : (offers : Way → Option ℕ) (Known More : Way → Type 0) (best : Offer) (way : Way) (n : ℕ) (b : Bool) → nat_lt n best.number ≡ b → offers way ≡ Some n →
-    ((v : Way) → More v → Known v ⊎ (v ≡ way)) → BestOffer offers Known best → BestOffer offers More (if b then record { way = way; number = n } else best)
+sooner-new : (offers : Way → Option ℕ) (Known More : Way → Type 0) (best : Offer) (way : Way) (n : ℕ) (b : Bool)
+    → nat_lt n best.number ≡ b → offers way ≡ Some n →
+    ((v : Way) → More v → Known v ⊎ (v ≡ way)) → BestOffer offers Known best
+    → BestOffer offers More (if b then record { way = way; number = n } else best)
 sooner-new offers Known More best way n true is has split own = record {
   has = has;
   least = λ v m known e. elim (split v known) [ inl old ↦ let best_least = own.least v m old e in let less : n < best.number = grind (arith, nat_tests) in omega arith | inr same ↦ let eq : n ≡ m = cc in omega arith ];
@@ -134,7 +148,8 @@ if-some : (b : Bool) (x y : Offer) → ◌≡◌ {A = Option Offer} (Some (if b 
 if-some true x y = refl
 if-some false x y = refl
 
-sooner-best : (offers : Way → Option ℕ) (Known More : Way → Type 0) (o : Option Offer) (way : Way) (n : Option ℕ) → offers way ≡ n → ((v : Way) → More v → Known v ⊎ (v ≡ way)) →
+sooner-best : (offers : Way → Option ℕ) (Known More : Way → Type 0) (o : Option Offer) (way : Way) (n : Option ℕ) → offers way ≡ n
+    → ((v : Way) → More v → Known v ⊎ (v ≡ way)) →
     IsBest offers Known o → IsBest offers More (sooner o way n)
 sooner-best offers Known More None way None has split own = λ v known. elim (split v known) [ inl old ↦ own v old | inr same ↦ cc ]
 sooner-best offers Known More (Some best) way None has split own = record {
@@ -146,7 +161,8 @@ sooner-best offers Known More None way (Some n) has split own = record {
   least = λ v m known e. elim (split v known) [ inl old ↦ absurd (some-none (offers v) m (own v old) e) | inr same ↦ let eq : n ≡ m = cc in omega arith ];
 }
 sooner-best offers Known More (Some best) way (Some n) has split own =
-    subst (IsBest offers More) (if-some (nat_lt n best.number) (record { way = way; number = n }) best) (sooner-new offers Known More best way n (nat_lt n best.number) refl has split own)
+    subst (IsBest offers More) (if-some (nat_lt n best.number) (record { way = way; number = n }) best)
+    (sooner-new offers Known More best way n (nat_lt n best.number) refl has split own)
 
 abbrev Below : ℕ → Way → Type 0
 Below n v = v.circ < n
@@ -161,9 +177,12 @@ is-forth c v same Back e = inr (ways-same v.circ c v.dir Back same e)
 pub soonest-best : (s : State) (n : ℕ) → IsBest (offered s) (Below n) (soonest_below s n)
 soonest-best s zero = λ v known. absurd (omega arith)
 soonest-best s (suc c) =
-    sooner-best (offered s) (BelowOrForth c) (Below (suc c)) (sooner (soonest_below s c) (record { circ = c; dir = Forth }) (offered s (record { circ = c; dir = Forth }))) (record { circ = c; dir = Back }) (offered s (record { circ = c; dir = Back })) refl
+    sooner-best (offered s) (BelowOrForth c) (Below (suc c))
+    (sooner (soonest_below s c) (record { circ = c; dir = Forth }) (offered s (record { circ = c; dir = Forth })))
+    (record { circ = c; dir = Back }) (offered s (record { circ = c; dir = Back })) refl
     (λ v known. elim (eqb_tells v.circ c) [ inl (is, same) ↦ is-forth c v same v.dir refl | inr (is, other) ↦ inl (inl (omega arith)) ])
-    (sooner-best (offered s) (Below c) (BelowOrForth c) (soonest_below s c) (record { circ = c; dir = Forth }) (offered s (record { circ = c; dir = Forth })) refl (λ v known. known) (soonest-best s c))
+    (sooner-best (offered s) (Below c) (BelowOrForth c) (soonest_below s c) (record { circ = c; dir = Forth })
+    (offered s (record { circ = c; dir = Forth })) refl (λ v known. known) (soonest-best s c))
 
 pub none-beyond : (s : State) (v : Way) → length s.circuits ≤ v.circ → offered s v ≡ None
 none-beyond s v beyond = rw (slot_at-past s.circuits v.circ beyond) refl

@@ -55,34 +55,44 @@ moved : {A : Type 0} (a b c d e : List A) → b ++ c ≡ d → (a ++ []) ++ d �
 moved a b c d e f g = append_assoc a b c ∙ ap (λ l. a ++ l) f ∙ ap (λ l. l ++ d) (sym (append-nil a)) ∙ g
 
 -- the first bodies of a direction go out
-way-claimed : (c : ℕ) (d : Dir) (w : WayState) (settled given : List CircuitCell) (count : ℕ) (known : Option ClaimNote) (all : List ℕ) (n : ClaimNote) → WayStands c d w settled given count known all →
-    is_none w.claim_out ≡ true → n.circ.0 ≡ c → n.dir ≡ d → n.first ≡ w.claimed_count → n.count ≤ length w.waiting_bodies → WayStands c d (claimed_way n w) settled given (count + n.count) (Some n) all
+way-claimed : (c : ℕ) (d : Dir) (w : WayState) (settled given : List CircuitCell) (count : ℕ) (known : Option ClaimNote)
+    (all : List ℕ) (n : ClaimNote) → WayStands c d w settled given count known all →
+    is_none w.claim_out ≡ true → n.circ.0 ≡ c → n.dir ≡ d → n.first ≡ w.claimed_count → n.count ≤ length w.waiting_bodies
+    → WayStands c d (claimed_way n w) settled given (count + n.count) (Some n) all
 way-claimed c d w settled given count known all n own home circ dir first few =
     let none = none-kept w.claim_out home in
     let zero_out : length (kept_cells w.claim_out) ≡ 0 = rw none refl in
-    let taken : length (map cell_waiting (take n.count w.waiting_bodies)) ≡ n.count = length-map (take n.count w.waiting_bodies) cell_waiting ∙ length-taken n.count w.waiting_bodies few in
-    let numbers_taken : length (map number_waiting (take n.count w.waiting_bodies)) ≡ n.count = length-map (take n.count w.waiting_bodies) number_waiting ∙ length-taken n.count w.waiting_bodies few in
+    let taken : length (map cell_waiting (take n.count w.waiting_bodies)) ≡ n.count =
+    length-map (take n.count w.waiting_bodies) cell_waiting ∙ length-taken n.count w.waiting_bodies few in
+    let numbers_taken : length (map number_waiting (take n.count w.waiting_bodies)) ≡ n.count =
+    length-map (take n.count w.waiting_bodies) number_waiting ∙ length-taken n.count w.waiting_bodies few in
     record {
       claimed_count = omega (arith, own.claimed_count);
       out = omega (arith, own.out, taken, zero_out);
       claim_out = refl;
       noted = record { circ = circ; dir_is = dir; first = omega (arith, first, own.out, zero_out); count = sym taken };
-      cells = moved settled (map cell_waiting (take n.count w.waiting_bodies)) (map cell_waiting (drop n.count w.waiting_bodies)) (map cell_waiting w.waiting_bodies) given (map-cut cell_waiting n.count w.waiting_bodies)
+      cells = moved settled (map cell_waiting (take n.count w.waiting_bodies)) (map cell_waiting (drop n.count w.waiting_bodies))
+          (map cell_waiting w.waiting_bodies) given (map-cut cell_waiting n.count w.waiting_bodies)
           (subst (λ l. settled ++ l ++ map cell_waiting w.waiting_bodies ≡ given) none own.cells);
       claimed_numbers = own.claimed_numbers ++ map number_waiting (take n.count w.waiting_bodies);
       claimed_all = grind (arith, common_steps, numbers_taken, own.claimed_all);
-      numbers = append_assoc own.claimed_numbers _ _ ∙ ap (λ l. own.claimed_numbers ++ l) (map-cut number_waiting n.count w.waiting_bodies) ∙ own.numbers;
+      numbers = append_assoc own.claimed_numbers _ _
+          ∙ ap (λ l. own.claimed_numbers ++ l) (map-cut number_waiting n.count w.waiting_bodies) ∙ own.numbers;
     }
 
 own-way : (n : ClaimNote) (c : ℕ) (d : Dir) → n.circ.0 ≡ c → n.dir ≡ d → same_way (way_of n) (record { circ = c; dir = d }) ≡ true
 own-way n c d circ dir = rw (circ, dir) (self-way (record { circ = c; dir = d }))
 
-other-way : (n : ClaimNote) (c : ℕ) (d e : Dir) → n.dir ≡ e → same_dir e d ≡ false → same_way (way_of n) (record { circ = c; dir = d }) ≡ false
+other-way : (n : ClaimNote) (c : ℕ) (d e : Dir) → n.dir ≡ e → same_dir e d ≡ false
+    → same_way (way_of n) (record { circ = c; dir = d }) ≡ false
 other-way n c d e dir unlike = rw (dir, unlike) (and-false (n.circ.0 == c))
 
-circuit-claimed : (rules : Rules) (closes : List Ordered) (h : List Step) (worker c : ℕ) (n : ClaimNote) (d : Dir) (x : CircuitState) → CircuitStands rules closes x c (past rules h c) (λ j. holds_id h c j) (edge_past rules h c) →
-    n.circ.0 ≡ c → n.dir ≡ d → is_none (way_of_circuit x d).claim_out ≡ true → n.first ≡ (way_of_circuit x d).claimed_count → n.count ≤ length (way_of_circuit x d).waiting_bodies →
-    CircuitStands rules closes (with_way x d (claimed_way n (way_of_circuit x d))) c (past rules (Claim worker (Some n) ∷ h) c) (λ j. holds_id (Claim worker (Some n) ∷ h) c j) (edge_past rules (Claim worker (Some n) ∷ h) c)
+circuit-claimed : (rules : Rules) (closes : List Ordered) (h : List Step) (worker c : ℕ) (n : ClaimNote) (d : Dir)
+    (x : CircuitState) → CircuitStands rules closes x c (past rules h c) (λ j. holds_id h c j) (edge_past rules h c) →
+    n.circ.0 ≡ c → n.dir ≡ d → is_none (way_of_circuit x d).claim_out ≡ true → n.first ≡ (way_of_circuit x d).claimed_count
+    → n.count ≤ length (way_of_circuit x d).waiting_bodies →
+    CircuitStands rules closes (with_way x d (claimed_way n (way_of_circuit x d))) c (past rules (Claim worker (Some n) ∷ h) c)
+    (λ j. holds_id (Claim worker (Some n) ∷ h) c j) (edge_past rules (Claim worker (Some n) ∷ h) c)
 circuit-claimed rules closes h worker c n Forth x own circ dir home first few = record {
   live = own.live;
   sent_count = own.sent_count;
@@ -132,7 +142,8 @@ home-by : (b : Bool) (o : Option ℕ) (n : ℕ) → (if b then o else None) ≡ 
 home-by true o n e = refl
 home-by false o n e = absurd cc
 
-claim-of_by : (name : ℕ) (s : State) (worker number : ℕ) (w : Way) (n : ClaimNote) (x : Option CircuitState) → slot_at s.circuits w.circ ≡ x → offered_by (way_at x w.dir) ≡ Some number →
+claim-of_by : (name : ℕ) (s : State) (worker number : ℕ) (w : Way) (n : ClaimNote) (x : Option CircuitState)
+    → slot_at s.circuits w.circ ≡ x → offered_by (way_at x w.dir) ≡ Some number →
     note_at name s worker w (way_at x w.dir) ≡ Some n → ClaimOf s n
 claim-of_by name s worker number w n None found has is = absurd cc
 claim-of_by name s worker number w n (Some x) found has is =
@@ -140,16 +151,20 @@ claim-of_by name s worker number w n (Some x) found has is =
     subst (ClaimOf s) it (record {
       circuit = x;
       found = found;
-      home = home-by (is_none (way_of_circuit x w.dir).claim_out) (first_number (way_of_circuit x w.dir).waiting_bodies) number has;
+      home = home-by (is_none (way_of_circuit x w.dir).claim_out) (first_number (way_of_circuit x w.dir).waiting_bodies) number
+          has;
       first = refl;
       few = omega arith;
     })
 
-claim-of : (start : SwitchStart) (s : State) (worker : ℕ) (o : Option Offer) (n : ClaimNote) → IsBest (offered s) (λ v. v.circ < length s.circuits) o → claim_result_of start.name s worker o ≡ Some n → ClaimOf s n
+claim-of : (start : SwitchStart) (s : State) (worker : ℕ) (o : Option Offer) (n : ClaimNote)
+    → IsBest (offered s) (λ v. v.circ < length s.circuits) o → claim_result_of start.name s worker o ≡ Some n → ClaimOf s n
 claim-of start s worker None n best is = absurd cc
-claim-of start s worker (Some b) n best is = claim-of_by start.name s worker b.number b.way n (slot_at s.circuits b.way.circ) refl best.has is
+claim-of start s worker (Some b) n best is =
+    claim-of_by start.name s worker b.number b.way n (slot_at s.circuits b.way.circ) refl best.has is
 
-claim-out : (start : SwitchStart) (s : State) (h : List Step) (worker : ℕ) (n : ClaimNote) → Stands start s h → ClaimOf s n → IsRightStep start h (Claim worker (Some n)) →
+claim-out : (start : SwitchStart) (s : State) (h : List Step) (worker : ℕ) (n : ClaimNote) → Stands start s h → ClaimOf s n
+    → IsRightStep start h (Claim worker (Some n)) →
     Stands start (claim_state_by s (Some n)) (Claim worker (Some n) ∷ h)
 claim-out start s h worker n st of right =
     let rules = start.rules in
@@ -158,7 +173,8 @@ claim-out start s h worker n st of right =
     let x = of.circuit in
     let y = with_way x n.dir (claimed_way n (way_of_circuit x n.dir)) in
     let t : State = record (counted s) { claims = s.claims + 1; circuits = with_slot s.circuits c (Some y) } in
-    let own = circuit-own rules s.last_closes s.circuits (λ d. past rules h d) (λ d k. holds_id h d k) (λ d. edge_past rules h d) c x of.found st.circuits in
+    let own = circuit-own rules s.last_closes s.circuits (λ d. past rules h d) (λ d k. holds_id h d k) (λ d. edge_past rules h d)
+    c x of.found st.circuits in
     let same_legs = legs-kept s c x y of.found (same-legs x n.dir _) in
     let same_dials = all-dials-kept s c x y of.found (same-dial x n.dir _) in
     let many : length t.circuits ≡ length s.circuits = length-with s.circuits c _ in
@@ -173,7 +189,8 @@ claim-out start s h worker n st of right =
         tick = st.numbers.tick;
       };
       channels = st.channels;
-      circuits = circuit-changed rules s.last_closes s.circuits (λ d. past rules h d) (λ d. past rules (step ∷ h) d) (λ d k. holds_id h d k) (λ d k. holds_id (step ∷ h) d k)
+      circuits = circuit-changed rules s.last_closes s.circuits (λ d. past rules h d) (λ d. past rules (step ∷ h) d)
+          (λ d k. holds_id h d k) (λ d k. holds_id (step ∷ h) d k)
           (λ d. edge_past rules h d) (λ d. edge_past rules (step ∷ h) d) c x (Some y) of.found
           (λ d other old. rw (other_pasts rules h step d (rw other refl)) old)
           (λ d other fresh. rw (other_pasts rules h step d (rw other refl)) fresh)
@@ -181,15 +198,20 @@ claim-out start s h worker n st of right =
       ids = ids-same (leg_in t) (leg_in s) (λ m. lane rules h m) (at h) same_legs st.ids;
       legs = legs-same s.channels (leg_in t) (leg_in s) same_legs st.legs;
       dials = dials-same s.again (dial_in t) (dial_in s) (length (dials_made rules h)) (was_handed_out h) same_dials st.dials;
-      counts = counts-same (leg_in t) (leg_in s) (cell_count rules h) (tick h) (length t.circuits) (length s.circuits) same_legs many st.counts;
+      counts = counts-same (leg_in t) (leg_in s) (cell_count rules h) (tick h) (length t.circuits) (length s.circuits) same_legs
+          many st.counts;
       slots = st.slots;
       not_yet = st.not_yet;
     })
 
-claim-by : (start : SwitchStart) (s : State) (h : List Step) (worker : ℕ) (o : Option ClaimNote) → claim_result start.name s worker ≡ o → IsRightStep start h (Claim worker o) → Stands start s h →
+claim-by : (start : SwitchStart) (s : State) (h : List Step) (worker : ℕ) (o : Option ClaimNote)
+    → claim_result start.name s worker ≡ o → IsRightStep start h (Claim worker o) → Stands start s h →
     Stands start (claim_state_by s o) (Claim worker o ∷ h)
-claim-by start s h worker (Some n) is right st = claim-out start s h worker n st (claim-of start s worker (soonest s) n (soonest-best s (length s.circuits)) is) right
+claim-by start s h worker (Some n) is right st =
+    claim-out start s h worker n st (claim-of start s worker (soonest s) n (soonest-best s (length s.circuits)) is) right
 claim-by start s h worker None is right st = step-alone start s h (Claim worker None) refl right st
 
-pub claim_kept : (start : SwitchStart) (s : State) (h : List Step) (worker : ℕ) → worker < worker_limit → Stands start s h → Stands start (claim_state start.name s worker) (Claim worker (claim_result start.name s worker) ∷ h)
-claim_kept start s h worker known st = claim-by start s h worker (claim_result start.name s worker) refl (known, claim_said start s h worker st) st
+pub claim_kept : (start : SwitchStart) (s : State) (h : List Step) (worker : ℕ) → worker < worker_limit → Stands start s h
+    → Stands start (claim_state start.name s worker) (Claim worker (claim_result start.name s worker) ∷ h)
+claim_kept start s h worker known st =
+    claim-by start s h worker (claim_result start.name s worker) refl (known, claim_said start s h worker st) st

@@ -13,7 +13,8 @@ claim-steps : (s : State) (o : Option ClaimNote) → (claim_state_by s o).steps 
 claim-steps s None = refl
 claim-steps s (Some n) = refl
 
-pub claim_adds : (start : SwitchStart) (old new : State) (worker : ℕ) (a : Option ClaimNote) → worker < worker_limit → new ≡ claim_state start.name old worker → a ≡ claim_result start.name old worker → Adds start old new (Claim worker a)
+pub claim_adds : (start : SwitchStart) (old new : State) (worker : ℕ) (a : Option ClaimNote) → worker < worker_limit
+    → new ≡ claim_state start.name old worker → a ≡ claim_result start.name old worker → Adds start old new (Claim worker a)
 unfolding Adds
 claim_adds start old new worker a known e f = rw (e, f) (record {
   steps = claim-steps old (claim_result start.name old worker);

@@ -35,7 +35,8 @@ abbrev giving : State → OpenDial → Step
 giving s given = DialOrder (Some (order_step s given))
 
 -- an order that is handed out again was handed out before
-again-kept : (start : SwitchStart) (s : State) (h : List Step) (c : ℕ) (again : List ℕ) (o : Option DialState) → Stands start s h →
+again-kept : (start : SwitchStart) (s : State) (h : List Step) (c : ℕ) (again : List ℕ) (o : Option DialState) → Stands start s h
+    →
     s.again ≡ c ∷ again → dial_in s c ≡ o → is_handed_out o ≡ true →
     IsDialOrder start.rules h (option_map (order_step s) (option_map (dial_of c) o)) →
     Stands start (dial_order_state_by s (c ∷ again)) (DialOrder (option_map (order_step s) (option_map (dial_of c) o)) ∷ h)

@@ -88,6 +88,7 @@ open-of rules closes h c (Some x) y own has =
       is = it.1.1.1;
     }
 
-pub in-open : (start : SwitchStart) (s : State) (h : List Step) (c : ℕ) (y : DialState) → Stands start s h → dial_in s c ≡ Some y →
+pub in-open : (start : SwitchStart) (s : State) (h : List Step) (c : ℕ) (y : DialState) → Stands start s h → dial_in s c ≡ Some y
+    →
     IsOpenOf start.rules h c y
 in-open start s h c y st has = open-of start.rules s.last_closes h c (slot_at s.circuits c) y (st.circuits.circuit c) has

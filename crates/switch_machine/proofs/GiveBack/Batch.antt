@@ -25,26 +25,36 @@ kind-by P y one all Goes own first rest = rest
 kind-by P y one all (Closes reason) own first rest = first
 kind-by P y one all Full own first rest = own
 
-batch-keeps : (P : Settling → Type 0) (rules : Rules) → ((y : Settling) (cell : CircuitCell) → P y → P (settle_one rules cell y)) → (cells : List CircuitCell) (y : Settling) → P y → P (settle_all rules y cells)
+batch-keeps : (P : Settling → Type 0) (rules : Rules) → ((y : Settling) (cell : CircuitCell) → P y → P (settle_one rules cell y))
+    → (cells : List CircuitCell) (y : Settling) → P y → P (settle_all rules y cells)
 batch-keeps P rules keeps [] y own = own
 batch-keeps P rules keeps (cell ∷ cells) y own =
     let first = keeps y cell own in
-    kind-by P y (settle_one rules cell y) (settle_all rules (settle_one rules cell y) cells) (closing_at rules y.circuit.sent_count y.events cell) own first
+    kind-by P y (settle_one rules cell y) (settle_all rules (settle_one rules cell y) cells)
+    (closing_at rules y.circuit.sent_count y.events cell) own first
     (batch-keeps P rules keeps cells (settle_one rules cell y) first)
 
 abbrev pub HasOrders : Rules → Settling → Type 0
 HasOrders rules y = OrdersStand y.circuit.reach_orders y.circuit.carry_orders y.circuit.close_orders (log rules y.events)
 
-pub orders-batch : (rules : Rules) (cells : List CircuitCell) (y : Settling) → HasOrders rules y → HasOrders rules (settle_all rules y cells)
-orders-batch rules = batch-keeps (HasOrders rules) rules (λ y cell own. orders-more y (log rules y.events) (entry_after rules (log rules y.events) (forward_of cell)) own)
+pub orders-batch : (rules : Rules) (cells : List CircuitCell) (y : Settling) → HasOrders rules y
+    → HasOrders rules (settle_all rules y cells)
+orders-batch rules =
+    batch-keeps (HasOrders rules) rules
+    (λ y cell own. orders-more y (log rules y.events) (entry_after rules (log rules y.events) (forward_of cell)) own)
 
-pub dial-batch : (rules : Rules) (c n k : ℕ) (base : List Dial) (handed : ℕ → Bool) (cells : List CircuitCell) (y : Settling) → ((m : ℕ) → n ≤ m → handed m ≡ false) →
+pub dial-batch : (rules : Rules) (c n k : ℕ) (base : List Dial) (handed : ℕ → Bool) (cells : List CircuitCell) (y : Settling)
+    → ((m : ℕ) → n ≤ m → handed m ≡ false) →
     HasDial rules c n k base handed y → HasDial rules c n k base handed (settle_all rules y cells)
-dial-batch rules c n k base handed cells y never = batch-keeps (HasDial rules c n k base handed) rules (λ z cell own. dial-step rules c n k base handed z cell.command cell.body never own) cells y
+dial-batch rules c n k base handed cells y never =
+    batch-keeps (HasDial rules c n k base handed) rules
+    (λ z cell own. dial-step rules c n k base handed z cell.command cell.body never own) cells y
 
 -- how many cells were sent stays
-pub sent_count-settled : (rules : Rules) (cells : List CircuitCell) (y : Settling) → (settle_all rules y cells).circuit.sent_count ≡ y.circuit.sent_count
-sent_count-settled rules cells y = batch-keeps (λ z. z.circuit.sent_count ≡ y.circuit.sent_count) rules (λ z cell own. own) cells y refl
+pub sent_count-settled : (rules : Rules) (cells : List CircuitCell) (y : Settling)
+    → (settle_all rules y cells).circuit.sent_count ≡ y.circuit.sent_count
+sent_count-settled rules cells y =
+    batch-keeps (λ z. z.circuit.sent_count ≡ y.circuit.sent_count) rules (λ z cell own. own) cells y refl
 
 -- so many numbers from n on
 abbrev pub counted_from : ℕ → ℕ → List ℕ
@@ -65,32 +75,54 @@ pub record Grown (y z : Settling) (c : ℕ) (l m : Log) (p : Past) (has_id : ℕ
   pub bodies : z.bodies ≡ y.bodies + count
   pub behind_is : length (back_bodies m) ≡ length (back_bodies l) + count
 
-grown-none : (y : Settling) (c : ℕ) (l : Log) (p : Past) (has_id : ℕ → Bool) (all : List ℕ) → CoreStands y c l p has_id all → Grown y y c l l p has_id all
-grown-none y c l p has_id all own = record { count = 0; core = subst (CoreStands y c l p has_id) (sym (append-nil all)) own; bodies = omega arith; behind_is = omega arith }
+grown-none : (y : Settling) (c : ℕ) (l : Log) (p : Past) (has_id : ℕ → Bool) (all : List ℕ) → CoreStands y c l p has_id all
+    → Grown y y c l l p has_id all
+grown-none y c l p has_id all own =
+    record {
+      count = 0;
+      core = subst (CoreStands y c l p has_id) (sym (append-nil all)) own;
+      bodies = omega arith;
+      behind_is =
+          omega arith;
+    }
 
-grown-by : (y z : Settling) (c : ℕ) (l m : Log) (p : Past) (has_id : ℕ → Bool) (all : List ℕ) (body : Option (List ℕ)) → CoreStands z c m p has_id (numbers_with all y.bodies body) → z.bodies ≡ bodies_with y.bodies body →
+grown-by : (y z : Settling) (c : ℕ) (l m : Log) (p : Past) (has_id : ℕ → Bool) (all : List ℕ) (body : Option (List ℕ))
+    → CoreStands z c m p has_id (numbers_with all y.bodies body) → z.bodies ≡ bodies_with y.bodies body →
     length (back_bodies m) ≡ length (pushed (back_bodies l) body) → Grown y z c l m p has_id all
 grown-by y z c l m p has_id all None own bodies more =
-    record { count = 0; core = subst (CoreStands z c m p has_id) (sym (append-nil all)) own; bodies = omega (arith, bodies); behind_is = omega (arith, more) }
-grown-by y z c l m p has_id all (Some body) own bodies more = record { count = 1; core = own; bodies = bodies; behind_is = more ∙ length-append (back_bodies l) (body ∷ []) }
+    record {
+      count = 0;
+      core = subst (CoreStands z c m p has_id) (sym (append-nil all)) own;
+      bodies =
+          omega (arith, bodies);
+      behind_is = omega (arith, more);
+    }
+grown-by y z c l m p has_id all (Some body) own bodies more =
+    record { count = 1; core = own; bodies = bodies; behind_is = more ∙ length-append (back_bodies l) (body ∷ []) }
 
-grown-both : (y z u : Settling) (c : ℕ) (l m o : Log) (p : Past) (has_id : ℕ → Bool) (all : List ℕ) → (g : Grown y z c l m p has_id all) → Grown z u c m o p has_id (all ++ counted_from y.bodies g.count) → Grown y u c l o p has_id all
+grown-both : (y z u : Settling) (c : ℕ) (l m o : Log) (p : Past) (has_id : ℕ → Bool) (all : List ℕ)
+    → (g : Grown y z c l m p has_id all) → Grown z u c m o p has_id (all ++ counted_from y.bodies g.count)
+    → Grown y u c l o p has_id all
 grown-both y z u c l m o p has_id all g f = record {
   count = g.count + f.count;
   core = subst (CoreStands u c o p has_id) (append_assoc all (counted_from y.bodies g.count) (counted_from z.bodies f.count)
-      ∙ ap (λ t. all ++ t) (ap (λ n. counted_from y.bodies g.count ++ counted_from n f.count) g.bodies ∙ counted-both y.bodies g.count f.count)) f.core;
+      ∙ ap (λ t. all ++ t) (ap (λ n. counted_from y.bodies g.count ++ counted_from n f.count) g.bodies
+      ∙ counted-both y.bodies g.count f.count)) f.core;
   bodies = omega (arith, g.bodies, f.bodies);
   behind_is = omega (arith, g.behind_is, f.behind_is);
 }
 
-grown-one : (rules : Rules) (y : Settling) (c : ℕ) (p : Past) (has_id : ℕ → Bool) (all : List ℕ) (cell : CircuitCell) → CoreStands y c (log rules y.events) p has_id all →
+grown-one : (rules : Rules) (y : Settling) (c : ℕ) (p : Past) (has_id : ℕ → Bool) (all : List ℕ) (cell : CircuitCell)
+    → CoreStands y c (log rules y.events) p has_id all →
     Grown y (settle_one rules cell y) c (log rules y.events) (log rules (forward_of cell ∷ y.events)) p has_id all
 grown-one rules y c p has_id all cell own =
     let entry = entry_after rules (log rules y.events) (forward_of cell) in
-    grown-by y (settle_one rules cell y) c (log rules y.events) (log rules (forward_of cell ∷ y.events)) p has_id all entry.effects.back
+    grown-by y (settle_one rules cell y) c (log rules y.events) (log rules (forward_of cell ∷ y.events)) p has_id all
+    entry.effects.back
     (core-step y c (log rules y.events) p has_id all cell.command cell.body entry.message entry.effects own) refl refl
 
-batch-by : (rules : Rules) (y one all : Settling) (c : ℕ) (p : Past) (has_id : ℕ → Bool) (numbers : List ℕ) (event : Event) (more : List Event) (k : Closing) →
+batch-by : (rules : Rules) (y one all : Settling) (c : ℕ) (p : Past) (has_id : ℕ → Bool) (numbers : List ℕ) (event : Event)
+    (more : List Event) (k : Closing) →
     Grown y y c (log rules y.events) (log rules y.events) p has_id numbers →
     Grown y one c (log rules y.events) (log rules (event ∷ y.events)) p has_id numbers →
     Grown y all c (log rules y.events) (log rules more) p has_id numbers →
@@ -99,32 +131,41 @@ batch-by rules y one all c p has_id numbers event more Goes none first rest = re
 batch-by rules y one all c p has_id numbers event more (Closes reason) none first rest = first
 batch-by rules y one all c p has_id numbers event more Full none first rest = none
 
-pub batch : (rules : Rules) (cells : List CircuitCell) (y : Settling) (c : ℕ) (p : Past) (has_id : ℕ → Bool) (all : List ℕ) → CoreStands y c (log rules y.events) p has_id all →
-    Grown y (settle_all rules y cells) c (log rules y.events) (log rules (settled rules y.circuit.sent_count y.events cells)) p has_id all
+pub batch : (rules : Rules) (cells : List CircuitCell) (y : Settling) (c : ℕ) (p : Past) (has_id : ℕ → Bool) (all : List ℕ)
+    → CoreStands y c (log rules y.events) p has_id all →
+    Grown y (settle_all rules y cells) c (log rules y.events) (log rules (settled rules y.circuit.sent_count y.events cells)) p
+    has_id all
 batch rules [] y c p has_id all own = grown-none y c (log rules y.events) p has_id all own
 batch rules (cell ∷ cells) y c p has_id all own =
     let first = grown-one rules y c p has_id all cell own in
     batch-by rules y (settle_one rules cell y) (settle_all rules (settle_one rules cell y) cells) c p has_id all (forward_of cell)
     (settled rules y.circuit.sent_count (forward_of cell ∷ y.events) cells) (closing_at rules y.circuit.sent_count y.events cell)
     (grown-none y c (log rules y.events) p has_id all own) first
-    (grown-both y (settle_one rules cell y) (settle_all rules (settle_one rules cell y) cells) c (log rules y.events) (log rules (forward_of cell ∷ y.events))
+    (grown-both y (settle_one rules cell y) (settle_all rules (settle_one rules cell y) cells) c (log rules y.events)
+    (log rules (forward_of cell ∷ y.events))
     (log rules (settled rules y.circuit.sent_count (forward_of cell ∷ y.events) cells)) p has_id all first
     (batch rules cells (settle_one rules cell y) c p has_id (all ++ counted_from y.bodies first.count) first.core))
 
 -- and the events are those that the history tells
-relay-by : (y one all : Settling) (k : Closing) (event : Event) (events more : List Event) → y.events ≡ events → one.events ≡ event ∷ events → all.events ≡ more →
+relay-by : (y one all : Settling) (k : Closing) (event : Event) (events more : List Event) → y.events ≡ events
+    → one.events ≡ event ∷ events → all.events ≡ more →
     (settle_with k y one all).events ≡ settled_with k event events more
 relay-by y one all Goes event events more e f g = g
 relay-by y one all (Closes reason) event events more e f g = f
 relay-by y one all Full event events more e f g = e
 
-pub batch-events : (rules : Rules) (cells : List CircuitCell) (y : Settling) → (settle_all rules y cells).events ≡ settled rules y.circuit.sent_count y.events cells
+pub batch-events : (rules : Rules) (cells : List CircuitCell) (y : Settling)
+    → (settle_all rules y cells).events ≡ settled rules y.circuit.sent_count y.events cells
 batch-events rules [] y = refl
 batch-events rules (cell ∷ cells) y =
-    relay-by y (settle_one rules cell y) (settle_all rules (settle_one rules cell y) cells) (closing_at rules y.circuit.sent_count y.events cell) (forward_of cell) y.events
-    (settled rules y.circuit.sent_count (forward_of cell ∷ y.events) cells) refl refl (batch-events rules cells (settle_one rules cell y))
+    relay-by y (settle_one rules cell y) (settle_all rules (settle_one rules cell y) cells)
+    (closing_at rules y.circuit.sent_count y.events cell) (forward_of cell) y.events
+    (settled rules y.circuit.sent_count (forward_of cell ∷ y.events) cells) refl refl
+    (batch-events rules cells (settle_one rules cell y))
 
 -- those of a circuit without next hops leave its legs
-pub legs-unlinked : (rules : Rules) (cells : List CircuitCell) (y : Settling) → leg_count (log rules y.events) ≡ 0 → (settle_all rules y cells).circuit.legs ≡ y.circuit.legs
+pub legs-unlinked : (rules : Rules) (cells : List CircuitCell) (y : Settling) → leg_count (log rules y.events) ≡ 0
+    → (settle_all rules y cells).circuit.legs ≡ y.circuit.legs
 legs-unlinked rules cells y none =
-    let both = batch-keeps (λ z. (leg_count (log rules z.events) ≡ 0) × (z.circuit.legs ≡ y.circuit.legs)) rules (λ z cell own. (own.0, rw own.0 own.1)) cells y (none, refl) in both.1
+    let both = batch-keeps (λ z. (leg_count (log rules z.events) ≡ 0) × (z.circuit.legs ≡ y.circuit.legs)) rules
+    (λ z cell own. (own.0, rw own.0 own.1)) cells y (none, refl) in both.1

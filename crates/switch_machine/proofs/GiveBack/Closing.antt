@@ -39,7 +39,9 @@ closing n reason = returning n (BackAnswer.Down reason)
 differs : (c d : ℕ) → (c == d) ≡ false → c ≡ d → ⊥
 differs c d other e = let same : (c == d) ≡ true = rw e (self_eq d) in cc
 
-pub closing-kept : (start : SwitchStart) (s : State) (h : List Step) (n : ClaimNote) (reason : ℕ) (x : CircuitState) (k : KeptClaim) → Stands start s h → slot_at s.circuits n.circ.0 ≡ Some x → n.dir ≡ Forth → x.forth.claim_out ≡ Some k → k.note ≡ n →
+pub closing-kept : (start : SwitchStart) (s : State) (h : List Step) (n : ClaimNote) (reason : ℕ) (x : CircuitState)
+    (k : KeptClaim) → Stands start s h → slot_at s.circuits n.circ.0 ≡ Some x → n.dir ≡ Forth → x.forth.claim_out ≡ Some k
+    → k.note ≡ n →
     BackAnswer.Down reason ≡ give_back_answer start h n None →
     Stands start (closed_state start.rules (events start.rules h n.circ.0) s n.circ.0 x k.cells reason) (closing n reason ∷ h)
 closing-kept start s h n reason x k st found forth out its said =
@@ -51,16 +53,28 @@ closing-kept start s h n reason x k st found forth out its said =
     let new : CircuitState = record (z.circuit) { forth = home_way x.forth } in
     let t = settled_state rules (events rules h c) s c x k.cells in
     let own : CircuitStands rules s.last_closes x c (past rules h c) (λ j. holds_id h c j) (edge_past rules h c) =
-    circuit-own rules s.last_closes s.circuits (λ d. past rules h d) (λ d j. holds_id h d j) (λ d. edge_past rules h d) c x found st.circuits in
+    circuit-own rules s.last_closes s.circuits (λ d. past rules h d) (λ d j. holds_id h d j) (λ d. edge_past rules h d) c x found
+    st.circuits in
     let alive : is_live_circuit rules h c ≡ true = own.live in
-    let behind_it = batch-returned rules s.last_closes h n (BackAnswer.Down reason) y k forth refl out its refl st.numbers.bodies st.numbers.dial_orders st.dials.never (st.not_yet.unlinked c) own in
-    let told : settled rules x.sent_count (events rules h c) k.cells ≡ events rules (step ∷ h) c = sym (batch-events rules k.cells y) ∙ behind_it.events_are in
+    let behind_it =
+    batch-returned rules s.last_closes h n (BackAnswer.Down reason) y k forth refl out its refl st.numbers.bodies
+    st.numbers.dial_orders st.dials.never (st.not_yet.unlinked c) own in
+    let told : settled rules x.sent_count (events rules h c) k.cells ≡ events rules (step ∷ h) c =
+    sym (batch-events rules k.cells y) ∙ behind_it.events_are in
     let inside = slot_at-inside s.circuits c x found in
     let size : length t.circuits ≡ length s.circuits = length-with s.circuits c (Some new) in
-    let others : (d : ℕ) → (c == d) ≡ false → CircuitAt rules s.last_closes (slot_at t.circuits d) d (past rules (step ∷ h) d) (λ i. holds_id (step ∷ h) d i) (edge_past rules (step ∷ h) d) =
-    λ d other. rw (slot_at-with s.circuits c (Some new) d inside, not_equal d c (λ e. differs c d other e), other_pasts rules h step d (rw other refl), other_edges rules h step d (rw other refl) refl) (st.circuits.circuit d) in
+    let others : (d : ℕ) → (c == d) ≡ false
+    → CircuitAt rules s.last_closes (slot_at t.circuits d) d (past rules (step ∷ h) d) (λ i. holds_id (step ∷ h) d i)
+    (edge_past rules (step ∷ h) d) =
+    λ d other. rw (
+      slot_at-with s.circuits c (Some new) d inside,
+      not_equal d c (λ e. differs c d other e),
+      other_pasts rules h step d (rw other refl),
+      other_edges rules h step d (rw other refl) refl,
+    ) (st.circuits.circuit d) in
     let legs_same = legs-kept s c x new found behind_it.legs in
-    subst (λ ev. Stands start (torn_state rules ev t c reason new) (step ∷ h)) (sym told) (torn-by start s t h step c reason new (λ m. lane rules h m) st (record {
+    subst (λ ev. Stands start (torn_state rules ev t c reason new) (step ∷ h)) (sym told)
+    (torn-by start s t h step c reason new (λ m. lane rules h m) st (record {
       said = (tt, said);
       steps = omega (arith, st.steps.count_is);
       numbers = record {
@@ -75,14 +89,24 @@ closing-kept start s h n reason x k st found forth out its said =
       others = others;
       fresh = λ d beyond.
           let other = not_equal c d (λ same. absurd (omega (arith, beyond, size, inside, same))) in
-          rw (other_pasts rules h step d (rw other refl), other_edges rules h step d (rw other refl) refl) (st.circuits.fresh d (omega (arith, beyond, size)));
+          rw (other_pasts rules h step d (rw other refl), other_edges rules h step d (rw other refl) refl)
+          (st.circuits.fresh d (omega (arith, beyond, size)));
       ids = ids-same (leg_in t) (leg_in s) (λ m. lane rules h m) (at h) legs_same st.ids;
       legs_stand = legs-same s.channels (leg_in t) (leg_in s) legs_same st.legs;
-      dials = dials-changed s.again (dial_in s) (dial_in t) c (length (dials_made rules h)) (length (dials_made rules (step ∷ h))) (was_handed_out h) (was_handed_out (step ∷ h)) z.circuit.dial
+      dials = dials-changed s.again (dial_in s) (dial_in t) c (length (dials_made rules h)) (length (dials_made rules (step ∷ h)))
+          (was_handed_out h) (was_handed_out (step ∷ h)) z.circuit.dial
           (rw (slot_at-with s.circuits c (Some new) c inside, self_eq c) refl)
           (λ d other. rw (slot_at-with s.circuits c (Some new) d inside, other) refl)
-          (λ order beyond. st.dials.never order (omega (arith, beyond, length-append (dials_made rules h) (numbered (length (dials_made rules h)) c (drop (length (asked (log rules (events rules h c)))) (asked (log rules (events rules (step ∷ h) c)))))))) st.dials;
-      counts = counts-same (leg_in t) (leg_in s) (cell_count rules h) (tick h) (length t.circuits) (length s.circuits) legs_same size st.counts;
+          (λ order beyond. st.dials.never order
+          (omega (
+            arith,
+            beyond,
+            length-append (dials_made rules h)
+                (numbered (length (dials_made rules h)) c
+                (drop (length (asked (log rules (events rules h c)))) (asked (log rules (events rules (step ∷ h) c))))),
+          ))) st.dials;
+      counts = counts-same (leg_in t) (leg_in s) (cell_count rules h) (tick h) (length t.circuits) (length s.circuits) legs_same
+          size st.counts;
       slots = st.slots;
       not_yet = st.not_yet;
       found = rw (slot_at-with s.circuits c (Some new) c inside, self_eq c) refl;

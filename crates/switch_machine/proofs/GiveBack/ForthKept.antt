@@ -36,8 +36,10 @@ use Rattle.tr_io.specs.declared.step.Step.{Step}
 abbrev settling : ClaimNote → Step
 settling n = returning n Settled
 
-pub forth-kept : (start : SwitchStart) (s : State) (h : List Step) (n : ClaimNote) (x : CircuitState) (k : KeptClaim) → Stands start s h → slot_at s.circuits n.circ.0 ≡ Some x → n.dir ≡ Forth → x.forth.claim_out ≡ Some k → k.note ≡ n →
-    settling_reason start.rules x.sent_count (events start.rules h n.circ.0) k.cells ≡ None → Settled ≡ give_back_answer start h n None →
+pub forth-kept : (start : SwitchStart) (s : State) (h : List Step) (n : ClaimNote) (x : CircuitState) (k : KeptClaim)
+    → Stands start s h → slot_at s.circuits n.circ.0 ≡ Some x → n.dir ≡ Forth → x.forth.claim_out ≡ Some k → k.note ≡ n →
+    settling_reason start.rules x.sent_count (events start.rules h n.circ.0) k.cells ≡ None
+    → Settled ≡ give_back_answer start h n None →
     Stands start (settled_state start.rules (events start.rules h n.circ.0) s n.circ.0 x k.cells) (settling n ∷ h)
 forth-kept start s h n x k st found forth out its none said =
     let rules = start.rules in
@@ -48,10 +50,15 @@ forth-kept start s h n x k st found forth out its none said =
     let new : CircuitState = record (z.circuit) { forth = home_way x.forth } in
     let t = settled_state rules (events rules h c) s c x k.cells in
     let own : CircuitStands rules s.last_closes x c (past rules h c) (λ j. holds_id h c j) (edge_past rules h c) =
-    circuit-own rules s.last_closes s.circuits (λ d. past rules h d) (λ d j. holds_id h d j) (λ d. edge_past rules h d) c x found st.circuits in
-    let behind_it = batch-returned rules s.last_closes h n Settled y k forth refl out its refl st.numbers.bodies st.numbers.dial_orders st.dials.never (st.not_yet.unlinked c) own in
-    let circuits_now : CircuitsStand rules s.last_closes t.circuits (λ d. past rules (step ∷ h) d) (λ d j. holds_id (step ∷ h) d j) (λ d. edge_past rules (step ∷ h) d) =
-    circuit-changed rules s.last_closes s.circuits (λ d. past rules h d) (λ d. past rules (step ∷ h) d) (λ d j. holds_id h d j) (λ d j. holds_id (step ∷ h) d j) (λ d. edge_past rules h d) (λ d. edge_past rules (step ∷ h) d) c x (Some new) found
+    circuit-own rules s.last_closes s.circuits (λ d. past rules h d) (λ d j. holds_id h d j) (λ d. edge_past rules h d) c x found
+    st.circuits in
+    let behind_it =
+    batch-returned rules s.last_closes h n Settled y k forth refl out its refl st.numbers.bodies st.numbers.dial_orders
+    st.dials.never (st.not_yet.unlinked c) own in
+    let circuits_now : CircuitsStand rules s.last_closes t.circuits (λ d. past rules (step ∷ h) d)
+    (λ d j. holds_id (step ∷ h) d j) (λ d. edge_past rules (step ∷ h) d) =
+    circuit-changed rules s.last_closes s.circuits (λ d. past rules h d) (λ d. past rules (step ∷ h) d) (λ d j. holds_id h d j)
+    (λ d j. holds_id (step ∷ h) d j) (λ d. edge_past rules h d) (λ d. edge_past rules (step ∷ h) d) c x (Some new) found
     (λ d other at_d. rw (other_pasts rules h step d (rw other refl), other_edges rules h step d (rw other refl) refl) at_d)
     (λ d other fresh. rw (other_pasts rules h step d (rw other refl), other_edges rules h step d (rw other refl) refl) fresh)
     (circuit-settled rules s.last_closes h n y k forth out its refl st.numbers.bodies none own behind_it) st.circuits in
@@ -71,11 +78,20 @@ forth-kept start s h n x k st found forth out its none said =
       circuits = circuits_now;
       ids = ids-same (leg_in t) (leg_in s) (λ m. lane rules h m) (at h) legs_same st.ids;
       legs = legs-same s.channels (leg_in t) (leg_in s) legs_same st.legs;
-      dials = dials-changed s.again (dial_in s) (dial_in t) c (length (dials_made rules h)) (length (dials_made rules (step ∷ h))) (was_handed_out h) (was_handed_out (step ∷ h)) z.circuit.dial
+      dials = dials-changed s.again (dial_in s) (dial_in t) c (length (dials_made rules h)) (length (dials_made rules (step ∷ h)))
+          (was_handed_out h) (was_handed_out (step ∷ h)) z.circuit.dial
           (rw (slot_at-with s.circuits c (Some new) c (slot_at-inside s.circuits c x found), self_eq c) refl)
           (λ d other. rw (slot_at-with s.circuits c (Some new) d (slot_at-inside s.circuits c x found), other) refl)
-          (λ order beyond. st.dials.never order (omega (arith, beyond, length-append (dials_made rules h) (numbered (length (dials_made rules h)) c (drop (length (asked (log rules (events rules h c)))) (asked (log rules (events rules (step ∷ h) c)))))))) st.dials;
-      counts = counts-same (leg_in t) (leg_in s) (cell_count rules h) (tick h) (length t.circuits) (length s.circuits) legs_same size st.counts;
+          (λ order beyond. st.dials.never order
+          (omega (
+            arith,
+            beyond,
+            length-append (dials_made rules h)
+                (numbered (length (dials_made rules h)) c
+                (drop (length (asked (log rules (events rules h c)))) (asked (log rules (events rules (step ∷ h) c))))),
+          ))) st.dials;
+      counts = counts-same (leg_in t) (leg_in s) (cell_count rules h) (tick h) (length t.circuits) (length s.circuits) legs_same
+          size st.counts;
       slots = st.slots;
       not_yet = st.not_yet;
     }

@@ -30,19 +30,29 @@ use Rattle.tr_io.specs.declared.names.Dir.TheVariants.{Forth}
 use Rattle.tr_io.specs.declared.step.Step.{Step}
 use Rattle.tr_io.specs.declared.step.Step.TheVariants.{GiveBack}
 
-events-refused : (rules : Rules) (h : List Step) (n : ClaimNote) (place : Option ℕ) (a : BackAnswer) (d : ℕ) → is_accepted_return a ≡ false → events rules (GiveBack n place a ∷ h) d ≡ events rules h d
+events-refused : (rules : Rules) (h : List Step) (n : ClaimNote) (place : Option ℕ) (a : BackAnswer) (d : ℕ)
+    → is_accepted_return a ≡ false → events rules (GiveBack n place a ∷ h) d ≡ events rules h d
 events-refused rules h n place a d refused = rw (refused, and-false (same_dir n.dir Forth), and-false (n.circ.0 == d)) refl
 
 kept-refused : (h : List Step) (n : ClaimNote) (place : Option ℕ) (a : BackAnswer) (d : ℕ) → is_accepted_return a ≡ false →
-    ◌≡◌ {A = Dir → Option ClaimNote} (λ dir. claim_out (GiveBack n place a ∷ h) (record { circ = d; dir = dir })) (λ dir. claim_out h (record { circ = d; dir = dir }))
-kept-refused h n place a d refused = fun_ext (λ dir. rw (refused, and-false (same_way (way_of n) (record { circ = d; dir = dir }))) refl)
+    ◌≡◌ {A = Dir → Option ClaimNote} (λ dir. claim_out (GiveBack n place a ∷ h) (record { circ = d; dir = dir }))
+    (λ dir. claim_out h (record { circ = d; dir = dir }))
+kept-refused h n place a d refused =
+    fun_ext (λ dir. rw (refused, and-false (same_way (way_of n) (record { circ = d; dir = dir }))) refl)
 
-born-refused : (rules : Rules) (h : List Step) (n : ClaimNote) (place : Option ℕ) (a : BackAnswer) → is_accepted_return a ≡ false → born_bodies rules (GiveBack n place a ∷ h) ≡ born_bodies rules h
+born-refused : (rules : Rules) (h : List Step) (n : ClaimNote) (place : Option ℕ) (a : BackAnswer) → is_accepted_return a ≡ false
+    → born_bodies rules (GiveBack n place a ∷ h) ≡ born_bodies rules h
 born-refused rules h n place a refused =
-    all-new _ _ (born_bodies rules h) [] (new-none (back_of n.circ.0) _ _ (ap (λ e. length (back_bodies (log rules e))) (events-refused rules h n place a n.circ.0 refused))) (new-none (record { circ = n.circ.0; dir = Forth }) _ _ refl)
+    all-new _ _ (born_bodies rules h) []
+    (new-none (back_of n.circ.0) _ _
+    (ap (λ e. length (back_bodies (log rules e))) (events-refused rules h n place a n.circ.0 refused)))
+    (new-none (record { circ = n.circ.0; dir = Forth }) _ _ refl)
 
-dials-refused : (rules : Rules) (h : List Step) (n : ClaimNote) (place : Option ℕ) (a : BackAnswer) → is_accepted_return a ≡ false → dials_made rules (GiveBack n place a ∷ h) ≡ dials_made rules h
-dials-refused rules h n place a refused = rw (events-refused rules h n place a n.circ.0 refused, drop-length (asked (log rules (events rules h n.circ.0)))) (append-nil (dials_made rules h))
+dials-refused : (rules : Rules) (h : List Step) (n : ClaimNote) (place : Option ℕ) (a : BackAnswer) → is_accepted_return a ≡ false
+    → dials_made rules (GiveBack n place a ∷ h) ≡ dials_made rules h
+dials-refused rules h n place a refused =
+    rw (events-refused rules h n place a n.circ.0 refused, drop-length (asked (log rules (events rules h n.circ.0))))
+    (append-nil (dials_made rules h))
 
 -- what a refusal leaves of the groups that see more than the step itself
 pub record Refused (start : SwitchStart) (s : State) (h : List Step) (step : Step) : Type 0 where
@@ -51,40 +61,64 @@ pub record Refused (start : SwitchStart) (s : State) (h : List Step) (step : Ste
   pub edge_is : (d : ℕ) → edge_past start.rules (step ∷ h) d ≡ edge_past start.rules h d
   pub never : (order : ℕ) → length (dials_made start.rules (step ∷ h)) ≤ order → was_handed_out (step ∷ h) order ≡ false
 
-gone-leaves : (start : SwitchStart) (s : State) (h : List Step) (n : ClaimNote) (place : Option ℕ) → Stands start s h → Refused start s h (GiveBack n place BackAnswer.Gone)
+gone-leaves : (start : SwitchStart) (s : State) (h : List Step) (n : ClaimNote) (place : Option ℕ) → Stands start s h
+    → Refused start s h (GiveBack n place BackAnswer.Gone)
 gone-leaves start s h n place st =
     let rules = start.rules in
     let a = BackAnswer.Gone in
     let born_same = born-refused rules h n place a refl in
     let dials_same = dials-refused rules h n place a refl in
     record {
-      numbers = record { channels = st.numbers.channels; circuits = st.numbers.circuits; claims = st.numbers.claims; bodies = st.numbers.bodies ∙ ap length (sym born_same); dial_orders = st.numbers.dial_orders ∙ ap length (sym dials_same); tick = st.numbers.tick };
-      past_is = λ d. rw (events-refused rules h n place a d refl) (ap (λ f. record (past rules h d) { claim_out = f }) (kept-refused h n place a d refl));
+      numbers = record {
+        channels = st.numbers.channels;
+        circuits = st.numbers.circuits;
+        claims = st.numbers.claims;
+        bodies = st.numbers.bodies ∙ ap length (sym born_same);
+        dial_orders =
+            st.numbers.dial_orders ∙ ap length (sym dials_same);
+        tick = st.numbers.tick;
+      };
+      past_is = λ d. rw (events-refused rules h n place a d refl)
+          (ap (λ f. record (past rules h d) { claim_out = f }) (kept-refused h n place a d refl));
       edge_is = λ d. rw (born_same, dials_same, events-refused rules h n place a d refl) refl;
       never = λ order beyond. st.dials.never order (subst (λ m. length m ≤ order) dials_same beyond);
     }
 
-stranger-leaves : (start : SwitchStart) (s : State) (h : List Step) (n : ClaimNote) (place : Option ℕ) (why : Difference) → Stands start s h → Refused start s h (GiveBack n place (BackAnswer.Stranger why))
+stranger-leaves : (start : SwitchStart) (s : State) (h : List Step) (n : ClaimNote) (place : Option ℕ) (why : Difference)
+    → Stands start s h → Refused start s h (GiveBack n place (BackAnswer.Stranger why))
 stranger-leaves start s h n place why st =
     let rules = start.rules in
     let a = BackAnswer.Stranger why in
     let born_same = born-refused rules h n place a refl in
     let dials_same = dials-refused rules h n place a refl in
     record {
-      numbers = record { channels = st.numbers.channels; circuits = st.numbers.circuits; claims = st.numbers.claims; bodies = st.numbers.bodies ∙ ap length (sym born_same); dial_orders = st.numbers.dial_orders ∙ ap length (sym dials_same); tick = st.numbers.tick };
-      past_is = λ d. rw (events-refused rules h n place a d refl) (ap (λ f. record (past rules h d) { claim_out = f }) (kept-refused h n place a d refl));
+      numbers = record {
+        channels = st.numbers.channels;
+        circuits = st.numbers.circuits;
+        claims = st.numbers.claims;
+        bodies = st.numbers.bodies ∙ ap length (sym born_same);
+        dial_orders =
+            st.numbers.dial_orders ∙ ap length (sym dials_same);
+        tick = st.numbers.tick;
+      };
+      past_is = λ d. rw (events-refused rules h n place a d refl)
+          (ap (λ f. record (past rules h d) { claim_out = f }) (kept-refused h n place a d refl));
       edge_is = λ d. rw (born_same, dials_same, events-refused rules h n place a d refl) refl;
       never = λ order beyond. st.dials.never order (subst (λ m. length m ≤ order) dials_same beyond);
     }
 
-pub gone-kept : (start : SwitchStart) (s : State) (h : List Step) (n : ClaimNote) (place : Option ℕ) → Stands start s h → BackAnswer.Gone ≡ give_back_answer start h n place → Stands start (counted s) (GiveBack n place BackAnswer.Gone ∷ h)
+pub gone-kept : (start : SwitchStart) (s : State) (h : List Step) (n : ClaimNote) (place : Option ℕ) → Stands start s h
+    → BackAnswer.Gone ≡ give_back_answer start h n place → Stands start (counted s) (GiveBack n place BackAnswer.Gone ∷ h)
 gone-kept start s h n place st said =
     let leaves = gone-leaves start s h n place st in
     record {
       steps = step-added start s.steps h (GiveBack n place BackAnswer.Gone) st.steps (tt, said);
       numbers = leaves.numbers;
       channels = st.channels;
-      circuits = record { circuit = λ d. rw (leaves.past_is d, leaves.edge_is d) (st.circuits.circuit d); fresh = λ d beyond. rw (leaves.past_is d, leaves.edge_is d) (st.circuits.fresh d beyond) };
+      circuits = record {
+        circuit = λ d. rw (leaves.past_is d, leaves.edge_is d) (st.circuits.circuit d);
+        fresh = λ d beyond. rw (leaves.past_is d, leaves.edge_is d) (st.circuits.fresh d beyond);
+      };
       ids = st.ids;
       legs = st.legs;
       dials = record { are_out = st.dials.are_out; once = st.dials.once; never = leaves.never };
@@ -93,7 +127,8 @@ gone-kept start s h n place st said =
       not_yet = st.not_yet;
     }
 
-pub stranger-kept : (start : SwitchStart) (s : State) (h : List Step) (n : ClaimNote) (place : Option ℕ) (why : Difference) → Stands start s h → BackAnswer.Stranger why ≡ give_back_answer start h n place →
+pub stranger-kept : (start : SwitchStart) (s : State) (h : List Step) (n : ClaimNote) (place : Option ℕ) (why : Difference)
+    → Stands start s h → BackAnswer.Stranger why ≡ give_back_answer start h n place →
     Stands start (counted s) (GiveBack n place (BackAnswer.Stranger why) ∷ h)
 stranger-kept start s h n place why st said =
     let leaves = stranger-leaves start s h n place why st in
@@ -101,7 +136,10 @@ stranger-kept start s h n place why st said =
       steps = step-added start s.steps h (GiveBack n place (BackAnswer.Stranger why)) st.steps (tt, said);
       numbers = leaves.numbers;
       channels = st.channels;
-      circuits = record { circuit = λ d. rw (leaves.past_is d, leaves.edge_is d) (st.circuits.circuit d); fresh = λ d beyond. rw (leaves.past_is d, leaves.edge_is d) (st.circuits.fresh d beyond) };
+      circuits = record {
+        circuit = λ d. rw (leaves.past_is d, leaves.edge_is d) (st.circuits.circuit d);
+        fresh = λ d beyond. rw (leaves.past_is d, leaves.edge_is d) (st.circuits.fresh d beyond);
+      };
       ids = st.ids;
       legs = st.legs;
       dials = record { are_out = st.dials.are_out; once = st.dials.once; never = leaves.never };

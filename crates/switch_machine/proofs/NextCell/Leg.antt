@@ -35,23 +35,31 @@ leg-named c k d j (Some leg) named =
 
 -- what may leave stays the same
 sendable-next : (rules : Rules) (h : List Step) (chan new_tick : ℕ) (cell : Cell) (c k : ℕ) →
-    sendable (circuit_log rules (NextCell (chan_no chan) new_tick (Some cell) ∷ h) c) (sealed_count (NextCell (chan_no chan) new_tick (Some cell) ∷ h) c) k
+    sendable (circuit_log rules (NextCell (chan_no chan) new_tick (Some cell) ∷ h) c)
+    (sealed_count (NextCell (chan_no chan) new_tick (Some cell) ∷ h) c) k
     ≡ sendable (circuit_log rules h c) (sealed_count h c) k
 sendable-next rules h chan new_tick cell c k = refl
 
 -- the leg after its first cell left
 
-sent-one : (rules : Rules) (h : List Step) (new_tick : ℕ) (c k : ℕ) (leg : LegState) (cell : CircuitCell) (cells : List CircuitCell) →
-    is_live_circuit rules h c ≡ true → leg.queue ≡ cell ∷ cells → is_leg c k (at h leg.chan leg.id) ≡ true → LegStands rules leg k (past rules h c) (holds_id h c k) →
-    sent rules (NextCell (chan_no leg.chan) new_tick (Some (cell_at leg.id cell)) ∷ h) c k ++ cells ≡ sendable (circuit_log rules (NextCell (chan_no leg.chan) new_tick (Some (cell_at leg.id cell)) ∷ h) c) (sealed_count (NextCell (chan_no leg.chan) new_tick (Some (cell_at leg.id cell)) ∷ h) c) k
+sent-one : (rules : Rules) (h : List Step) (new_tick : ℕ) (c k : ℕ) (leg : LegState) (cell : CircuitCell)
+    (cells : List CircuitCell) →
+    is_live_circuit rules h c ≡ true → leg.queue ≡ cell ∷ cells → is_leg c k (at h leg.chan leg.id) ≡ true
+    → LegStands rules leg k (past rules h c) (holds_id h c k) →
+    sent rules (NextCell (chan_no leg.chan) new_tick (Some (cell_at leg.id cell)) ∷ h) c k ++ cells
+    ≡ sendable (circuit_log rules (NextCell (chan_no leg.chan) new_tick (Some (cell_at leg.id cell)) ∷ h) c)
+    (sealed_count (NextCell (chan_no leg.chan) new_tick (Some (cell_at leg.id cell)) ∷ h) c) k
 sent-one rules h new_tick c k leg cell cells alive queued named own =
     rw (named, alive, sendable-next rules h leg.chan new_tick (cell_at leg.id cell) c k)
     (append_assoc (sent rules h c k) (cell ∷ []) cells ∙ rw queued at own.cells)
 
-leg-kept : (rules : Rules) (h : List Step) (new_tick : ℕ) (c k now : ℕ) (leg : LegState) (cell : CircuitCell) (cells : List CircuitCell) (b : Bool) → (cell.command == 4) ≡ b →
-    is_live_circuit rules h c ≡ true → leg.queue ≡ cell ∷ cells → is_leg c k (at h leg.chan leg.id) ≡ true → LegStands rules leg k (past rules h c) (holds_id h c k) →
+leg-kept : (rules : Rules) (h : List Step) (new_tick : ℕ) (c k now : ℕ) (leg : LegState) (cell : CircuitCell)
+    (cells : List CircuitCell) (b : Bool) → (cell.command == 4) ≡ b →
+    is_live_circuit rules h c ≡ true → leg.queue ≡ cell ∷ cells → is_leg c k (at h leg.chan leg.id) ≡ true
+    → LegStands rules leg k (past rules h c) (holds_id h c k) →
     LegAt rules (if b then None else Some (record leg { queue = cells; count = charged (count_of now leg); counted_at = now })) k
-    (past rules (NextCell (chan_no leg.chan) new_tick (Some (cell_at leg.id cell)) ∷ h) c) (holds_id (NextCell (chan_no leg.chan) new_tick (Some (cell_at leg.id cell)) ∷ h) c k)
+    (past rules (NextCell (chan_no leg.chan) new_tick (Some (cell_at leg.id cell)) ∷ h) c)
+    (holds_id (NextCell (chan_no leg.chan) new_tick (Some (cell_at leg.id cell)) ∷ h) c k)
 leg-kept rules h new_tick c k now leg cell cells true is_destroy alive queued named own =
     rw (own.port, self_eq leg.chan, self_eq leg.id, is_destroy) refl
 leg-kept rules h new_tick c k now leg cell cells false is_destroy alive queued named own = record {
@@ -61,9 +69,11 @@ leg-kept rules h new_tick c k now leg cell cells false is_destroy alive queued n
 }
 
 -- another leg of the circuit
-leg-other : (rules : Rules) (h : List Step) (chan new_tick : ℕ) (cell : Cell) (c j : ℕ) (y : Option LegState) → is_leg c j (at h chan cell.circ) ≡ false →
+leg-other : (rules : Rules) (h : List Step) (chan new_tick : ℕ) (cell : Cell) (c j : ℕ) (y : Option LegState)
+    → is_leg c j (at h chan cell.circ) ≡ false →
     LegAt rules y j (past rules h c) (holds_id h c j) →
-    LegAt rules y j (past rules (NextCell (chan_no chan) new_tick (Some cell) ∷ h) c) (holds_id (NextCell (chan_no chan) new_tick (Some cell) ∷ h) c j)
+    LegAt rules y j (past rules (NextCell (chan_no chan) new_tick (Some cell) ∷ h) c)
+    (holds_id (NextCell (chan_no chan) new_tick (Some cell) ∷ h) c j)
 leg-other rules h chan new_tick cell c j None none own = holds-on h chan new_tick cell c j none ∙ own
 leg-other rules h chan new_tick cell c j (Some leg) none own = record {
   holds = holds-on h chan new_tick cell c j none ∙ own.holds;
@@ -72,21 +82,26 @@ leg-other rules h chan new_tick cell c j (Some leg) none own = record {
 }
 
 -- the circuit after a leg's first cell left
-count-sent : (rules : Rules) (h : List Step) (chan new_tick c k count : ℕ) (cell : Cell) → is_leg c k (at h chan cell.circ) ≡ true → is_live_circuit rules h c ≡ true → count ≡ length (sent rules h c 0) →
+count-sent : (rules : Rules) (h : List Step) (chan new_tick c k count : ℕ) (cell : Cell) → is_leg c k (at h chan cell.circ) ≡ true
+    → is_live_circuit rules h c ≡ true → count ≡ length (sent rules h c 0) →
     sent_after k count ≡ length (sent rules (NextCell (chan_no chan) new_tick (Some cell) ∷ h) c 0)
 count-sent rules h chan new_tick c zero count cell named alive same = rw (named, alive, same) (grind (arith, common_steps))
-count-sent rules h chan new_tick c (suc k) count cell named alive same = rw (leg-named c (suc k) c 0 (at h chan cell.circ) named, self_eq c, eqb-suc-zero k) same
+count-sent rules h chan new_tick c (suc k) count cell named alive same =
+    rw (leg-named c (suc k) c 0 (at h chan cell.circ) named, self_eq c, eqb-suc-zero k) same
 
-pub circuit-sent : (rules : Rules) (closes : List Ordered) (h : List Step) (new_tick now : ℕ) (c k : ℕ) (x : CircuitState) (leg : LegState) (cell : CircuitCell) (cells : List CircuitCell) →
+pub circuit-sent : (rules : Rules) (closes : List Ordered) (h : List Step) (new_tick now : ℕ) (c k : ℕ) (x : CircuitState)
+    (leg : LegState) (cell : CircuitCell) (cells : List CircuitCell) →
     slot_at x.legs k ≡ Some leg → leg.queue ≡ cell ∷ cells → is_leg c k (at h leg.chan leg.id) ≡ true →
     CircuitStands rules closes x c (past rules h c) (λ j. holds_id h c j) (edge_past rules h c) →
     CircuitStands rules closes (circuit_sent now k x leg (cell ∷ cells)) c
-    (past rules (NextCell (chan_no leg.chan) new_tick (Some (cell_at leg.id cell)) ∷ h) c) (λ j. holds_id (NextCell (chan_no leg.chan) new_tick (Some (cell_at leg.id cell)) ∷ h) c j)
+    (past rules (NextCell (chan_no leg.chan) new_tick (Some (cell_at leg.id cell)) ∷ h) c)
+    (λ j. holds_id (NextCell (chan_no leg.chan) new_tick (Some (cell_at leg.id cell)) ∷ h) c j)
     (edge_past rules (NextCell (chan_no leg.chan) new_tick (Some (cell_at leg.id cell)) ∷ h) c)
 circuit-sent rules closes h new_tick now c k x leg cell cells found queued named own =
     let step = NextCell (chan_no leg.chan) new_tick (Some (cell_at leg.id cell)) in
     let inside = slot_at-inside x.legs k leg found in
-    let leg_own : LegStands rules leg k (past rules h c) (holds_id h c k) = subst (λ y. LegAt rules y k (past rules h c) (holds_id h c k)) found (own.legs k) in
+    let leg_own : LegStands rules leg k (past rules h c) (holds_id h c k) =
+    subst (λ y. LegAt rules y k (past rules h c) (holds_id h c k)) found (own.legs k) in
     record {
       live = own.live;
       sent_count = count-sent rules h leg.chan new_tick c k x.sent_count (cell_at leg.id cell) named own.live own.sent_count;
@@ -96,10 +111,12 @@ circuit-sent rules closes h new_tick now c k x leg cell cells found queued named
       hops = length-with x.legs k _ ∙ own.hops;
       legs = λ j. elim (eqb_tells j k) [
         | inl (is_it, same) ↦ rw (slot_at-with x.legs k (sent_first now leg (cell ∷ cells)) j inside, is_it)
-            (subst (λ i. LegAt rules (sent_first now leg (cell ∷ cells)) i (past rules (step ∷ h) c) (holds_id (step ∷ h) c i)) (sym same)
+            (subst (λ i. LegAt rules (sent_first now leg (cell ∷ cells)) i (past rules (step ∷ h) c) (holds_id (step ∷ h) c i))
+            (sym same)
             (leg-kept rules h new_tick c k now leg cell cells (cell.command == 4) refl own.live queued named leg_own))
         | inr (is_it, other) ↦ rw (slot_at-with x.legs k (sent_first now leg (cell ∷ cells)) j inside, is_it)
-            (leg-other rules h leg.chan new_tick (cell_at leg.id cell) c j (slot_at x.legs j) (leg-named c k c j (at h leg.chan leg.id) named ∙ rw (self_eq c, not_equal k j other) refl) (own.legs j))
+            (leg-other rules h leg.chan new_tick (cell_at leg.id cell) c j (slot_at x.legs j)
+            (leg-named c k c j (at h leg.chan leg.id) named ∙ rw (self_eq c, not_equal k j other) refl) (own.legs j))
       ];
       forth = own.forth;
       back = own.back;

@@ -33,24 +33,29 @@ use Rattle.switch_machine.proofs.OpenCircuit.Refused.{refused-kept}
 use Rattle.switch_machine.proofs.OpenCircuit.Accepted.{opened-kept}
 
 -- what the state has of a circuit says whether it is live
-circuit-live : (rules : Rules) (closes : List Ordered) (x : Option CircuitState) (c : ℕ) (p : Past) (has_id : ℕ → Bool) (e : EdgePast) → CircuitAt rules closes x c p has_id e → is_some x ≡ p.live
+circuit-live : (rules : Rules) (closes : List Ordered) (x : Option CircuitState) (c : ℕ) (p : Past) (has_id : ℕ → Bool)
+    (e : EdgePast) → CircuitAt rules closes x c p has_id e → is_some x ≡ p.live
 circuit-live rules closes None c p has_id e at = sym at.live
 circuit-live rules closes (Some x) c p has_id e at = sym at.live
 
-filled-circuits : (start : SwitchStart) (s : State) (h : List Step) → Stands start s h → filled_slots s.circuits ≡ live_circuits start.rules h
+filled-circuits : (start : SwitchStart) (s : State) (h : List Step) → Stands start s h
+    → filled_slots s.circuits ≡ live_circuits start.rules h
 filled-circuits start s h st =
     count_below-same (λ c. is_some (slot_at s.circuits c)) (is_live_circuit start.rules h)
-    (λ c. circuit-live start.rules s.last_closes (slot_at s.circuits c) c (past start.rules h c) (λ k. holds_id h c k) (edge_past start.rules h c) (st.circuits.circuit c)) (length s.circuits)
+    (λ c. circuit-live start.rules s.last_closes (slot_at s.circuits c) c (past start.rules h c) (λ k. holds_id h c k)
+    (edge_past start.rules h c) (st.circuits.circuit c)) (length s.circuits)
     ∙ ap (count_below (is_live_circuit start.rules h)) st.numbers.circuits
 
 -- the answer
-open_said_by : (start : SwitchStart) (s : State) (h : List Step) (chan id : ℕ) (keys : Option LayerKeys) (x : Option ChannelState) → Stands start s h → ChannelAt x (channel_past start.rules h chan) →
+open_said_by : (start : SwitchStart) (s : State) (h : List Step) (chan id : ℕ) (keys : Option LayerKeys) (x : Option ChannelState)
+    → Stands start s h → ChannelAt x (channel_past start.rules h chan) →
     open_result_on start.circuits s chan id keys x ≡ open_answer start h chan id keys
 open_said_by start s h chan id keys None st at = rw at.channel refl
 open_said_by start s h chan id keys (Some channel) st at =
     rw (at.channel, taken-said start s h st chan id channel at.lane, filled-circuits start s h st, st.numbers.circuits) refl
 
-pub open_said : (start : SwitchStart) (s : State) (h : List Step) (chan id : ℕ) (keys : Option LayerKeys) → Stands start s h → open_result start.circuits s chan id keys ≡ open_answer start h chan id keys
+pub open_said : (start : SwitchStart) (s : State) (h : List Step) (chan id : ℕ) (keys : Option LayerKeys) → Stands start s h
+    → open_result start.circuits s chan id keys ≡ open_answer start h chan id keys
 open_said start s h chan id keys st = open_said_by start s h chan id keys (slot_at s.channels chan) st (st.channels.channel chan)
 
 -- a refusal that sends nothing
@@ -58,12 +63,14 @@ if-both : {A : Type 0} (b : Bool) (x : A) → (if b then x else x) ≡ x
 if-both true x = refl
 if-both false x = refl
 
-unknown-channel : (start : SwitchStart) (s : State) (h : List Step) (chan id : ℕ) (reply : Cell) (keys : Option LayerKeys) (pad : Option (List ℕ)) → Stands start s h → IsReply reply keys →
+unknown-channel : (start : SwitchStart) (s : State) (h : List Step) (chan id : ℕ) (reply : Cell) (keys : Option LayerKeys)
+    (pad : Option (List ℕ)) → Stands start s h → IsReply reply keys →
     Refused OpenRefusal.NoChannel ≡ open_answer start h chan id keys →
     Stands start (counted s) (OpenCircuit (chan_no chan) id reply keys pad (Refused OpenRefusal.NoChannel) ∷ h)
 unknown-channel start s h chan id reply keys pad st asked said =
     let rules = start.rules in
-    let same : (n : ℕ) → (if chan == n then lane rules h n else lane rules h n) ≡ lane rules h n = λ n. if-both (chan == n) (lane rules h n) in
+    let same : (n : ℕ) → (if chan == n then lane rules h n else lane rules h n) ≡ lane rules h n =
+    λ n. if-both (chan == n) (lane rules h n) in
     record {
       steps = step-added start s.steps h _ st.steps (asked, said);
       numbers = st.numbers;
@@ -90,10 +97,12 @@ judged most zero taken peers keys full n =
     else if full then Refused (OpenRefusal.Full most)
     else Opened (circ_no n)
 
-open-by : (start : SwitchStart) (s : State) (h : List Step) (chan id : ℕ) (reply : Cell) (pad : Option (List ℕ)) (channel : ChannelState) (zero taken peers : Bool) (keys : Option LayerKeys) (full : Bool) →
+open-by : (start : SwitchStart) (s : State) (h : List Step) (chan id : ℕ) (reply : Cell) (pad : Option (List ℕ))
+    (channel : ChannelState) (zero taken peers : Bool) (keys : Option LayerKeys) (full : Bool) →
     Stands start s h → IsReply reply keys → slot_at s.channels chan ≡ Some channel → is_in_use start.rules h chan id ≡ taken →
     judged start.circuits zero taken peers keys full (length s.circuits) ≡ open_answer start h chan id keys →
-    Stands start (open_state_by s chan id reply keys (Some channel) (judged start.circuits zero taken peers keys full (length s.circuits)))
+    Stands start
+    (open_state_by s chan id reply keys (Some channel) (judged start.circuits zero taken peers keys full (length s.circuits)))
     (OpenCircuit (chan_no chan) id reply keys pad (judged start.circuits zero taken peers keys full (length s.circuits)) ∷ h)
 unfolding judged
 open-by start s h chan id reply pad channel true taken peers keys full st asked found is_taken said =
@@ -109,16 +118,23 @@ open-by start s h chan id reply pad channel false false true (Some keys) true st
 open-by start s h chan id reply pad channel false false true (Some keys) false st asked found is_taken said =
     opened-kept start s h chan id reply keys pad st (asked, said) (rw found refl) (unused (at h chan id) (or-first _ _ is_taken))
 
-open-on : (start : SwitchStart) (s : State) (h : List Step) (chan id : ℕ) (reply : Cell) (keys : Option LayerKeys) (pad : Option (List ℕ)) (x : Option ChannelState) → Stands start s h → IsReply reply keys → slot_at s.channels chan ≡ x →
+open-on : (start : SwitchStart) (s : State) (h : List Step) (chan id : ℕ) (reply : Cell) (keys : Option LayerKeys)
+    (pad : Option (List ℕ)) (x : Option ChannelState) → Stands start s h → IsReply reply keys → slot_at s.channels chan ≡ x →
     open_result_on start.circuits s chan id keys x ≡ open_answer start h chan id keys →
-    Stands start (open_state_by s chan id reply keys x (open_result_on start.circuits s chan id keys x)) (OpenCircuit (chan_no chan) id reply keys pad (open_result_on start.circuits s chan id keys x) ∷ h)
+    Stands start (open_state_by s chan id reply keys x (open_result_on start.circuits s chan id keys x))
+    (OpenCircuit (chan_no chan) id reply keys pad (open_result_on start.circuits s chan id keys x) ∷ h)
 unfolding judged
 open-on start s h chan id reply keys pad None st asked found said = unknown-channel start s h chan id reply keys pad st asked said
 open-on start s h chan id reply keys pad (Some channel) st asked found said =
-    let own : ChannelStands channel (channel_past start.rules h chan) = subst (λ x. ChannelAt x (channel_past start.rules h chan)) found (st.channels.channel chan) in
-    open-by start s h chan id reply pad channel (id == 0) (is_id_taken s chan channel id) (has_peers_bit channel.side id) keys (nat_le start.circuits (filled_slots s.circuits)) st asked found
+    let own : ChannelStands channel (channel_past start.rules h chan) =
+    subst (λ x. ChannelAt x (channel_past start.rules h chan)) found (st.channels.channel chan) in
+    open-by start s h chan id reply pad channel (id == 0) (is_id_taken s chan channel id) (has_peers_bit channel.side id) keys
+    (nat_le start.circuits (filled_slots s.circuits)) st asked found
     (sym (taken-said start s h st chan id channel own.lane)) said
 
-pub open_kept : (start : SwitchStart) (s : State) (h : List Step) (chan id : ℕ) (reply : Cell) (keys : Option LayerKeys) (pad : Option (List ℕ)) → IsReply reply keys → Stands start s h →
-    Stands start (open_state start.circuits s chan id reply keys) (OpenCircuit (chan_no chan) id reply keys pad (open_result start.circuits s chan id keys) ∷ h)
-open_kept start s h chan id reply keys pad asked st = open-on start s h chan id reply keys pad (slot_at s.channels chan) st asked refl (open_said start s h chan id keys st)
+pub open_kept : (start : SwitchStart) (s : State) (h : List Step) (chan id : ℕ) (reply : Cell) (keys : Option LayerKeys)
+    (pad : Option (List ℕ)) → IsReply reply keys → Stands start s h →
+    Stands start (open_state start.circuits s chan id reply keys)
+    (OpenCircuit (chan_no chan) id reply keys pad (open_result start.circuits s chan id keys) ∷ h)
+open_kept start s h chan id reply keys pad asked st =
+    open-on start s h chan id reply keys pad (slot_at s.channels chan) st asked refl (open_said start s h chan id keys st)

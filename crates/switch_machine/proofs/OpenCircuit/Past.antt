@@ -42,11 +42,13 @@ past-opened : (rules : Rules) (h : List Step) (chan id : ℕ) (reply : Cell) (ke
 past-opened rules h chan id reply keys pad n = simp (self_eq n)
 
 -- of the others
-pub past-other : (rules : Rules) (h : List Step) (chan id : ℕ) (reply : Cell) (keys : LayerKeys) (pad : Option (List ℕ)) (n d : ℕ) → (n == d) ≡ false →
+pub past-other : (rules : Rules) (h : List Step) (chan id : ℕ) (reply : Cell) (keys : LayerKeys) (pad : Option (List ℕ)) (n d : ℕ)
+    → (n == d) ≡ false →
     past rules (opening chan id reply keys pad n ∷ h) d ≡ past rules h d
 past-other rules h chan id reply keys pad n d other = other_pasts rules h (opening chan id reply keys pad n) d (rw other refl)
 
-pub edge-other : (rules : Rules) (h : List Step) (chan id : ℕ) (reply : Cell) (keys : LayerKeys) (pad : Option (List ℕ)) (n d : ℕ) → (n == d) ≡ false →
+pub edge-other : (rules : Rules) (h : List Step) (chan id : ℕ) (reply : Cell) (keys : LayerKeys) (pad : Option (List ℕ)) (n d : ℕ)
+    → (n == d) ≡ false →
     edge_past rules (opening chan id reply keys pad n ∷ h) d ≡ edge_past rules h d
 edge-other rules h chan id reply keys pad n d other = simp other
 
@@ -62,38 +64,48 @@ free-at h chan id m i free same =
     let same_id = same-number id i (and-second (chan == m) _ same) in
     subst (λ a. at h a i ≡ None) same_chan (subst (λ a. at h chan a ≡ None) same_id free)
 
-holds-by : (h : List Step) (chan id : ℕ) (reply : Cell) (keys : LayerKeys) (pad : Option (List ℕ)) (n d k : ℕ) (p : Option Port) → at h chan id ≡ None → (n == d) ≡ false →
+holds-by : (h : List Step) (chan id : ℕ) (reply : Cell) (keys : LayerKeys) (pad : Option (List ℕ)) (n d k : ℕ) (p : Option Port)
+    → at h chan id ≡ None → (n == d) ≡ false →
     holds_port (opening chan id reply keys pad n ∷ h) d k p ≡ holds_port h d k p
 holds-by h chan id reply keys pad n d k None free other = refl
 holds-by h chan id reply keys pad n d k (Some place) free other =
-    leg-if d k n ((chan == place.chan) && (id == place.id)) (at h place.chan place.id) (free-at h chan id place.chan place.id free) other
+    leg-if d k n ((chan == place.chan) && (id == place.id)) (at h place.chan place.id)
+    (free-at h chan id place.chan place.id free) other
 
-pub holds-other : (h : List Step) (chan id : ℕ) (reply : Cell) (keys : LayerKeys) (pad : Option (List ℕ)) (n d k : ℕ) → at h chan id ≡ None → (n == d) ≡ false →
+pub holds-other : (h : List Step) (chan id : ℕ) (reply : Cell) (keys : LayerKeys) (pad : Option (List ℕ)) (n d k : ℕ)
+    → at h chan id ≡ None → (n == d) ≡ false →
     holds_id (opening chan id reply keys pad n ∷ h) d k ≡ holds_id h d k
 holds-other h chan id reply keys pad n d k free other = rw other (holds-by h chan id reply keys pad n d k (port h d k) free other)
 
 -- the new circuit stands for its past
 
 -- the first leg
-holds-first : (h : List Step) (chan id : ℕ) (reply : Cell) (keys : LayerKeys) (pad : Option (List ℕ)) (n : ℕ) → holds_id (opening chan id reply keys pad n ∷ h) n 0 ≡ true
+holds-first : (h : List Step) (chan id : ℕ) (reply : Cell) (keys : LayerKeys) (pad : Option (List ℕ)) (n : ℕ)
+    → holds_id (opening chan id reply keys pad n ∷ h) n 0 ≡ true
 holds-first h chan id reply keys pad n = simp (self_eq n, self_eq chan, self_eq id)
 
-holds-later : (h : List Step) (chan id : ℕ) (reply : Cell) (keys : LayerKeys) (pad : Option (List ℕ)) (n k : ℕ) → port h n (suc k) ≡ None → holds_id (opening chan id reply keys pad n ∷ h) n (suc k) ≡ false
+holds-later : (h : List Step) (chan id : ℕ) (reply : Cell) (keys : LayerKeys) (pad : Option (List ℕ)) (n k : ℕ)
+    → port h n (suc k) ≡ None → holds_id (opening chan id reply keys pad n ∷ h) n (suc k) ≡ false
 holds-later h chan id reply keys pad n k none = simp (self_eq n, eqb-suc-zero k, none)
 
-new-legs : (rules : Rules) (h : List Step) (chan id : ℕ) (reply : Cell) (keys : LayerKeys) (pad : Option (List ℕ)) (n : ℕ) → past rules h n ≡ no_past → (k : ℕ) →
-    LegAt rules (slot_at (Some (first_leg chan id reply) ∷ []) k) k (opened_past no_past chan id reply keys pad) (holds_id (opening chan id reply keys pad n ∷ h) n k)
+new-legs : (rules : Rules) (h : List Step) (chan id : ℕ) (reply : Cell) (keys : LayerKeys) (pad : Option (List ℕ)) (n : ℕ)
+    → past rules h n ≡ no_past → (k : ℕ) →
+    LegAt rules (slot_at (Some (first_leg chan id reply) ∷ []) k) k (opened_past no_past chan id reply keys pad)
+    (holds_id (opening chan id reply keys pad n ∷ h) n k)
 unfolding slot_at open_effects
 new-legs rules h chan id reply keys pad n fresh zero = record {
   holds = holds-first h chan id reply keys pad n;
   port = refl;
   cells = refl;
 }
-new-legs rules h chan id reply keys pad n fresh (suc k) = holds-later h chan id reply keys pad n k (ap (λ (p : Past). p.port (suc k)) fresh)
+new-legs rules h chan id reply keys pad n fresh (suc k) =
+    holds-later h chan id reply keys pad n k (ap (λ (p : Past). p.port (suc k)) fresh)
 
-new-circuit : (rules : Rules) (closes : List Ordered) (h : List Step) (chan id : ℕ) (reply : Cell) (keys : LayerKeys) (pad : Option (List ℕ)) (n : ℕ) →
+new-circuit : (rules : Rules) (closes : List Ordered) (h : List Step) (chan id : ℕ) (reply : Cell) (keys : LayerKeys)
+    (pad : Option (List ℕ)) (n : ℕ) →
     IsFresh (past rules h n) (edge_past rules h n) → ((serial : ℕ) → left_at closes n serial ≡ []) →
-    CircuitStands rules closes (new_circuit chan id reply) n (opened_past no_past chan id reply keys pad) (λ k. holds_id (opening chan id reply keys pad n ∷ h) n k) (edge_past rules (opening chan id reply keys pad n ∷ h) n)
+    CircuitStands rules closes (new_circuit chan id reply) n (opened_past no_past chan id reply keys pad)
+    (λ k. holds_id (opening chan id reply keys pad n ∷ h) n k) (edge_past rules (opening chan id reply keys pad n ∷ h) n)
 unfolding open_effects
 new-circuit rules closes h chan id reply keys pad n fresh none = record {
   live = refl;
@@ -103,18 +115,39 @@ new-circuit rules closes h chan id reply keys pad n fresh none = record {
   linked = refl;
   hops = refl;
   legs = new-legs rules h chan id reply keys pad n fresh.past;
-  forth = record { claimed_count = refl; out = refl; claim_out = refl; noted = tt; cells = refl; claimed_numbers = []; claimed_all = refl; numbers = sym (fresh.numbers Forth) };
-  back = record { claimed_count = refl; out = refl; claim_out = refl; noted = tt; cells = refl; claimed_numbers = []; claimed_all = refl; numbers = sym (fresh.numbers Back) };
+  forth = record {
+    claimed_count = refl;
+    out = refl;
+    claim_out = refl;
+    noted = tt;
+    cells = refl;
+    claimed_numbers = [];
+    claimed_all = refl;
+    numbers = sym (fresh.numbers Forth);
+  };
+  back = record {
+    claimed_count = refl;
+    out = refl;
+    claim_out = refl;
+    noted = tt;
+    cells = refl;
+    claimed_numbers = [];
+    claimed_all = refl;
+    numbers = sym (fresh.numbers Back);
+  };
   orders = record { reach_orders = λ serial. refl; carry_orders = λ serial. refl; close_orders = λ serial. refl };
   no_left = none;
   dial = refl;
 }
 
-pub circuit-opened : (rules : Rules) (closes : List Ordered) (h : List Step) (chan id : ℕ) (reply : Cell) (keys : LayerKeys) (pad : Option (List ℕ)) (n : ℕ) →
+pub circuit-opened : (rules : Rules) (closes : List Ordered) (h : List Step) (chan id : ℕ) (reply : Cell) (keys : LayerKeys)
+    (pad : Option (List ℕ)) (n : ℕ) →
     IsFresh (past rules h n) (edge_past rules h n) → ((serial : ℕ) → left_at closes n serial ≡ []) →
-    CircuitStands rules closes (new_circuit chan id reply) n (past rules (opening chan id reply keys pad n ∷ h) n) (λ k. holds_id (opening chan id reply keys pad n ∷ h) n k) (edge_past rules (opening chan id reply keys pad n ∷ h) n)
+    CircuitStands rules closes (new_circuit chan id reply) n (past rules (opening chan id reply keys pad n ∷ h) n)
+    (λ k. holds_id (opening chan id reply keys pad n ∷ h) n k) (edge_past rules (opening chan id reply keys pad n ∷ h) n)
 circuit-opened rules closes h chan id reply keys pad n fresh none =
     let step = opening chan id reply keys pad n in
-    subst (λ p. CircuitStands rules closes (new_circuit chan id reply) n p (λ k. holds_id (step ∷ h) n k) (edge_past rules (step ∷ h) n))
+    subst (λ p. CircuitStands rules closes (new_circuit chan id reply) n p (λ k. holds_id (step ∷ h) n k)
+    (edge_past rules (step ∷ h) n))
     (sym (past-opened rules h chan id reply keys pad n ∙ ap (λ p. opened_past p chan id reply keys pad) fresh.past))
     (new-circuit rules closes h chan id reply keys pad n fresh none)

@@ -26,16 +26,22 @@ dials_with m c (Some to) dials = dials ++ record { order = m; circ = c; to = des
 
 -- The dial order that is open, by the next hop.
 abbrev pub open_by : NextHop → (ℕ → Bool) → List Dial → Option DialState
-open_by hop handed dials = if is_dialling hop then option_map (λ (d : Dial). record { order = d.order; to = d.to; handed_out = handed d.order }) (last_of dials) else None
+open_by hop handed dials =
+    if is_dialling hop then option_map (λ (d : Dial). record { order = d.order; to = d.to; handed_out = handed d.order })
+    (last_of dials) else None
 
 last-more : (dials : List Dial) (d : Dial) → last_of (dials ++ d ∷ []) ≡ Some d
 last-more [] d = refl
 last-more (a ∷ []) d = refl
 last-more (a ∷ b ∷ dials) d = last-more (b ∷ dials) d
 
-dial-by : (m c : ℕ) (to : Option Address) (cut : Bool) (hop : Option NextHop) (handed : ℕ → Bool) (dials : List Dial) (dial : Option DialState) → handed m ≡ false → dial ≡ open_by (unwrap_or hop Absent) handed dials →
-    dial_with m to cut dial ≡ open_by (unwrap_or (option_or (if is_some to then Some Dialling else (if cut then Some Absent else None)) hop) Absent) handed (dials_with m c to dials)
-dial-by m c (Some to) cut hop handed dials dial never same = rw (last-more dials (record { order = m; circ = c; to = dest_of to }), never) refl
+dial-by : (m c : ℕ) (to : Option Address) (cut : Bool) (hop : Option NextHop) (handed : ℕ → Bool) (dials : List Dial)
+    (dial : Option DialState) → handed m ≡ false → dial ≡ open_by (unwrap_or hop Absent) handed dials →
+    dial_with m to cut dial
+    ≡ open_by (unwrap_or (option_or (if is_some to then Some Dialling else (if cut then Some Absent else None)) hop) Absent)
+    handed (dials_with m c to dials)
+dial-by m c (Some to) cut hop handed dials dial never same =
+    rw (last-more dials (record { order = m; circ = c; to = dest_of to }), never) refl
 dial-by m c None true hop handed dials dial never same = refl
 dial-by m c None false hop handed dials dial never same = same
 
@@ -44,34 +50,42 @@ from-numbered : (m c : ℕ) (l : List Address) → filter (is_from c) (numbered 
 from-numbered m c [] = refl
 from-numbered m c (to ∷ more) = rw (self_eq c, from-numbered (m + 1) c more) refl
 
-numbered-more : (m c : ℕ) (l : List Address) (to : Address) → numbered m c (l ++ to ∷ []) ≡ numbered m c l ++ record { order = m + length l; circ = c; to = dest_of to } ∷ []
+numbered-more : (m c : ℕ) (l : List Address) (to : Address)
+    → numbered m c (l ++ to ∷ []) ≡ numbered m c l ++ record { order = m + length l; circ = c; to = dest_of to } ∷ []
 numbered-more m c [] to = let e : m + 0 ≡ m = omega arith in rw e refl
-numbered-more m c (x ∷ l) to = let e : m + suc (length l) ≡ m + 1 + length l = omega arith in rw e (ap (λ d. record { order = m; circ = c; to = dest_of x } ∷ d) (numbered-more (m + 1) c l to))
+numbered-more m c (x ∷ l) to = let e : m + suc (length l) ≡ m + 1 + length l =
+    omega arith in rw e (ap (λ d. record { order = m; circ = c; to = dest_of x } ∷ d) (numbered-more (m + 1) c l to))
 
 -- The dial order and the next number, behind dial orders that were made before this batch (`base`, up to
 -- number n) and those of the addresses behind the first k.
 pub record HasDial (rules : Rules) (c n k : ℕ) (base : List Dial) (handed : ℕ → Bool) (y : Settling) : Type 0 where
   pub known : k ≤ length (asked (log rules y.events))
   pub next : y.dials ≡ n + length (drop k (asked (log rules y.events)))
-  pub dial_is : y.circuit.dial ≡ open_by (next_hop (log rules y.events)) handed (base ++ numbered n c (drop k (asked (log rules y.events))))
+  pub dial_is : y.circuit.dial ≡ open_by (next_hop (log rules y.events)) handed
+      (base ++ numbered n c (drop k (asked (log rules y.events))))
 
-dials-by : (n c : ℕ) (base : List Dial) (k : ℕ) (xs : List Address) (m : ℕ) (to : Option Address) → k ≤ length xs → m ≡ n + length (drop k xs) →
+dials-by : (n c : ℕ) (base : List Dial) (k : ℕ) (xs : List Address) (m : ℕ) (to : Option Address) → k ≤ length xs
+    → m ≡ n + length (drop k xs) →
     dials_with m c to (base ++ numbered n c (drop k xs)) ≡ base ++ numbered n c (drop k (pushed xs to))
 dials-by n c base k xs m None le next = refl
 dials-by n c base k xs m (Some to) le next =
     append_assoc base (numbered n c (drop k xs)) _ ∙ ap (λ l. base ++ l)
-    (ap (λ i. numbered n c (drop k xs) ++ record { order = i; circ = c; to = dest_of to } ∷ []) next ∙ sym (numbered-more n c (drop k xs) to) ∙ ap (numbered n c) (sym (drop-append-le k xs (to ∷ []) le)))
+    (ap (λ i. numbered n c (drop k xs) ++ record { order = i; circ = c; to = dest_of to } ∷ []) next
+    ∙ sym (numbered-more n c (drop k xs) to) ∙ ap (numbered n c) (sym (drop-append-le k xs (to ∷ []) le)))
 
-next-by : (n k m : ℕ) (xs : List Address) (to : Option Address) → k ≤ length xs → m ≡ n + length (drop k xs) → dials_after m to ≡ n + length (drop k (pushed xs to))
+next-by : (n k m : ℕ) (xs : List Address) (to : Option Address) → k ≤ length xs → m ≡ n + length (drop k xs)
+    → dials_after m to ≡ n + length (drop k (pushed xs to))
 next-by n k m xs None le next = next
-next-by n k m xs (Some to) le next = let more = ap length (drop-append-le k xs (to ∷ []) le) in let long = length-append (drop k xs) (to ∷ []) in omega (arith, next, more, long)
+next-by n k m xs (Some to) le next = let more = ap length (drop-append-le k xs (to ∷ []) le) in let long =
+    length-append (drop k xs) (to ∷ []) in omega (arith, next, more, long)
 
 known-by : (k : ℕ) (xs : List Address) (to : Option Address) → k ≤ length xs → k ≤ length (pushed xs to)
 known-by k xs None le = le
 known-by k xs (Some to) le = omega (arith, le, length-append xs (to ∷ []))
 
 -- a forward cell
-pub dial-step : (rules : Rules) (c n k : ℕ) (base : List Dial) (handed : ℕ → Bool) (y : Settling) (command : ℕ) (body : List ℕ) → ((m : ℕ) → n ≤ m → handed m ≡ false) →
+pub dial-step : (rules : Rules) (c n k : ℕ) (base : List Dial) (handed : ℕ → Bool) (y : Settling) (command : ℕ) (body : List ℕ)
+    → ((m : ℕ) → n ≤ m → handed m ≡ false) →
     HasDial rules c n k base handed y → HasDial rules c n k base handed (settle_event rules (Forward command body) y)
 dial-step rules c n k base handed y command body never own =
     let l = log rules y.events in
@@ -79,8 +93,10 @@ dial-step rules c n k base handed y command body never own =
     record {
       known = known-by k (asked l) fx.dial own.known;
       next = next-by n k y.dials (asked l) fx.dial own.known own.next;
-      dial_is = dial-by y.dials c fx.dial fx.cut (newest (λ entry. hop_by entry.event entry.effects) l) handed (base ++ numbered n c (drop k (asked l))) y.circuit.dial (never y.dials (omega (arith, own.next))) own.dial_is
-          ∙ ap (open_by (next_hop (entry_after rules l (Forward command body) ∷ l)) handed) (dials-by n c base k (asked l) y.dials fx.dial own.known own.next);
+      dial_is = dial-by y.dials c fx.dial fx.cut (newest (λ entry. hop_by entry.event entry.effects) l) handed
+          (base ++ numbered n c (drop k (asked l))) y.circuit.dial (never y.dials (omega (arith, own.next))) own.dial_is
+          ∙ ap (open_by (next_hop (entry_after rules l (Forward command body) ∷ l)) handed)
+          (dials-by n c base k (asked l) y.dials fx.dial own.known own.next);
     }
 
 -- what the history says of the circuit's dial orders behind the events
@@ -90,7 +106,8 @@ length-numbered m c (to ∷ more) = ap suc (length-numbered (m + 1) c more)
 
 -- before the batch
 pub dial-before : (rules : Rules) (c : ℕ) (made : List Dial) (handed : ℕ → Bool) (y : Settling) → y.dials ≡ length made →
-    y.circuit.dial ≡ open_by (next_hop (log rules y.events)) handed (filter (is_from c) made) → HasDial rules c (length made) (length (asked (log rules y.events))) (filter (is_from c) made) handed y
+    y.circuit.dial ≡ open_by (next_hop (log rules y.events)) handed (filter (is_from c) made)
+    → HasDial rules c (length made) (length (asked (log rules y.events))) (filter (is_from c) made) handed y
 dial-before rules c made handed y same dial =
     let none = drop-length (asked (log rules y.events)) in
     record {
@@ -100,8 +117,14 @@ dial-before rules c made handed y same dial =
     }
 
 -- and behind it
-pub dials-after_are : (c k : ℕ) (made : List Dial) (l : Log) → filter (is_from c) (made ++ numbered (length made) c (drop k (asked l))) ≡ filter (is_from c) made ++ numbered (length made) c (drop k (asked l))
-dials-after_are c k made l = filter-append (is_from c) made _ ∙ ap (λ d. filter (is_from c) made ++ d) (from-numbered (length made) c (drop k (asked l)))
+pub dials-after_are : (c k : ℕ) (made : List Dial) (l : Log)
+    → filter (is_from c) (made ++ numbered (length made) c (drop k (asked l))) ≡ filter (is_from c) made
+    ++ numbered (length made) c (drop k (asked l))
+dials-after_are c k made l =
+    filter-append (is_from c) made _ ∙ ap (λ d. filter (is_from c) made ++ d) (from-numbered (length made) c (drop k (asked l)))
 
-pub dials-counted : (c k n : ℕ) (made : List Dial) (l : Log) → n ≡ length made + length (drop k (asked l)) → n ≡ length (made ++ numbered (length made) c (drop k (asked l)))
-dials-counted c k n made l next = next ∙ sym (length-append made (numbered (length made) c (drop k (asked l))) ∙ ap (λ m. length made + m) (length-numbered (length made) c (drop k (asked l))))
+pub dials-counted : (c k n : ℕ) (made : List Dial) (l : Log) → n ≡ length made + length (drop k (asked l))
+    → n ≡ length (made ++ numbered (length made) c (drop k (asked l)))
+dials-counted c k n made l next =
+    next ∙ sym (length-append made (numbered (length made) c (drop k (asked l)))
+    ∙ ap (λ m. length made + m) (length-numbered (length made) c (drop k (asked l))))

@@ -36,23 +36,30 @@ picked-more : (f : Order → List Order) (xs : List Order) (o : Order) → picke
 picked-more f [] o = append-nil (f o)
 picked-more f (x ∷ xs) o = ap (λ l. f x ++ l) (picked-more f xs o) ∙ sym (append_assoc (f x) (picked f xs) (f o))
 
-picked-if : (f : Order → List Order) (all : List Order) (o : Order) (b : Bool) → picked f all ++ (if b then f o else []) ≡ picked f (pushed all (if b then Some o else None))
+picked-if : (f : Order → List Order) (all : List Order) (o : Order) (b : Bool)
+    → picked f all ++ (if b then f o else []) ≡ picked f (pushed all (if b then Some o else None))
 picked-if f all o true = sym (picked-more f all o)
 picked-if f all o false = append-nil (picked f all)
 
 -- one more order keeps what each place has of a kind
-orders-push : (f : Order → List Order) → IsKind f → (serial : ℕ) (xs all : List Order) (o : Option Order) → filter (is_for serial) xs ≡ picked f all → filter (is_for serial) (pushed_of f xs o) ≡ picked f (pushed all (order_for serial o))
+orders-push : (f : Order → List Order) → IsKind f → (serial : ℕ) (xs all : List Order) (o : Option Order)
+    → filter (is_for serial) xs ≡ picked f all
+    → filter (is_for serial) (pushed_of f xs o) ≡ picked f (pushed all (order_for serial o))
 orders-push f kind serial xs all None same = same
 orders-push f kind serial xs all (Some o) same =
-    filter-append (is_for serial) xs (f o) ∙ ap (λ l. filter (is_for serial) xs ++ l) (kind serial o) ∙ ap (λ l. l ++ (if serial_of o == serial then f o else [])) same ∙ picked-if f all o (serial_of o == serial)
+    filter-append (is_for serial) xs (f o) ∙ ap (λ l. filter (is_for serial) xs ++ l) (kind serial o)
+    ∙ ap (λ l. l ++ (if serial_of o == serial then f o else [])) same ∙ picked-if f all o (serial_of o == serial)
 
-orders-step : (f : Order → List Order) → IsKind f → (serial : ℕ) (xs : List Order) (l : Log) (entry : Entry) → filter (is_for serial) xs ≡ picked f (orders_of l serial) →
+orders-step : (f : Order → List Order) → IsKind f → (serial : ℕ) (xs : List Order) (l : Log) (entry : Entry)
+    → filter (is_for serial) xs ≡ picked f (orders_of l serial) →
     filter (is_for serial) (pushed_of f xs entry.effects.edge) ≡ picked f (orders_of (entry ∷ l) serial)
 orders-step f kind serial xs l entry same = orders-push f kind serial xs (orders_of l serial) entry.effects.edge same
 
 -- all three kinds, behind an event with any effects
-pub orders-more : (y : Settling) (l : Log) (entry : Entry) → OrdersStand y.circuit.reach_orders y.circuit.carry_orders y.circuit.close_orders l →
-    OrdersStand (settle_entry l entry y).circuit.reach_orders (settle_entry l entry y).circuit.carry_orders (settle_entry l entry y).circuit.close_orders (entry ∷ l)
+pub orders-more : (y : Settling) (l : Log) (entry : Entry)
+    → OrdersStand y.circuit.reach_orders y.circuit.carry_orders y.circuit.close_orders l →
+    OrdersStand (settle_entry l entry y).circuit.reach_orders (settle_entry l entry y).circuit.carry_orders
+    (settle_entry l entry y).circuit.close_orders (entry ∷ l)
 orders-more y l entry own = record {
   reach_orders = λ serial. orders-step reach_of reach-kind serial y.circuit.reach_orders l entry (own.reach_orders serial);
   carry_orders = λ serial. orders-step carry_of carry-kind serial y.circuit.carry_orders l entry (own.carry_orders serial);

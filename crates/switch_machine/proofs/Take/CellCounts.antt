@@ -24,7 +24,8 @@ use Rattle.switch_machine.specs.State.{CircuitState, KeptClaim, LegState, State,
 use Rattle.switch_machine.proofs.OneWay.{length-given}
 use Rattle.switch_machine.proofs.Waiting.{queue-said, queue_of}
 
-forward-one : (event : Event) (n : ℕ) (xs : List CircuitCell) → n ≡ length xs → (if is_forward event then n + 1 else n) ≡ length (pushed xs (forward_cell event))
+forward-one : (event : Event) (n : ℕ) (xs : List CircuitCell) → n ≡ length xs
+    → (if is_forward event then n + 1 else n) ≡ length (pushed xs (forward_cell event))
 forward-one (Forward command body) n xs same = rw same (sym (length-append xs _))
 forward-one (Born reply keys pad) n xs same = same
 forward-one (Backward body) n xs same = same
@@ -49,19 +50,28 @@ pub kept-count : (k : Option KeptClaim) → kept_length k ≡ length (kept_cells
 kept-count None = refl
 kept-count (Some k) = refl
 
-hops-count : (start : SwitchStart) (s : State) (h : List Step) (c : ℕ) (x : CircuitState) → Stands start s h → slot_at s.circuits c ≡ Some x → (n : ℕ) → queued_on_hops x n ≡ queued_forth start.rules h c n
+hops-count : (start : SwitchStart) (s : State) (h : List Step) (c : ℕ) (x : CircuitState) → Stands start s h
+    → slot_at s.circuits c ≡ Some x → (n : ℕ) → queued_on_hops x n ≡ queued_forth start.rules h c n
 hops-count start s h c x st found zero = refl
 hops-count start s h c x st found (suc k) =
-    let same : queue_length (slot_at x.legs (suc k)) ≡ length (queue start.rules h c (suc k)) = queue-count (slot_at x.legs (suc k)) ∙ ap length (sym (queue-said start s h st c (suc k) ∙ ap (λ y. queue_of (leg_at y (suc k))) found)) in
+    let same : queue_length (slot_at x.legs (suc k)) ≡ length (queue start.rules h c (suc k)) =
+    queue-count (slot_at x.legs (suc k))
+    ∙ ap length (sym (queue-said start s h st c (suc k) ∙ ap (λ y. queue_of (leg_at y (suc k))) found)) in
     rw (hops-count start s h c x st found k, same) refl
 
-pub held-said : (start : SwitchStart) (s : State) (h : List Step) (c : ℕ) (x : CircuitState) → Stands start s h → slot_at s.circuits c ≡ Some x → CircuitStands start.rules s.last_closes x c (past start.rules h c) (λ j. holds_id h c j) (edge_past start.rules h c) →
+pub held-said : (start : SwitchStart) (s : State) (h : List Step) (c : ℕ) (x : CircuitState) → Stands start s h
+    → slot_at s.circuits c ≡ Some x
+    → CircuitStands start.rules s.last_closes x c (past start.rules h c) (λ j. holds_id h c j) (edge_past start.rules h c) →
     (d : Dir) → held_by start.rules (events start.rules h c) x d ≡ held_count start.rules h c d
 held-said start s h c x st found own Back = rw own.sent_count refl
 held-said start s h c x st found own Forth =
-    let given = length-given (settled_forth (circuit_log start.rules h c)) (kept_cells x.forth.claim_out) (taken_forth h c) x.forth.waiting_bodies own.forth.cells in
+    let given =
+    length-given (settled_forth (circuit_log start.rules h c)) (kept_cells x.forth.claim_out) (taken_forth h c)
+    x.forth.waiting_bodies own.forth.cells in
     let count = forward-count (circuit_log start.rules h c) in
     let last : length x.legs - 1 ≡ hops h c = omega (arith, own.hops) in
-    let legs : queued_on_hops x (length x.legs - 1) ≡ queued_forth start.rules h c (hops h c) = ap (queued_on_hops x) last ∙ hops-count start s h c x st found (hops h c) in
-    let home : kept_length x.forth.claim_out + length x.forth.waiting_bodies ≡ length (taken_forth h c) - forward_count (circuit_log start.rules h c) = omega (arith, given, count, kept-count x.forth.claim_out) in
+    let legs : queued_on_hops x (length x.legs - 1) ≡ queued_forth start.rules h c (hops h c) =
+    ap (queued_on_hops x) last ∙ hops-count start s h c x st found (hops h c) in
+    let home : kept_length x.forth.claim_out + length x.forth.waiting_bodies ≡ length (taken_forth h c) - forward_count
+    (circuit_log start.rules h c) = omega (arith, given, count, kept-count x.forth.claim_out) in
     omega (arith, legs, home)

@@ -27,26 +27,34 @@ if-same true ev = refl
 if-same false ev = refl
 
 -- a cell that is passed over is no event
-pub events-passed : (rules : Rules) (h : List Step) (chan : ℕ) (cell : Cell) (why : Why) (d : ℕ) → events rules (Take (chan_no chan) cell (PassedOver why) ∷ h) d ≡ events rules h d
+pub events-passed : (rules : Rules) (h : List Step) (chan : ℕ) (cell : Cell) (why : Why) (d : ℕ)
+    → events rules (Take (chan_no chan) cell (PassedOver why) ∷ h) d ≡ events rules h d
 events-passed rules h chan cell why d = if-same (is_hop_leg d (at h chan cell.circ)) (events rules h d)
 
 -- nor is one on leg 0
-pub events-first : (rules : Rules) (h : List Step) (chan : ℕ) (cell : Cell) (a : TakeAnswer) (c d : ℕ) → at h chan cell.circ ≡ Some (record { circ = c; number = 0 }) →
+pub events-first : (rules : Rules) (h : List Step) (chan : ℕ) (cell : Cell) (a : TakeAnswer) (c d : ℕ)
+    → at h chan cell.circ ≡ Some (record { circ = c; number = 0 }) →
     events rules (Take (chan_no chan) cell a ∷ h) d ≡ events rules h d
 events-first rules h chan cell a c d here = rw (here, and-false (c == d)) refl
 
 -- no new bodies
 
-new-at : (rules : Rules) (h after : List Step) (o : Option ℕ) (all : List Way) → ((c : ℕ) → events rules after c ≡ events rules h c) → ((c : ℕ) → taken_forth after c ≡ taken_forth h c) →
+new-at : (rules : Rules) (h after : List Step) (o : Option ℕ) (all : List Way)
+    → ((c : ℕ) → events rules after c ≡ events rules h c) → ((c : ℕ) → taken_forth after c ≡ taken_forth h c) →
     new_at rules h after o ++ all ≡ all
 new-at rules h after None all same_events same_forth = refl
 new-at rules h after (Some c) all same_events same_forth =
-    all-new _ _ all [] (new-none (record { circ = c; dir = Back }) _ _ (ap (λ ev. length (back_bodies (log rules ev))) (same_events c)))
+    all-new _ _ all []
+    (new-none (record { circ = c; dir = Back }) _ _ (ap (λ ev. length (back_bodies (log rules ev))) (same_events c)))
     (new-none (record { circ = c; dir = Forth }) _ _ (ap (λ (l : List CircuitCell). length l) (same_forth c)))
 
-pub born-same : (rules : Rules) (h : List Step) (chan : ℕ) (cell : Cell) (a : TakeAnswer) → ((c : ℕ) → events rules (Take (chan_no chan) cell a ∷ h) c ≡ events rules h c) →
-    ((c : ℕ) → taken_forth (Take (chan_no chan) cell a ∷ h) c ≡ taken_forth h c) → born_bodies rules (Take (chan_no chan) cell a ∷ h) ≡ born_bodies rules h
-born-same rules h chan cell a same_events same_forth = new-at rules h (Take (chan_no chan) cell a ∷ h) (circuit_at (at h chan cell.circ)) (born_bodies rules h) same_events same_forth
+pub born-same : (rules : Rules) (h : List Step) (chan : ℕ) (cell : Cell) (a : TakeAnswer)
+    → ((c : ℕ) → events rules (Take (chan_no chan) cell a ∷ h) c ≡ events rules h c) →
+    ((c : ℕ) → taken_forth (Take (chan_no chan) cell a ∷ h) c ≡ taken_forth h c)
+    → born_bodies rules (Take (chan_no chan) cell a ∷ h) ≡ born_bodies rules h
+born-same rules h chan cell a same_events same_forth =
+    new-at rules h (Take (chan_no chan) cell a ∷ h) (circuit_at (at h chan cell.circ)) (born_bodies rules h) same_events
+    same_forth
 
 -- what the edge sees of a circuit follows from its events and the body numbers
 
@@ -57,8 +65,11 @@ edge_past_of rules h d ev born = record (edge_past rules h d) {
   numbers = λ dir. numbers_of (record { circ = d; dir = dir }) born;
 }
 
-pub edge-taken : (rules : Rules) (h : List Step) (chan : ℕ) (cell : Cell) (a : TakeAnswer) (d : ℕ) → events rules (Take (chan_no chan) cell a ∷ h) d ≡ events rules h d →
-    ◌≡◌ {A = Dir → List ℕ} (λ dir. numbers_of (record { circ = d; dir = dir }) (born_bodies rules (Take (chan_no chan) cell a ∷ h))) (λ dir. numbers_of (record { circ = d; dir = dir }) (born_bodies rules h)) →
+pub edge-taken : (rules : Rules) (h : List Step) (chan : ℕ) (cell : Cell) (a : TakeAnswer) (d : ℕ)
+    → events rules (Take (chan_no chan) cell a ∷ h) d ≡ events rules h d →
+    ◌≡◌ {A = Dir → List ℕ}
+    (λ dir. numbers_of (record { circ = d; dir = dir }) (born_bodies rules (Take (chan_no chan) cell a ∷ h)))
+    (λ dir. numbers_of (record { circ = d; dir = dir }) (born_bodies rules h)) →
     edge_past rules (Take (chan_no chan) cell a ∷ h) d ≡ edge_past rules h d
 edge-taken rules h chan cell a d same_events same_numbers =
     ap (λ ev. edge_past_of rules h d ev (born_bodies rules (Take (chan_no chan) cell a ∷ h))) same_events

@@ -25,13 +25,15 @@ queued-steps : (rules : Rules) (ev : List Event) (s : State) (leg : Leg) (cell :
 queued-steps rules ev s leg cell x true = refl
 queued-steps rules ev s leg cell x false = refl
 
-leg-steps : (rules : Rules) (ev : List Event) (s : State) (leg : Leg) (cell : CircuitCell) (x : CircuitState) (a : TakeAnswer) → (leg_state rules ev s leg cell x a).steps ≡ s.steps + 1
+leg-steps : (rules : Rules) (ev : List Event) (s : State) (leg : Leg) (cell : CircuitCell) (x : CircuitState) (a : TakeAnswer)
+    → (leg_state rules ev s leg cell x a).steps ≡ s.steps + 1
 leg-steps rules ev s leg cell x Queued = queued-steps rules ev s leg cell x (is_hop leg.number)
 leg-steps rules ev s leg cell x (Down circ reason) = refl
 leg-steps rules ev s leg cell x (PassedOver why) = refl
 leg-steps rules ev s leg cell x TakeAnswer.Memory = refl
 
-circuit-steps : (rules : Rules) (ev : ℕ → List Event) (s : State) (leg : Leg) (cell : CircuitCell) (x : Option CircuitState) (a : TakeAnswer) → (circuit_state rules ev s leg cell x a).steps ≡ s.steps + 1
+circuit-steps : (rules : Rules) (ev : ℕ → List Event) (s : State) (leg : Leg) (cell : CircuitCell) (x : Option CircuitState)
+    (a : TakeAnswer) → (circuit_state rules ev s leg cell x a).steps ≡ s.steps + 1
 circuit-steps rules ev s leg cell (Some x) a = leg-steps rules (ev leg.circ) s leg cell x a
 circuit-steps rules ev s leg cell None a = refl
 
@@ -43,15 +45,19 @@ lane-steps : (s : State) (chan : ℕ) (cell : Cell) (x : Option ChannelState) �
 lane-steps s chan cell (Some x) = if-steps (is_destroy cell.command) _ (counted s) (s.steps + 1) refl refl
 lane-steps s chan cell None = refl
 
-found-steps : (rules : Rules) (ev : ℕ → List Event) (s : State) (chan : ℕ) (cell : Cell) (o : Option Leg) (a : TakeAnswer) → (found_state rules ev s chan cell o a).steps ≡ s.steps + 1
+found-steps : (rules : Rules) (ev : ℕ → List Event) (s : State) (chan : ℕ) (cell : Cell) (o : Option Leg) (a : TakeAnswer)
+    → (found_state rules ev s chan cell o a).steps ≡ s.steps + 1
 found-steps rules ev s chan cell (Some leg) a = circuit-steps rules ev s leg (circuit_cell cell) (slot_at s.circuits leg.circ) a
 found-steps rules ev s chan cell None a = lane-steps s chan cell (slot_at s.channels chan)
 
-take-steps : (rules : Rules) (ev : ℕ → List Event) (s : State) (chan : ℕ) (cell : Cell) → (take_state rules ev s chan cell).steps ≡ s.steps + 1
+take-steps : (rules : Rules) (ev : ℕ → List Event) (s : State) (chan : ℕ) (cell : Cell)
+    → (take_state rules ev s chan cell).steps ≡ s.steps + 1
 take-steps rules ev s chan cell =
-    if-steps (is_some (slot_at s.channels chan) && is_for_circuit cell.command) _ (counted s) (s.steps + 1) (found-steps rules ev s chan cell (found_leg s chan cell.circ) (take_result rules ev s chan cell)) refl
+    if-steps (is_some (slot_at s.channels chan) && is_for_circuit cell.command) _ (counted s) (s.steps + 1)
+    (found-steps rules ev s chan cell (found_leg s chan cell.circ) (take_result rules ev s chan cell)) refl
 
-pub take_adds : (start : SwitchStart) (h : List Step) (old new : State) (chan : ChanNo) (cell : Cell) (a : TakeAnswer) → IsWellFormed cell → new ≡ take_state start.rules (events start.rules h) old chan.0 cell →
+pub take_adds : (start : SwitchStart) (h : List Step) (old new : State) (chan : ChanNo) (cell : Cell) (a : TakeAnswer)
+    → IsWellFormed cell → new ≡ take_state start.rules (events start.rules h) old chan.0 cell →
     a ≡ take_result start.rules (events start.rules h) old chan.0 cell → AddsTo start h old new (Take chan cell a)
 unfolding AddsTo
 take_adds start h old new chan cell a formed e f = rw (e, f) (record {

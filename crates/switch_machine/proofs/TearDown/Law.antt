@@ -19,11 +19,13 @@ use Rattle.tr_io.specs.declared.names.CircNo.{CircNo}
 use Rattle.tr_io.specs.declared.step.Step.{Step}
 use Rattle.tr_io.specs.declared.step.Step.TheVariants.{TearDown}
 
-steps-by : (rules : Rules) (ev : List Event) (s : State) (c reason : ℕ) (x : Option CircuitState) → (tear_down_state_of rules ev s c reason x).steps ≡ s.steps + 1
+steps-by : (rules : Rules) (ev : List Event) (s : State) (c reason : ℕ) (x : Option CircuitState)
+    → (tear_down_state_of rules ev s c reason x).steps ≡ s.steps + 1
 steps-by rules ev s c reason None = refl
 steps-by rules ev s c reason (Some x) = refl
 
-pub tear_down_adds : (start : SwitchStart) (h : List Step) (old new : State) (circ : CircNo) (reason : ℕ) (a : BackAnswer) → new ≡ tear_down_state start.rules (events start.rules h) old circ.0 reason → a ≡ tear_down_result old circ.0 reason →
+pub tear_down_adds : (start : SwitchStart) (h : List Step) (old new : State) (circ : CircNo) (reason : ℕ) (a : BackAnswer)
+    → new ≡ tear_down_state start.rules (events start.rules h) old circ.0 reason → a ≡ tear_down_result old circ.0 reason →
     AddsTo start h old new (TearDown circ reason a)
 unfolding AddsTo
 tear_down_adds start h old new circ reason a e f = rw (e, f) (record {
@@ -31,10 +33,12 @@ tear_down_adds start h old new circ reason a e f = rw (e, f) (record {
   stands = λ st. tear_down_kept start old h circ.0 reason st;
 })
 
-said-by : (start : SwitchStart) (s : State) (h : List Step) (c reason : ℕ) (x : Option CircuitState) → CircuitAt start.rules s.last_closes x c (past start.rules h c) (λ k. holds_id h c k) (edge_past start.rules h c) →
+said-by : (start : SwitchStart) (s : State) (h : List Step) (c reason : ℕ) (x : Option CircuitState)
+    → CircuitAt start.rules s.last_closes x c (past start.rules h c) (λ k. holds_id h c k) (edge_past start.rules h c) →
     tear_down_result_of x reason ≡ tear_down_answer start.rules h c reason
 said-by start s h c reason None gone = rw gone.live refl
 said-by start s h c reason (Some x) own = rw own.live refl
 
-pub tear_down_said : (start : SwitchStart) (s : State) (h : List Step) (c reason : ℕ) → Stands start s h → tear_down_result s c reason ≡ tear_down_answer start.rules h c reason
+pub tear_down_said : (start : SwitchStart) (s : State) (h : List Step) (c reason : ℕ) → Stands start s h
+    → tear_down_result s c reason ≡ tear_down_answer start.rules h c reason
 tear_down_said start s h c reason st = said-by start s h c reason (slot_at s.circuits c) (st.circuits.circuit c)

@@ -86,7 +86,8 @@ first_kept None = 0
 
 abbrev pub sealed_circuit : Rules → List Event → CircuitState → CircuitState
 sealed_circuit rules ev x = record x {
-  legs = queued_on x.legs 0 (sealed_cells (born_keys (log rules ev)).kb (first_kept x.back.claim_out) (kept_cells x.back.claim_out));
+  legs = queued_on x.legs 0
+      (sealed_cells (born_keys (log rules ev)).kb (first_kept x.back.claim_out) (kept_cells x.back.claim_out));
   back = home_way x.back;
 }
 
@@ -113,4 +114,5 @@ give_back_state_of rules ev s note circuit answer = counted s
 
 abbrev pub give_back_state : ℕ → Rules → (ℕ → List Event) → State → ClaimNote → Option ℕ → State
 give_back_state name rules ev s note place =
-    give_back_state_of rules (ev note.circ.0) s note (slot_at s.circuits note.circ.0) (give_back_result name rules ev s note place)
+    give_back_state_of rules (ev note.circ.0) s note (slot_at s.circuits note.circ.0)
+    (give_back_result name rules ev s note place)

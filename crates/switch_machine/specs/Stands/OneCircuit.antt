@@ -55,7 +55,8 @@ abbrev pub left_at : List Ordered → ℕ → ℕ → List Order
 left_at closes c serial = map (λ ordered. ordered.order) (filter (is_at c serial) closes)
 
 -- A live circuit.
-pub record CircuitStands (rules : Rules) (closes : List Ordered) (x : CircuitState) (c : ℕ) (p : Past) (has_id : ℕ → Bool) (e : EdgePast) : Type 0 where
+pub record CircuitStands (rules : Rules) (closes : List Ordered) (x : CircuitState) (c : ℕ) (p : Past) (has_id : ℕ → Bool)
+    (e : EdgePast) : Type 0 where
   pub live : p.live ≡ true
   pub sent_count : x.sent_count ≡ length (p.sent 0)
   -- the relay: it was opened, no more bodies are sealed than went back, and its legs are those of the switch
@@ -65,7 +66,8 @@ pub record CircuitStands (rules : Rules) (closes : List Ordered) (x : CircuitSta
   pub hops : length x.legs ≡ p.hops + 1
   pub legs : (k : ℕ) → LegAt rules (slot_at x.legs k) k p (has_id k)
   pub forth :
-      WayStands c Forth x.forth (settled_forth (log rules p.events)) p.taken_forth (p.claimed_count Forth) (p.claim_out Forth) (e.numbers Forth)
+      WayStands c Forth x.forth (settled_forth (log rules p.events)) p.taken_forth (p.claimed_count Forth) (p.claim_out Forth)
+      (e.numbers Forth)
   pub back :
       WayStands c Back x.back (take p.sealed_count (relay_cells (back_bodies (log rules p.events))))
       (relay_cells (back_bodies (log rules p.events))) (p.claimed_count Back) (p.claim_out Back) (e.numbers Back)

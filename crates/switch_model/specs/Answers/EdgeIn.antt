@@ -44,7 +44,8 @@ packed rules h c =
 -- Data of a place, where both windows and the direction allow it.
 abbrev pub data_answer : Rules → List Step → StreamKey → Log → EdgeAnswer
 data_answer rules h key log =
-    if nat_le (stream_grant log key.serial) (stream_packaged log key.serial) then Shut ShutWhy.Stream (stream_packaged log key.serial)
+    if nat_le (stream_grant log key.serial) (stream_packaged log key.serial)
+    then Shut ShutWhy.Stream (stream_packaged log key.serial)
     else if nat_le (circuit_grant rules log) (circuit_packaged log) then Shut ShutWhy.Circuit (circuit_packaged log)
     else if is_full rules h key.circ.0 Back then Shut ShutWhy.Held held_limit
     else Packed

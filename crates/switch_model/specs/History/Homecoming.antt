@@ -26,7 +26,8 @@ pub record AddsNext (rules : Rules) (h : List Step) (note : ClaimNote) (place : 
   pub all : answer ≡ Settled → unsettled_cells ≡ []
   pub count : length (claimed_cells h note) ≡ note.count
   pub next : settled_forth (circuit_log rules h note.circ.0) ++ claimed_cells h note ++ rest ≡ taken_forth h note.circ.0
-  pub events : events rules (GiveBack note place answer ∷ h) note.circ.0 ≡ events_behind (events rules h note.circ.0) settling_cells
+  pub events : events rules (GiveBack note place answer ∷ h) note.circ.0 ≡ events_behind (events rules h note.circ.0)
+      settling_cells
 
 -- Back: the claim has the next bodies that went back, and they are sealed now.
 pub record SealsNext (rules : Rules) (h : List Step) (note : ClaimNote) (place : Option ℕ) : Type 0 where

@@ -66,7 +66,8 @@ pub record DiffersAt (i : ℕ) (given_bodies returned_bodies : List (List ℕ)) 
 abbrev pub IsFirstDifference : {A : Type 0} → A → A → List (List ℕ) → List (List ℕ) → Option ℕ → Type 0
 IsFirstDifference start other given_bodies returned_bodies None = (other ≡ start) × (returned_bodies ≡ given_bodies)
 IsFirstDifference start other given_bodies returned_bodies (Some zero) = other ≡ start → ⊥
-IsFirstDifference start other given_bodies returned_bodies (Some (suc i)) = (other ≡ start) × DiffersAt i given_bodies returned_bodies
+IsFirstDifference start other given_bodies returned_bodies (Some (suc i)) =
+    (other ≡ start) × DiffersAt i given_bodies returned_bodies
 
 -- How many bodies of a direction have room for all that their return can need: those of the claim that is
 -- out. The room was made at the claim, so the return takes no memory.

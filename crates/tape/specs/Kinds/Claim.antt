@@ -30,7 +30,8 @@ dir_byte Back = 1
 -- A job's note: claim number (8 bytes), circuit (8), direction (1), the number of the first body (8), how many (4).
 abbrev pub note_bytes : ClaimNote → List ℕ
 note_bytes note =
-    to_be_bytes w64 note.claim ++ (to_be_bytes w64 note.circ.0 ++ (dir_byte note.dir ∷ (to_be_bytes w64 note.first ++ to_be_bytes w32 note.count)))
+    to_be_bytes w64 note.claim
+    ++ (to_be_bytes w64 note.circ.0 ++ (dir_byte note.dir ∷ (to_be_bytes w64 note.first ++ to_be_bytes w32 note.count)))
 
 -- 00 and the note of the job, or 01 where no direction is ready.
 abbrev pub claim_bytes : Option ClaimNote → List ℕ

@@ -17,7 +17,8 @@ NextCellFits chan tick = (chan < 2 ^ 64) × (tick < 2 ^ 64)
 unfoldable pub next_cell_front : List ℕ → FrontOf
 next_cell_front fields =
     if nat_lt (length fields) 16 then less
-    else record_and (NextCell (record { 0 = from_be_bytes w64 (field 0 8 fields) }) (from_be_bytes w64 (field 8 8 fields))) (drop 16 fields)
+    else record_and (NextCell (record { 0 = from_be_bytes w64 (field 0 8 fields) }) (from_be_bytes w64 (field 8 8 fields)))
+    (drop 16 fields)
 
 -- 01 and the cell's bytes, or 00.
 abbrev pub next_bytes : Option Cell → List ℕ

@@ -35,11 +35,14 @@ pad_bytes (Some pad) = pad
 -- command (1), the payload (509).
 abbrev pub open_circuit_spelling : ℕ → List ℕ → Option (List ℕ) → CircuitRequest → List ℕ
 open_circuit_spelling chan y pad request =
-    opening_kind pad ∷ (to_be_bytes w64 chan ++ (y ++ (pad_bytes pad ++ (to_be_bytes w32 request.id ++ command_byte request.command ∷ request.payload))))
+    opening_kind pad
+    ∷ (to_be_bytes w64 chan
+    ++ (y ++ (pad_bytes pad ++ (to_be_bytes w32 request.id ++ command_byte request.command ∷ request.payload))))
 
 abbrev pub OpenCircuitFits : ℕ → List ℕ → Option (List ℕ) → CircuitRequest → Type 0
 OpenCircuitFits chan y pad request =
-    (chan < 2 ^ 64) × (length y ≡ 20) × IfSome pad (λ bytes. length bytes ≡ 16) × (request.id < 2 ^ 32) × (length request.payload ≡ 509)
+    (chan < 2 ^ 64) × (length y ≡ 20) × IfSome pad (λ bytes. length bytes ≡ 16) × (request.id < 2 ^ 32)
+    × (length request.payload ≡ 509)
 
 -- The command that asks for a circuit, by its byte.
 abbrev pub command_of : ℕ → Option CreateCommand

@@ -10,7 +10,8 @@ returns-then-i-ne0 c = sym (word_change_plain c.args.i _ (omega arith))
 
 pub returns : goal.returns
 returns c =
-    let turned : to_le_bytes w32 c.from_le_bytes-turned.result ≡ sub_bytes (rot_word (to_le_bytes w32 c.args.before)) = search rules in
+    let turned : to_le_bytes w32 c.from_le_bytes-turned.result ≡ sub_bytes (rot_word (to_le_bytes w32 c.args.before)) =
+    search rules in
     to_le_bytes-xor c.from_le_bytes-turned.result c.from.result
     ∙ same_two add _ _ _ _ turned
     (ap (λ (n : ℕ). to_le_bytes w32 n) (search rules) ∙ to_le_bytes-byte c.round_constant.result (search rules)

@@ -7,7 +7,8 @@ use Rattle.aes_block.proofs.state.last_column.Goals as goal
 
 pub returns : goal.returns
 returns c =
-    let read : to_le_bytes w32 c.from_le_bytes.result ≡ c.sub_byte.result ∷ c.sub_byte-2.result ∷ c.sub_byte-3.result ∷ c.sub_byte-4.result ∷ [] = search rules in
+    let read : to_le_bytes w32 c.from_le_bytes.result ≡ c.sub_byte.result ∷ c.sub_byte-2.result ∷ c.sub_byte-3.result
+    ∷ c.sub_byte-4.result ∷ [] = search rules in
     to_le_bytes-xor c.from_le_bytes.result c.args.key
     ∙ ap (λ (x : List ℕ). add x (to_le_bytes w32 c.args.key)) (read
     ∙ same_four (λ (p q r s : ℕ). p ∷ q ∷ r ∷ s ∷ []) _ _ _ _ _ _ _ _

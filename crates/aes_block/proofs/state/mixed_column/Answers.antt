@@ -8,7 +8,8 @@ use Rattle.aes_block.proofs.state.mixed_column.Goals as goal
 pub returns : goal.returns
 returns c =
     mixed c.mix_row_zero.result c.mix_row_one.result c.mix_row_two.result c.mix_row_three.result c.args.key
-    (sub_byte (c.args.a % 256)) (sub_byte (c.args.b / 256 % 256)) (sub_byte (c.args.c / 65536 % 256)) (sub_byte (c.args.d / 16777216 % 256))
+    (sub_byte (c.args.a % 256)) (sub_byte (c.args.b / 256 % 256)) (sub_byte (c.args.c / 65536 % 256))
+    (sub_byte (c.args.d / 16777216 % 256))
     (c.mix_row_zero.ensures ∙ ap (λ (n : ℕ). first_column (sub_byte n)) (and_mask c.args.a 8))
     (c.mix_row_one.ensures ∙ ap (λ (n : ℕ). second_column (sub_byte n)) (and_mask (c.args.b / 256) 8))
     (c.mix_row_two.ensures ∙ ap (λ (n : ℕ). third_column (sub_byte n)) (and_mask (c.args.c / 65536) 8))

@@ -22,5 +22,6 @@ loop-k-preserved c =
     let P : ℕ → Type 0 = λ m. take m (put_mid at (at + 16 - at) c.loop-k.pad block) ≡ keystream_part key (16 * c.args.first) m in
     record {
       long = length-block_put c.loop-k.pad block at _ (omega arith) sixteen inside ∙ c.loop-k.invariant.long;
-      made = subst P next (take-block_put key c.loop-k.pad block c.args.first n at _ (omega arith) sixteen inside c.loop-k.invariant.made made);
+      made = subst P next
+          (take-block_put key c.loop-k.pad block c.args.first n at _ (omega arith) sixteen inside c.loop-k.invariant.made made);
     }

@@ -10,7 +10,8 @@ loop-n-preserved c =
     let group = c.copy_from_slice-in-loop-n.new.self in
     let i = c.loop-n.invariant in
     let count : 128 * n + by + 128 - (128 * n + by) ≡ 128 = omega arith in
-    let taken = c.copy_from_slice-in-loop-n.ensures.after ∙ c.copy_from_slice.ensures.after ∙ ap (λ (m : ℕ). take m (drop (128 * n + by) store)) count in
+    let taken = c.copy_from_slice-in-loop-n.ensures.after ∙ c.copy_from_slice.ensures.after
+    ∙ ap (λ (m : ℕ). take m (drop (128 * n + by) store)) count in
     let long : length group ≡ 128 = ap length c.copy_from_slice-in-loop-n.ensures.after ∙ c.copy_from_slice.ensures.len in
     let fits : 128 * n + 128 + by ≤ 1152 = omega (arith, c.loop-n-test.true, c.requires.groups, c.requires.within) in
     record {

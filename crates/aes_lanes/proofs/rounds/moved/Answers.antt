@@ -15,7 +15,8 @@ returns c = λ b s l e. record {
       let from = moved_to i in
       let inside = moved_to-lt i h in
       let lane = shifted_lane (lane_of i) in
-      let here : IsByte x lane b (get_or s from 0) = subst (λ (n : ℕ). IsByte x n b (get_or s from 0)) (lane_moved_to i h) (e.bytes from inside) in
+      let here : IsByte x lane b (get_or s from 0) =
+      subst (λ (n : ℕ). IsByte x n b (get_or s from 0)) (lane_moved_to i h) (e.bytes from inside) in
       subst (λ (v : ℕ). IsByte c.substituted.result (lane_of i) b v)
       (masked_at (moved s) i h (moved_at s i e.long h))
       (c.substituted.ensures (lane_of i) b _ (lane_of-lt i h) l (e.small from inside)

@@ -13,10 +13,12 @@ loop-cell-preserved c =
     let step = later_reading-some _ _ e in
     record {
       cells =
-          collects wire_cell _ _ _ _ _ _ c.in_ok-push.ensures.ok c.in_ok-read_cell.ensures.cell (rw step at c.loop-cell.invariant.cells);
+          collects wire_cell _ _ _ _ _ _ c.in_ok-push.ensures.ok c.in_ok-read_cell.ensures.cell
+          (rw step at c.loop-cell.invariant.cells);
       left = sym (ap (λ r. r.left) step) ∙ c.loop-cell.invariant.left;
       well_formed =
-          λ h. rw c.in_ok-push.ensures.ok (All-push IsWellFormed _ _ (c.loop-cell.invariant.well_formed h) c.in_ok-read_cell.ensures.well_formed);
+          λ h. rw c.in_ok-push.ensures.ok
+          (All-push IsWellFormed _ _ (c.loop-cell.invariant.well_formed h) c.in_ok-read_cell.ensures.well_formed);
     }
 
 pub returns-clause-cells : goal.returns-clause-cells

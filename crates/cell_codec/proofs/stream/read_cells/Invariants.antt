@@ -5,7 +5,8 @@ use Rattle.cell_codec.proofs.stream.read_cells.Given as goal
 
 abbrev pub invariant-loop-cell : goal.invariant-loop-cell
 invariant-loop-cell l = record {
-  cells : map wire_cell l.cells.items ++ (later_reading l.rest_bytes).cells ≡ map wire_cell l.fn.cells.items ++ (later_reading l.bytes).cells;
+  cells : map wire_cell l.cells.items ++ (later_reading l.rest_bytes).cells ≡ map wire_cell l.fn.cells.items
+      ++ (later_reading l.bytes).cells;
   left : (later_reading l.rest_bytes).left ≡ (later_reading l.bytes).left;
   well_formed : All IsWellFormed l.fn.cells.items → All IsWellFormed l.cells.items;
 }

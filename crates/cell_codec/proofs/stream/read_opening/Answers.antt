@@ -23,11 +23,13 @@ read_first-requires-clause-size c =
 
 pub read_first-requires-clause-start : goal.read_first-requires-clause-start
 read_first-requires-clause-start c =
-    rw (c.as_slice.ensures.value, c.in_ok-bytes.ensures) (cut_start _ _ _ _ _ c.cut_off.ensures (sym c.in-Some.ensures) c.requires.start)
+    rw (c.as_slice.ensures.value, c.in_ok-bytes.ensures)
+    (cut_start _ _ _ _ _ c.cut_off.ensures (sym c.in-Some.ensures) c.requires.start)
 
 pub returns : goal.returns
 returns c =
     let bytes = c.as_slice.ensures.value ∙ c.in_ok-bytes.ensures in
     subst (λ (r : Reading). ReadsCells r c.in_ok-read_behind.field-0.0.items c.in_ok-read_behind.field-0.1.now)
-    (first_cut_reading _ _ _ _ _ _ c.cut_off.ensures (sym c.in-Some.ensures) c.requires.start (c.in_ok-first.ensures.cell ∙ ap first_of bytes))
+    (first_cut_reading _ _ _ _ _ _ c.cut_off.ensures (sym c.in-Some.ensures) c.requires.start
+    (c.in_ok-first.ensures.cell ∙ ap first_of bytes))
     c.in_ok-read_behind.ensures

@@ -19,10 +19,13 @@ returns-then-write-clause-made g c = record {
 pub returns-in-Did-clause-made : goal.returns-in-Did-clause-made
 returns-in-Did-clause-made g c = let part = c.if-write.ensures.part (search rules) in record {
   last = Cut c.tick.result c.in-Did-Some.cell part.0 c.in-Did.field-0;
-  rest = NextCell c.args.line.now.chan c.tick.result (Some c.in-Did-Some.cell) ∷ ChannelDown c.args.line.now.chan c.in-Did.field-0 ∷ [];
+  rest = NextCell c.args.line.now.chan c.tick.result (Some c.in-Did-Some.cell) ∷ ChannelDown c.args.line.now.chan c.in-Did.field-0
+      ∷ [];
   end_is = refl;
   whole = refl;
-  made = (adds_both _ _ _ (NextCell c.args.line.now.chan c.tick.result (Some c.in-Did-Some.cell) ∷ []) (ChannelDown c.args.line.now.chan c.in-Did.field-0 ∷ []) (adds_as _ _ _ _ c.in-Did-Some.ensures.step (search rules)) (adds_as _ _ _ _ c.in-Did.ensures.step (search rules))).behind;
+  made = (adds_both _ _ _ (NextCell c.args.line.now.chan c.tick.result (Some c.in-Did-Some.cell) ∷ [])
+      (ChannelDown c.args.line.now.chan c.in-Did.field-0 ∷ []) (adds_as _ _ _ _ c.in-Did-Some.ensures.step (search rules))
+      (adds_as _ _ _ _ c.in-Did.ensures.step (search rules))).behind;
   written = part.1;
   cause = λ _. search rules;
 }
@@ -33,7 +36,9 @@ returns-in-Did-Some-clause-made g c = let part = c.if-write.ensures.part (search
   rest = NextCell c.args.line.now.chan c.tick.result (Some c.in-Did-Some.cell) ∷ [];
   end_is = refl;
   whole = refl;
-  made = c.in-Spent-channel_down.ensures.step ∙ (adds_as _ _ (NextCell c.args.line.now.chan c.tick.result (Some c.in-Did-Some.cell) ∷ []) _ c.in-Did-Some.ensures.step (search rules)).behind;
+  made = c.in-Spent-channel_down.ensures.step
+      ∙ (adds_as _ _ (NextCell c.args.line.now.chan c.tick.result (Some c.in-Did-Some.cell) ∷ []) _ c.in-Did-Some.ensures.step
+      (search rules)).behind;
   written = part.1;
   cause = λ _. search rules;
 }
@@ -43,7 +48,8 @@ returns-in-Did-true-clause-made g c = record {
   round = Idle c.tick.result;
   rest = NextCell c.args.line.now.chan c.tick.result None ∷ Live c.args.line.now.chan true ∷ [];
   whole = refl;
-  made = adds_both _ _ _ (NextCell c.args.line.now.chan c.tick.result None ∷ []) (Live c.args.line.now.chan true ∷ []) (adds_as _ _ _ _ c.in-Did-None.ensures.step (search rules)) (adds_as _ _ _ _ c.in-Did-true.ensures.step (search rules));
+  made = adds_both _ _ _ (NextCell c.args.line.now.chan c.tick.result None ∷ []) (Live c.args.line.now.chan true ∷ [])
+      (adds_as _ _ _ _ c.in-Did-None.ensures.step (search rules)) (adds_as _ _ _ _ c.in-Did-true.ensures.step (search rules));
   written = wrote_nothing _ _;
 }
 
@@ -53,7 +59,9 @@ returns-in-Did-false-clause-made g c = record {
   rest = NextCell c.args.line.now.chan c.tick.result None ∷ Live c.args.line.now.chan false ∷ [];
   end_is = refl;
   whole = refl;
-  made = (adds_both _ _ _ (NextCell c.args.line.now.chan c.tick.result None ∷ []) (Live c.args.line.now.chan false ∷ []) (adds_as _ _ _ _ c.in-Did-None.ensures.step (search rules)) (adds_as _ _ _ _ c.in-Did-false.ensures.step (search rules))).behind;
+  made = (adds_both _ _ _ (NextCell c.args.line.now.chan c.tick.result None ∷ []) (Live c.args.line.now.chan false ∷ [])
+      (adds_as _ _ _ _ c.in-Did-None.ensures.step (search rules))
+      (adds_as _ _ _ _ c.in-Did-false.ensures.step (search rules))).behind;
   written = wrote_nothing _ _;
   cause = λ cut. search rules;
 }
@@ -64,7 +72,8 @@ returns-in-Did-None-clause-made g c = record {
   rest = NextCell c.args.line.now.chan c.tick.result None ∷ [];
   end_is = refl;
   whole = refl;
-  made = c.in-Spent-live.ensures.step ∙ (adds_as _ _ (NextCell c.args.line.now.chan c.tick.result None ∷ []) _ c.in-Did-None.ensures.step (search rules)).behind;
+  made = c.in-Spent-live.ensures.step
+      ∙ (adds_as _ _ (NextCell c.args.line.now.chan c.tick.result None ∷ []) _ c.in-Did-None.ensures.step (search rules)).behind;
   written = wrote_nothing _ _;
   cause = λ cut. search rules;
 }

@@ -6,4 +6,5 @@ use Rattle.counter_lock.proofs.threads.count.Given as goal
 
 abbrev pub invariant-loop-turn_number : goal.invariant-loop-turn_number
 invariant-loop-turn_number g l =
-    IsSamePass l.initial.pass l.pass × (map answer_of (own_steps (known l.pass)) ≡ l.answers.items) × (length l.answers.items ≡ l._turn_number)
+    IsSamePass l.initial.pass l.pass × (map answer_of (own_steps (known l.pass)) ≡ l.answers.items)
+    × (length l.answers.items ≡ l._turn_number)

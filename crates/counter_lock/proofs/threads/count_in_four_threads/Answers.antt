@@ -15,7 +15,8 @@ returns-clause-steps g c = let m = c.args.times in let t = c.take_in-3.new.all i
     let third : MadeTurns m c.in_ok-third.field-0 = search rules in
     let fourth : MadeTurns m c.in_ok-fourth.field-0 = search rules in
     let made : MadeTurns (m + m + m + m) t =
-    c.in_ok-take_in-3.ensures.turns _ _ (c.in_ok-take_in-2.ensures.turns _ _ (c.in_ok-take_in.ensures.turns m m first second) third) fourth in
+    c.in_ok-take_in-3.ensures.turns _ _
+    (c.in_ok-take_in-2.ensures.turns _ _ (c.in_ok-take_in.ensures.turns m m first second) third) fourth in
     let own : own_steps p ≡ own_steps (known t.pass) = ap own_steps c.close-pass.ensures.pass in
     let many : length (own_steps p) ≡ length t.answers.items = ap length own ∙ c.in_ok-take_in-3.ensures.answers.many in
     let all : length (own_steps p) ≡ length p.seen = ap length c.close-pass.ensures.all.steps in
@@ -23,7 +24,8 @@ returns-clause-steps g c = let m = c.args.times in let t = c.take_in-3.new.all i
     let seen : length p.seen ≡ length (known t.pass).seen = ap length same in
     let low : m < 2 ^ 32 = search rules in
     let is =
-    made_all (length t.answers.items) (m + m + m + m) (length (known t.pass).seen) made.all (omega arith) made.most (omega arith) in omega arith
+    made_all (length t.answers.items) (m + m + m + m) (length (known t.pass).seen) made.all (omega arith) made.most
+    (omega arith) in omega arith
 
 pub returns-clause-value : goal.returns-clause-value
 returns-clause-value g c =

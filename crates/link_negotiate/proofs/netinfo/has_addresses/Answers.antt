@@ -16,4 +16,6 @@ loop-addresses_left-preserved c =
 pub returns : goal.returns
 returns c =
     let zero : c.loop-addresses_left.addresses_left ≡ 0 = omega arith in
-    sym (ap (λ o. is_some o) (sym c.loop-addresses_left.invariant ∙ ap (λ n. behind_addresses n c.loop-addresses_left.rest_bytes.now) zero ∙ all_addresses _))
+    sym (ap (λ o. is_some o)
+    (sym c.loop-addresses_left.invariant ∙ ap (λ n. behind_addresses n c.loop-addresses_left.rest_bytes.now) zero
+    ∙ all_addresses _))

@@ -8,5 +8,7 @@ pub returns : goal.returns
 unfolding layered
 returns c =
     c.apply.ensures.body
-    ∙ ap (λ key. zip2 bit_xor c.args.body.now (keystream_part key c.keystream_behind.result.position 509)) c.keystream_behind.ensures.key
-    ∙ ap (λ position. zip2 bit_xor c.args.body.now (keystream_part c.args.key.now position 509)) c.keystream_behind.ensures.position
+    ∙ ap (λ key. zip2 bit_xor c.args.body.now (keystream_part key c.keystream_behind.result.position 509))
+    c.keystream_behind.ensures.key
+    ∙ ap (λ position. zip2 bit_xor c.args.body.now (keystream_part c.args.key.now position 509))
+    c.keystream_behind.ensures.position

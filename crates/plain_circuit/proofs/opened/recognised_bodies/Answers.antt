@@ -15,7 +15,8 @@ loop-i-preserved c =
       | in_default w ↦ rw w.in_default.is (ap (λ bodies. bodies.items) w.bodies-is)
     ] in
     let before : c.deref.result.now ≡ recognised_bodies log = c.deref.ensures.value ∙ c.loop-i.invariant.0 in
-    read_on c.args.log.now c.loop-i.i c.index-log-i.result c.loop-i-test.true c.match-read.bodies.items c.read.new.self.stream c.read.new.self.running
+    read_on c.args.log.now c.loop-i.i c.index-log-i.result c.loop-i-test.true c.match-read.bodies.items c.read.new.self.stream
+    c.read.new.self.running
     (adds ∙ ap (λ bodies. pushed bodies c.read.result) (sym c.deref.ensures.value) ∙ c.read.ensures.more
     ∙ (λ k. recognised_with log (before k) (c.index-log-i.is k).event.now))
     (λ entry is. c.read.ensures.next entry (is ∙ ap (λ e. e.event.now) (sym c.index-log-i.is)))

@@ -15,4 +15,5 @@ put-requires-3 c =
 pub write_body-requires : goal.write_body-requires
 write_body-requires c =
     let short = port_digits_short c.args.port c.ranges.port.fits in
-    rw (c.as_slice.ensures, c.put-3.ensures, c.put_decimal.ensures, c.put-2.ensures, c.put.ensures, c.new-payload.ensures) (simp length-append (omega (arith, short)))
+    rw (c.as_slice.ensures, c.put-3.ensures, c.put_decimal.ensures, c.put-2.ensures, c.put.ensures, c.new-payload.ensures)
+    (simp length-append (omega (arith, short)))

@@ -7,5 +7,6 @@ pub returns-in_err-extend_from_slice-in-Got-clause-read : goal.returns-in_err-ex
 returns-in_err-extend_from_slice-in-Got-clause-read g c =
     on_err _ c.from_residual.result (
       c.loop-chunk.bytes.items ++ take c.in-Got.count c.read.new.into,
-      read_more _ _ _ c.loop-chunk.bytes.items c.read.new.into _ c.in-Got.count c.loop-chunk.invariant.read c.in-Got.ensures.bytes refl,
+      read_more _ _ _ c.loop-chunk.bytes.items c.read.new.into _ c.in-Got.count c.loop-chunk.invariant.read c.in-Got.ensures.bytes
+          refl,
     )

@@ -13,4 +13,5 @@ loop-line-preserved c =
 pub returns-then-not-has_port_in_range : goal.returns-then-not-has_port_in_range
 returns-then-not-has_port_in_range c =
     let fails : has_port_in_range (view c.line-item.result) ≡ false = cc in
-    sym (all_fails has_port_in_range c.args.lines.now c.loop-line.line-index c.line-item.result (omega arith) c.line-item.is fails)
+    sym (all_fails has_port_in_range c.args.lines.now c.loop-line.line-index c.line-item.result (omega arith) c.line-item.is
+    fails)

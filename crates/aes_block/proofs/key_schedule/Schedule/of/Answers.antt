@@ -15,7 +15,8 @@ loop-n-preserved c =
     let n = c.loop-n.n in
     let words = c.loop-n.round_keys in
     let new = c.copy_from_slice-in-loop-n.new.self in
-    let written : new ≡ to_le_bytes w32 c.next_word-word.result = c.copy_from_slice-in-loop-n.ensures.after ∙ c.to_le_bytes.ensures in
+    let written : new ≡ to_le_bytes w32 c.next_word-word.result =
+    c.copy_from_slice-in-loop-n.ensures.after ∙ c.to_le_bytes.ensures in
     let four : length new ≡ 4 = ap length written in
     let after : List ℕ → List ℕ = λ ws. add (word ws n) (word_change (n + 4) (word ws (n + 3))) in
     let next : new ≡ after (expanded c.args.key.now n) = written ∙ c.next_word-word.ensures ∙ ap after c.loop-n.invariant.1 in (

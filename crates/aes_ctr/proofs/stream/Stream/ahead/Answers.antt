@@ -17,10 +17,13 @@ invariant_of-self c =
           let fits : more ≤ 1152 = omega arith in
           let filled : w.fill.new.pad ≡ keystream_part s.keys (16 * ((s.position + (1152 - s.used)) / 16)) more =
           w.fill.ensures
-          ∙ ap (λ (n : ℕ). keystream_part s.keys (16 * ((s.position + (1152 - s.used)) / 16)) n) (simp (length-take, length-drop) (omega (arith, long, fits))) in
+          ∙ ap (λ (n : ℕ). keystream_part s.keys (16 * ((s.position + (1152 - s.used)) / 16)) n)
+          (simp (length-take, length-drop) (omega (arith, long, fits))) in
           rw w.self-inside-is
           (filled_up s.keys s.position s.store w.move_down.new.store w.fill.new.pad s.used s.ready more _ store long
-          (omega (arith, within, few)) (omega arith) (omega (arith, within, few)) (omega (arith, fits)) w.move_down.ensures.moved c.self.told filled)
+          (omega (arith, within, few)) (omega arith) (omega (arith, within, few)) (omega (arith, fits)) w.move_down.ensures.moved
+          c.self.told filled)
       | else-made-lt1024 w ↦
-          rw w.self-inside-is (counted s.keys s.position s.store s.used s.ready store (omega (arith, within, w.if-made-lt1024.false)))
+          rw w.self-inside-is
+          (counted s.keys s.position s.store s.used s.ready store (omega (arith, within, w.if-made-lt1024.false)))
     ]

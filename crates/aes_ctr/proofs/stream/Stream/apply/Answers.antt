@@ -7,5 +7,6 @@ use Rattle.aes_ctr.proofs.stream.Stream.apply.Goals as goal
 pub returns-clause-body : goal.returns-clause-body
 returns-clause-body c =
     c.take_from_store.ensures.body
-    ∙ ap (λ (key : List ℕ). zip2 bit_xor c.args.body.now (keystream_part key c.make_enough.new.self.position 509)) c.make_enough.ensures.key
+    ∙ ap (λ (key : List ℕ). zip2 bit_xor c.args.body.now (keystream_part key c.make_enough.new.self.position 509))
+    c.make_enough.ensures.key
     ∙ ap (λ (n : ℕ). zip2 bit_xor c.args.body.now (keystream_part c.args.self.now.key n 509)) c.make_enough.ensures.position

@@ -10,7 +10,10 @@ pub invariant_of-result : goal.invariant_of-result
 invariant_of-result c =
     let e = c.round_keys-keys.ensures in
     let first = c.first_planes.result in
-    let others : List Planes = c.other_planes.result ∷ c.other_planes-2.result ∷ c.other_planes-3.result ∷ c.other_planes-4.result ∷ c.other_planes-5.result ∷ c.other_planes-6.result ∷ c.other_planes-7.result ∷ c.other_planes-8.result ∷ c.other_planes-9.result ∷ c.other_planes-10.result ∷ [] in
+    let others : List Planes =
+    c.other_planes.result ∷ c.other_planes-2.result ∷ c.other_planes-3.result ∷ c.other_planes-4.result
+    ∷ c.other_planes-5.result ∷ c.other_planes-6.result ∷ c.other_planes-7.result ∷ c.other_planes-8.result
+    ∷ c.other_planes-9.result ∷ c.other_planes-10.result ∷ [] in
     subst (λ (key : List ℕ). IsLaneKeys key first others) (sym c.key.ensures) (record {
       first_key = λ b h. subst (λ (keys : List ℕ). IsState first b (take 16 keys)) e (c.first_planes.ensures b h);
       long = refl;

@@ -15,10 +15,13 @@ loop-round-preserved c = λ b s h e.
     let r = c.loop-round.round in
     let before = state_after keys s r in
     let k = round_key keys (r + 1) in
-    let key : IsState (slice_index_or c.self.inside.others r _) b (masked k) = c.self.invariant.other_keys r b _ (omega (arith, c.loop-round-test.true)) h in
+    let key : IsState (slice_index_or c.self.inside.others r _) b (masked k) =
+    c.self.invariant.other_keys r b _ (omega (arith, c.loop-round-test.true)) h in
     let next : IsState c.rounded-state.result b (add (mix_columns (shift_rows (sub_bytes before))) k) =
     c.rounded-state.ensures b before k h (whole_key k key.long) (c.loop-round.invariant b s h e) key in
-    rw (add-one r) (subst (λ (n : ℕ). IsState c.rounded-state.result b (add (mix_columns (shift_rows (sub_bytes before))) (round_key keys n))) (add-one r) next)
+    rw (add-one r)
+    (subst (λ (n : ℕ). IsState c.rounded-state.result b
+    (add (mix_columns (shift_rows (sub_bytes before))) (round_key keys n))) (add-one r) next)
 
 pub returns : goal.returns
 unfolding aes
@@ -29,8 +32,10 @@ returns c = λ b s h e.
     let before = state_after keys s r in
     let last : r ≡ 9 = omega arith in
     let k = round_key keys 10 in
-    let key : IsState (slice_index_or c.self.inside.others 9 _) b (masked k) = c.self.invariant.other_keys 9 b _ (omega arith) h in
+    let key : IsState (slice_index_or c.self.inside.others 9 _) b (masked k) =
+    c.self.invariant.other_keys 9 b _ (omega arith) h in
     let end : IsState c.finished.result b (add (shift_rows (sub_bytes before)) k) =
     c.finished.ensures b before k h (whole_key k key.long) (c.loop-round.invariant b s h e) key in
-    subst (λ (own : List ℕ). IsState c.finished.result b (add (shift_rows (sub_bytes (state_after (expanded own 40) s 9))) (round_key (expanded own 40) 10))) c.self.view_is
+    subst (λ (own : List ℕ). IsState c.finished.result b
+    (add (shift_rows (sub_bytes (state_after (expanded own 40) s 9))) (round_key (expanded own 40) 10))) c.self.view_is
     (subst (λ (n : ℕ). IsState c.finished.result b (add (shift_rows (sub_bytes (state_after keys s n))) k)) last end)

@@ -42,7 +42,8 @@ returns-in_ok-feed_open-in-Open-clause-unread c = λ _.
 
 pub returns-in-Some-2-clause-cells : goal.returns-in-Some-2-clause-cells
 returns-in-Some-2-clause-cells c =
-    let reads : ReadsCells (first_reading (c.self.inside.rest.items ++ c.args.piece.now)) c.in-Some-2.cells.items c.feed_opening.new.rest.items =
+    let reads : ReadsCells (first_reading (c.self.inside.rest.items ++ c.args.piece.now)) c.in-Some-2.cells.items
+    c.feed_opening.new.rest.items =
     rw c.in-Some-2.is at c.in_ok-cells-in-Opening.ensures.opened in
     reads.read ∙ sym (ap (λ r. r.cells) (opening_reading _ _ _ _ (sym c.self.view_is) c.in-Opening.is))
 
@@ -53,13 +54,15 @@ returns-in-Some-2-clause-accepted c =
 
 pub returns-in-Some-2-clause-unread : goal.returns-in-Some-2-clause-unread
 returns-in-Some-2-clause-unread c = λ _.
-    let reads : ReadsCells (first_reading (c.self.inside.rest.items ++ c.args.piece.now)) c.in-Some-2.cells.items c.feed_opening.new.rest.items =
+    let reads : ReadsCells (first_reading (c.self.inside.rest.items ++ c.args.piece.now)) c.in-Some-2.cells.items
+    c.feed_opening.new.rest.items =
     rw c.in-Some-2.is at c.in_ok-cells-in-Opening.ensures.opened in
     sym reads.tail ∙ sym (ap (λ r. r.left) (opening_reading _ _ _ _ (sym c.self.view_is) c.in-Opening.is))
 
 pub returns-in-None-clause-cells : goal.returns-in-None-clause-cells
 returns-in-None-clause-cells c =
-    let kept : (c.feed_opening.new.rest.items ≡ c.self.inside.rest.items ++ c.args.piece.now) × (first_at c.feed_opening.new.rest.items ≡ None) =
+    let kept : (c.feed_opening.new.rest.items ≡ c.self.inside.rest.items ++ c.args.piece.now)
+    × (first_at c.feed_opening.new.rest.items ≡ None) =
     rw c.in-None.is at c.in_ok-cells-in-Opening.ensures.opening in
     let start : wrong_start (c.self.inside.rest.items ++ c.args.piece.now) ≡ None =
     rw c.as_slice.ensures.value at (sym c.in_default.ensures.start) in
@@ -73,7 +76,8 @@ returns-in-None-clause-accepted c =
 
 pub returns-in-None-clause-unread : goal.returns-in-None-clause-unread
 returns-in-None-clause-unread c = λ _.
-    let kept : (c.feed_opening.new.rest.items ≡ c.self.inside.rest.items ++ c.args.piece.now) × (first_at c.feed_opening.new.rest.items ≡ None) =
+    let kept : (c.feed_opening.new.rest.items ≡ c.self.inside.rest.items ++ c.args.piece.now)
+    × (first_at c.feed_opening.new.rest.items ≡ None) =
     rw c.in-None.is at c.in_ok-cells-in-Opening.ensures.opening in
     let start : wrong_start (c.self.inside.rest.items ++ c.args.piece.now) ≡ None =
     rw c.as_slice.ensures.value at (sym c.in_default.ensures.start) in

@@ -29,10 +29,13 @@ returns-then-is_due-clause-circuit c = λ rules h is.
     let due =
     sym c.if-is_due.true ∙ c.unwrap_or-is_due.ensures
     ∙ ap (λ o. unwrap_or o false) (c.drained.ensures.answer stream at.held) in
-    due_goes_on self c.packaging.new.self rules h c.args.key place stream c.stream_sendme_body.result at c.requires.stream.undrained
-    (c.packaging.ensures.rest ∙ ap (λ (p : PlacesState). record self { packager = c.packaging.new.self.packager; places = p }) (c.drained.ensures.counted stream at.held))
+    due_goes_on self c.packaging.new.self rules h c.args.key place stream c.stream_sendme_body.result at
+    c.requires.stream.undrained
+    (c.packaging.ensures.rest ∙ ap (λ (p : PlacesState). record self { packager = c.packaging.new.self.packager; places = p })
+    (c.drained.ensures.counted stream at.held))
     (c.packaging.ensures.next (log rules h))
-    (drained_packs self rules h c.args.key place stream true at c.requires.stream.undrained due is ∙ ap (packs (log rules h)) (sym c.stream_sendme_body.ensures))
+    (drained_packs self rules h c.args.key place stream true at c.requires.stream.undrained due is
+    ∙ ap (packs (log rules h)) (sym c.stream_sendme_body.ensures))
     is
 
 pub returns-else-is_due-clause-effects : goal.returns-else-is_due-clause-effects
@@ -57,7 +60,8 @@ returns-else-is_due-clause-circuit c = λ rules h is.
     let due =
     sym c.if-is_due.false ∙ c.unwrap_or-is_due.ensures
     ∙ ap (λ o. unwrap_or o false) (c.drained.ensures.answer stream at.held) in
-    undue_goes_on self (record self { places = c.drained.new.self }) rules h c.args.key place stream at c.requires.stream.undrained
+    undue_goes_on self (record self { places = c.drained.new.self }) rules h c.args.key place stream at
+    c.requires.stream.undrained
     (ap (λ (p : PlacesState). record self { places = p }) (c.drained.ensures.counted stream at.held))
     (drained_packs self rules h c.args.key place stream false at c.requires.stream.undrained due is)
     is

@@ -9,6 +9,7 @@ returns-clause-circuit c = λ rules h is.
     let place = c.taken_place-place.result.0 in
     let stream = c.requires.stream.stream in
     let at =
-    at_found c.args.self.now c.args.key c.requires.stream.place place stream c.requires.stream.at c.taken_place-place.ensures.first in
+    at_found c.args.self.now c.args.key c.requires.stream.place place stream c.requires.stream.at
+    c.taken_place-place.ensures.first in
     freed_goes_on c.args.self.now (record c.args.self.now { places = c.freed.new.self }) rules h c.args.key place stream at
     (ap (λ (p : PlacesState). record c.args.self.now { places = p }) c.freed.ensures.place) is

@@ -10,4 +10,5 @@ returns-then-message-eq-DATA-clause-effects c = λ log command body m b made has
 
 pub returns-then-message-eq-DATA-clause-parts : goal.returns-then-message-eq-DATA-clause-parts
 returns-then-message-eq-DATA-clause-parts c = λ log command body m b made has unclosed.
-    c.data.ensures.parts (rules_of c.args.rules.now) log command body m b has (sym b.relay_command ∙ c.if-message-eq-DATA.true) unclosed
+    c.data.ensures.parts (rules_of c.args.rules.now) log command body m b has (sym b.relay_command ∙ c.if-message-eq-DATA.true)
+    unclosed

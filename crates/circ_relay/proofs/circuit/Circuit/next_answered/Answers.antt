@@ -23,12 +23,14 @@ returns-in-Some-clause-effects c = λ rules h is.
 pub returns-in-Some-clause-circuit : goal.returns-in-Some-clause-circuit
 returns-in-Some-clause-circuit c = λ rules h is stays.
     subst (λ (x : Circuit). IsCircuit x rules (Answered c.args.payload.now ∷ h)) (sym c.packaging.ensures.rest)
-    (answered_keeps c.args.self.now c.packaging.new.self.packager rules h c.args.payload.now c.extended2_body.result is (gives c (log rules h))
+    (answered_keeps c.args.self.now c.packaging.new.self.packager rules h c.args.payload.now c.extended2_body.result is
+    (gives c (log rules h))
     (c.packaging.ensures.next (log rules h) is.parts.packager))
 
 refused : (c : goal.After-closing) (l : Log) → answered_effects l c.args.payload.now ≡ closing 1
 refused c l = elim c.in_default.branch [
-  | in_default-via-in-Some+else-handshake-le-MOST_HDATA w ↦ answered_too_long l c.args.payload.now w.in-Some.handshake.now w.in-Some.ensures.some w.if-handshake-le-MOST_HDATA.false
+  | in_default-via-in-Some+else-handshake-le-MOST_HDATA w ↦ answered_too_long l c.args.payload.now w.in-Some.handshake.now
+      w.in-Some.ensures.some w.if-handshake-le-MOST_HDATA.false
   | in_default-via-in_default w ↦ answered_unread l c.args.payload.now w.in_default.ensures.none
 ]
 

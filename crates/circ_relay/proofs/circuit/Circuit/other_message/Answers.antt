@@ -61,7 +61,8 @@ pub returns-in-8-clause-parts : goal.returns-in-8-clause-parts
 returns-in-8-clause-parts c = λ log command body m b made has unclosed.
     let rules = rules_of c.args.rules.now in
     subst (λ d. HasParts d (after_cell rules log command body)) (sym c.truncate.ensures.rest)
-    (truncated_parts c.args.self.now c.truncate.new.self.packager c.args.message.now rules log command body m b has (sym b.relay_command ∙ c.in-8.is) c.truncate.ensures.next)
+    (truncated_parts c.args.self.now c.truncate.new.self.packager c.args.message.now rules log command body m b has
+    (sym b.relay_command ∙ c.in-8.is) c.truncate.ensures.next)
 
 pub returns-in-13-clause-effects : goal.returns-in-13-clause-effects
 returns-in-13-clause-effects c = λ log command body m b made has.
@@ -73,7 +74,8 @@ returns-in-13-clause-parts c = λ log command body m b made has unclosed.
     let rules = rules_of c.args.rules.now in
     let does = of_begin_dir rules log m (sym b.relay_command ∙ c.in-13.is) ∙ ap (λ n. ending log n 14) (sym b.stream) in
     subst (λ d. HasParts d (after_cell rules log command body)) (sym c.ending.ensures.rest)
-    (other_packaged_parts c.args.self.now c.ending.new.self.packager c.args.message.now rules log command body m (relay_body end_command c.args.message.now.stream (14 ∷ [])) b has does
+    (other_packaged_parts c.args.self.now c.ending.new.self.packager c.args.message.now rules log command body m
+    (relay_body end_command c.args.message.now.stream (14 ∷ [])) b has does
     c.ending.ensures.next (other_command m.command 13 (sym b.relay_command ∙ c.in-13.is) refl refl refl refl))
 
 pub returns-in_default-clause-effects : goal.returns-in_default-clause-effects
@@ -98,4 +100,5 @@ returns-in_default-clause-parts c = λ log command body m b made has unclosed.
       begin_dir = grind arith;
       extend2 = grind arith;
     } in
-    unknown_parts c.args.self.now c.args.message.now (rules_of c.args.rules.now) log command body m b has (subst IsUnknown b.relay_command unknown)
+    unknown_parts c.args.self.now c.args.message.now (rules_of c.args.rules.now) log command body m b has
+    (subst IsUnknown b.relay_command unknown)

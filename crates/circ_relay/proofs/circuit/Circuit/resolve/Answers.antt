@@ -10,6 +10,8 @@ returns-clause-parts c = λ log command body m b has is.
     let rules = rules_of c.args.rules.now in
     let does =
     of_resolve rules log m is
-    ∙ resolve_does rules log m c.args.message.now.stream c.args.message.now.payload.now c.answer_body.result (option_map address_of c.resolved-to.result) c.answer_body.ensures.body c.resolved-to.ensures b.stream b.payload in
+    ∙ resolve_does rules log m c.args.message.now.stream c.args.message.now.payload.now c.answer_body.result
+    (option_map address_of c.resolved-to.result) c.answer_body.ensures.body c.resolved-to.ensures b.stream b.payload in
     subst (λ d. HasParts d (after_cell rules log command body)) (sym c.packaging.ensures.rest)
-    (other_packaged_parts c.args.self.now c.packaging.new.self.packager c.args.message.now rules log command body m c.answer_body.result b has does c.packaging.ensures.next (other_command m.command 11 is refl refl refl refl))
+    (other_packaged_parts c.args.self.now c.packaging.new.self.packager c.args.message.now rules log command body m
+    c.answer_body.result b has does c.packaging.ensures.next (other_command m.command 11 is refl refl refl refl))

@@ -9,7 +9,8 @@ returns-then-not-may_pack-clause-window c = λ rules h is.
     let place = c.taken_place-place.result.0 in
     let stream = c.requires.stream in
     let at = at_found self c.args.key c.requires.place place stream c.requires.at c.taken_place-place.ensures.first in
-    stream_shuts self rules h c.args.key place stream c.count.result at (sym (c.may_pack.ensures stream at.held) ∙ c.if-not-may_pack.true) (c.count.ensures stream at.held) is
+    stream_shuts self rules h c.args.key place stream c.count.result at
+    (sym (c.may_pack.ensures stream at.held) ∙ c.if-not-may_pack.true) (c.count.ensures stream at.held) is
 
 pub returns-then-not-may_pack-2-clause-window : goal.returns-then-not-may_pack-2-clause-window
 returns-then-not-may_pack-2-clause-window c = λ rules h is.
@@ -17,7 +18,8 @@ returns-then-not-may_pack-2-clause-window c = λ rules h is.
     let place = c.taken_place-place.result.0 in
     let stream = c.requires.stream in
     let at = at_found self c.args.key c.requires.place place stream c.requires.at c.taken_place-place.ensures.first in
-    circuit_shuts self rules h c.args.key place stream c.may_pack-2.result c.count-then-not-may_pack-2.result at (sym (c.may_pack.ensures stream at.held) ∙ c.if-not-may_pack.false)
+    circuit_shuts self rules h c.args.key place stream c.may_pack-2.result c.count-then-not-may_pack-2.result at
+    (sym (c.may_pack.ensures stream at.held) ∙ c.if-not-may_pack.false)
     c.may_pack-2.ensures c.if-not-may_pack-2.true c.count-then-not-may_pack-2.ensures is
 
 pub returns-clause-window : goal.returns-clause-window
@@ -26,4 +28,5 @@ returns-clause-window c = λ rules h is.
     let place = c.taken_place-place.result.0 in
     let stream = c.requires.stream in
     let at = at_found self c.args.key c.requires.place place stream c.requires.at c.taken_place-place.ensures.first in
-    none_shuts self rules h c.args.key place stream c.may_pack-2.result at (sym (c.may_pack.ensures stream at.held) ∙ c.if-not-may_pack.false) c.may_pack-2.ensures c.if-not-may_pack-2.false is
+    none_shuts self rules h c.args.key place stream c.may_pack-2.result at
+    (sym (c.may_pack.ensures stream at.held) ∙ c.if-not-may_pack.false) c.may_pack-2.ensures c.if-not-may_pack-2.false is

@@ -22,7 +22,8 @@ pub invariant_of-self-2 : goal.invariant_of-self-2
 invariant_of-self-2 c =
     is_indexed-removed c.self.inside.legs c.remove-2.new.self c.self.inside.places.entries c.remove.new.self.entries
     (c.args.chan.0, c.args.id) c.in-Some.place
-    (sym c.in-Some.ensures.value) c.remove-2.ensures.updates c.remove.ensures.updates.0 c.self.invariant.apart c.self.invariant.has_leg
+    (sym c.in-Some.ensures.value) c.remove-2.ensures.updates c.remove.ensures.updates.0 c.self.invariant.apart
+    c.self.invariant.has_leg
     c.self.inside.counts.entries c.count_down.new.counts.entries c.self.invariant.counted c.count_down.ensures
 
 pub returns : goal.returns

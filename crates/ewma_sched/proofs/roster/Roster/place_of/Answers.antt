@@ -17,7 +17,8 @@ returns-2-clause-ahead c = λ k d low h.
 pub returns-in-Ok-clause-behind : goal.returns-in-Ok-clause-behind
 returns-in-Ok-clause-behind c =
     let w = c.args.self.now.ready_queue in
-    behind_equal w.items c.args.leg.now c.in-Ok.place c.requires (subst (λ n. c.in-Ok.place < n) w.ok.0 c.in-Ok.ensures.bound) c.in-Ok.ensures.ok
+    behind_equal w.items c.args.leg.now c.in-Ok.place c.requires (subst (λ n. c.in-Ok.place < n) w.ok.0 c.in-Ok.ensures.bound)
+    c.in-Ok.ensures.ok
 
 pub returns-in-Ok-clause-ahead : goal.returns-in-Ok-clause-ahead
 returns-in-Ok-clause-ahead c =

@@ -17,7 +17,13 @@ returns-in_err-reserve-clause-err c =
 pub put_in-requires-clause-tick : goal.put_in-requires-clause-tick
 put_in-requires-clause-tick c =
     let t = c.self.inside.table in
-    omega (arith, c.requires, tick_of t.legs.entries t.tick _ c.self.view_is, c.in_ok-reserve.ensures.tick, c.take_out-old_chan.ensures.tick)
+    omega (
+      arith,
+      c.requires,
+      tick_of t.legs.entries t.tick _ c.self.view_is,
+      c.in_ok-reserve.ensures.tick,
+      c.take_out-old_chan.ensures.tick,
+    )
 
 pub put_in-requires-clause-new : goal.put_in-requires-clause-new
 put_in-requires-clause-new c =
@@ -42,7 +48,8 @@ returns-in-Some-clause-ok c =
     c.put_in.ensures.leg in
     states_same last.legs.entries c.drop_if_empty.new.self.legs.entries c.args.tick c.drop_if_empty.new.self.tick
     (ap (λ m. m.entries) c.drop_if_empty.ensures.legs) (c.drop_if_empty.ensures.tick ∙ c.put_in.ensures.tick)
-    ∙ subst (λ v. states last.legs.entries c.args.tick ≡ with_leg (at_tick v c.args.tick) leg (new_leg c.args.chan.0)) c.self.view_is joins
+    ∙ subst (λ v. states last.legs.entries c.args.tick ≡ with_leg (at_tick v c.args.tick) leg (new_leg c.args.chan.0))
+    c.self.view_is joins
 
 pub returns-in_default-clause-ok : goal.returns-in_default-clause-ok
 returns-in_default-clause-ok c =
@@ -55,7 +62,8 @@ returns-in_default-clause-ok c =
     t.tick c.args.tick c.args.chan.0 leg le c.self.invariant.ticks c.in_ok-reserve.ensures.legs c.take_out-old_chan.ensures.leg
     c.put_in.ensures.leg in
     ap (states last.legs.entries) c.put_in.ensures.tick
-    ∙ subst (λ v. states last.legs.entries c.args.tick ≡ with_leg (at_tick v c.args.tick) leg (new_leg c.args.chan.0)) c.self.view_is joins
+    ∙ subst (λ v. states last.legs.entries c.args.tick ≡ with_leg (at_tick v c.args.tick) leg (new_leg c.args.chan.0))
+    c.self.view_is joins
 
 pub returns-in-Some-clause-tick : goal.returns-in-Some-clause-tick
 returns-in-Some-clause-tick c =

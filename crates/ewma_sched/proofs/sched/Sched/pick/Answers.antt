@@ -43,7 +43,8 @@ returns-clause-charged c =
     let last = c.pick.new.self in
     let le : t.tick ≤ c.args.tick = omega (arith, c.requires, tick_of t.legs.entries t.tick _ c.self.view_is) in
     ap (states last.legs.entries) c.pick.ensures.tick
-    ∙ subst (λ v. states last.legs.entries c.args.tick ≡ with_leg_by charged_leg (at_tick v c.args.tick) (w.circ, w.number)) c.self.view_is
+    ∙ subst (λ v. states last.legs.entries c.args.tick ≡ with_leg_by charged_leg (at_tick v c.args.tick) (w.circ, w.number))
+    c.self.view_is
     (charged_view t.legs.entries t.tick c.args.tick le c.self.invariant.ticks last.legs.entries (w.circ, w.number)
     c.in_ok-next.ensures.charged)
 

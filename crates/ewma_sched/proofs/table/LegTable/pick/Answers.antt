@@ -69,9 +69,11 @@ returns c =
           (roster_written s.rosters.entries _ c.args.chan roster last there (c.get_mut.follows.holds last).0);
       tick = search rules;
       first =
-          served_first s.legs.entries c.set_count.new.legs.entries c.args.chan c.args.tick next last c.in_ok-next.next is e.tick one;
+          served_first s.legs.entries c.set_count.new.legs.entries c.args.chan c.args.tick next last c.in_ok-next.next is e.tick
+          one;
       charged =
-          served_charges s.legs.entries c.set_count.new.legs.entries c.args.chan c.args.tick next last c.in_ok-next.next is e.tick one
+          served_charges s.legs.entries c.set_count.new.legs.entries c.args.chan c.args.tick next last c.in_ok-next.next is e.tick
+          one
           c.set_count.ensures;
       none = search rules;
       same = search rules;

@@ -28,7 +28,8 @@ returns-clause-table c =
     let roster = c.in-Some.roster.now in
     let next : Roster = record roster { idle = roster.idle + 1 } in
     let there = sym c.in-Some.ensures.value in
-    joined_table s.legs.entries c.insert.new.self.entries s.rosters.entries _ s.tick c.args.tick c.args.chan c.args.name leg roster
+    joined_table s.legs.entries c.insert.new.self.entries s.rosters.entries _ s.tick c.args.tick c.args.chan c.args.name leg
+    roster
     c.requires.table c.requires.tick there
     (roster_written s.rosters.entries _ c.args.chan roster next there (c.get_mut.follows.holds next).0)
     refl refl refl change c.requires.room

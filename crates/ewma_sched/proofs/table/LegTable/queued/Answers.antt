@@ -64,7 +64,8 @@ end-requires-clause-waits c =
     = c.ready_leg-else-some.ensures
     ∙ ap (λ n. record { count = n; circ = c.args.name.0; number = c.args.name.1 }) c.at-else-some.ensures in
     subst (Contains roster.ready_queue.items) (sym entry)
-    (stands_in roster c.args.name x (stands s.legs.entries x.chan s.tick roster c.args.name x is c.in-Some.ensures.some.before refl waited))
+    (stands_in roster c.args.name x
+    (stands s.legs.entries x.chan s.tick roster c.args.name x is c.in-Some.ensures.some.before refl waited))
 
 pub end-requires-clause-room : goal.end-requires-clause-room
 end-requires-clause-room c =
@@ -94,7 +95,8 @@ returns-then-some-clause-table c =
     (roster_written s.rosters.entries _ x.chan roster last there (c.get_mut.follows.holds last).0) next rested
     (subst (λ b. Changes s.legs.entries c.set_queued.new.legs.entries c.args.name (Some x) (Some (record x { has_cells = b })))
     c.if-some.true c.in-Some.ensures.some)
-    went (subst (λ w. IsPermutation (w ∷ next.ready_queue.items) last.ready_queue.items) entry f.legs) f.order f.idle f.tick f.room
+    went (subst (λ w. IsPermutation (w ∷ next.ready_queue.items) last.ready_queue.items) entry f.legs) f.order f.idle f.tick
+    f.room
 
 pub returns-then-some-clause-room : goal.returns-then-some-clause-room
 returns-then-some-clause-room c =
@@ -110,7 +112,8 @@ returns-then-some-clause-room c =
 
 pub returns-then-some-clause-leg : goal.returns-then-some-clause-leg
 returns-then-some-clause-leg c =
-    becomes_queued c.args.self.now.legs.entries c.set_queued.new.legs.entries c.args.name c.in-Some.leg c.args.some c.in-Some.ensures.some
+    becomes_queued c.args.self.now.legs.entries c.set_queued.new.legs.entries c.args.name c.in-Some.leg c.args.some
+    c.in-Some.ensures.some
 
 pub returns-else-some-clause-table : goal.returns-else-some-clause-table
 returns-else-some-clause-table c =
@@ -143,4 +146,5 @@ returns-else-some-clause-room c =
 
 pub returns-else-some-clause-leg : goal.returns-else-some-clause-leg
 returns-else-some-clause-leg c =
-    becomes_queued c.args.self.now.legs.entries c.set_queued.new.legs.entries c.args.name c.in-Some.leg c.args.some c.in-Some.ensures.some
+    becomes_queued c.args.self.now.legs.entries c.set_queued.new.legs.entries c.args.name c.in-Some.leg c.args.some
+    c.in-Some.ensures.some

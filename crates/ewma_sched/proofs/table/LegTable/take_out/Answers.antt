@@ -9,7 +9,8 @@ overflow_sub-roster c =
     let x = c.in_ok-leg.leg in
     let s = c.queued.new.self in
     let rests =
-    rested_by c.args.self.now.legs.entries s.legs.entries c.args.name false x c.queued.ensures.leg c.in_ok-leg.ensures.some.before in
+    rested_by c.args.self.now.legs.entries s.legs.entries c.args.name false x c.queued.ensures.leg
+    c.in_ok-leg.ensures.some.before in
     one_idle s.legs.entries s.rosters.entries s.tick c.args.name x c.in-Some.roster.now c.queued.ensures.table
     (sym c.in-Some.ensures.value) c.in_ok-leg.ensures.some.before rests
 

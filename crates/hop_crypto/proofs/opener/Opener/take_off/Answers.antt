@@ -8,7 +8,13 @@ pub returns-in_err-digest-clause-opened : goal.returns-in_err-digest-clause-open
 returns-in_err-digest-clause-opened c = λ layer stands.
     let here : OpenerState = record { stream = place_of c.self.inside.stream; digest = c.self.inside.digest } in
     let took : TookOff here (place_of c.apply.new.self) layer c.args.body.now c.apply.new.body =
-    record { stands = c.self.view_is ∙ stands; off = c.apply.ensures.body; key = c.apply.ensures.key; position = c.apply.ensures.position } in
+    record {
+      stands = c.self.view_is ∙ stands;
+      off = c.apply.ensures.body;
+      key = c.apply.ensures.key;
+      position =
+          c.apply.ensures.position;
+    } in
     rw c.from_residual.ensures
     (opened_other here (place_of c.apply.new.self) layer c.args.body.now c.apply.new.body took
     (c.in_err-digest.ensures.none layer.seed layer.absorbed (ap (λ (o : OpenerState). o.digest) took.stands)))
@@ -17,7 +23,13 @@ pub returns-in_err-digest-clause-state : goal.returns-in_err-digest-clause-state
 returns-in_err-digest-clause-state c = λ layer stands.
     let here : OpenerState = record { stream = place_of c.self.inside.stream; digest = c.self.inside.digest } in
     let took : TookOff here (place_of c.apply.new.self) layer c.args.body.now c.apply.new.body =
-    record { stands = c.self.view_is ∙ stands; off = c.apply.ensures.body; key = c.apply.ensures.key; position = c.apply.ensures.position } in
+    record {
+      stands = c.self.view_is ∙ stands;
+      off = c.apply.ensures.body;
+      key = c.apply.ensures.key;
+      position =
+          c.apply.ensures.position;
+    } in
     state_other here (place_of c.apply.new.self) layer c.args.body.now c.apply.new.body took
     (c.in_err-digest.ensures.none layer.seed layer.absorbed (ap (λ (o : OpenerState). o.digest) took.stands))
 
@@ -25,7 +37,13 @@ pub returns-clause-opened : goal.returns-clause-opened
 returns-clause-opened c = λ layer stands.
     let here : OpenerState = record { stream = place_of c.self.inside.stream; digest = c.self.inside.digest } in
     let took : TookOff here (place_of c.apply.new.self) layer c.args.body.now c.apply.new.body =
-    record { stands = c.self.view_is ∙ stands; off = c.apply.ensures.body; key = c.apply.ensures.key; position = c.apply.ensures.position } in
+    record {
+      stands = c.self.view_is ∙ stands;
+      off = c.apply.ensures.body;
+      key = c.apply.ensures.key;
+      position =
+          c.apply.ensures.position;
+    } in
     let digest = ap (λ (o : OpenerState). o.digest) took.stands in
     rw (c.in_ok-digest.ensures.bytes layer.seed layer.absorbed digest)
     (opened_recognised here (place_of c.apply.new.self) layer c.args.body.now c.apply.new.body took
@@ -35,7 +53,13 @@ pub returns-clause-state : goal.returns-clause-state
 returns-clause-state c = λ layer stands.
     let here : OpenerState = record { stream = place_of c.self.inside.stream; digest = c.self.inside.digest } in
     let took : TookOff here (place_of c.apply.new.self) layer c.args.body.now c.apply.new.body =
-    record { stands = c.self.view_is ∙ stands; off = c.apply.ensures.body; key = c.apply.ensures.key; position = c.apply.ensures.position } in
+    record {
+      stands = c.self.view_is ∙ stands;
+      off = c.apply.ensures.body;
+      key = c.apply.ensures.key;
+      position =
+          c.apply.ensures.position;
+    } in
     let digest = ap (λ (o : OpenerState). o.digest) took.stands in
     state_recognised here (place_of c.apply.new.self) c.in_ok-digest.digest layer c.args.body.now c.apply.new.body took
     (c.in_ok-digest.ensures.some layer.seed layer.absorbed digest)
@@ -46,7 +70,13 @@ invariant_of-self c =
     let here : OpenerState = record { stream = place_of c.self.inside.stream; digest = c.self.inside.digest } in
     let layer = c.self.invariant.layer in
     let took : TookOff here (place_of c.apply.new.self) layer c.args.body.now c.apply.new.body =
-    record { stands = c.self.invariant.state_is; off = c.apply.ensures.body; key = c.apply.ensures.key; position = c.apply.ensures.position } in
+    record {
+      stands = c.self.invariant.state_is;
+      off = c.apply.ensures.body;
+      key = c.apply.ensures.key;
+      position =
+          c.apply.ensures.position;
+    } in
     record {
       layer = after_opening layer c.args.body.now;
       state_is = state_other here (place_of c.apply.new.self) layer c.args.body.now c.apply.new.body took
@@ -58,7 +88,13 @@ invariant_of-self-2 c =
     let here : OpenerState = record { stream = place_of c.self.inside.stream; digest = c.self.inside.digest } in
     let layer = c.self.invariant.layer in
     let took : TookOff here (place_of c.apply.new.self) layer c.args.body.now c.apply.new.body =
-    record { stands = c.self.invariant.state_is; off = c.apply.ensures.body; key = c.apply.ensures.key; position = c.apply.ensures.position } in
+    record {
+      stands = c.self.invariant.state_is;
+      off = c.apply.ensures.body;
+      key = c.apply.ensures.key;
+      position =
+          c.apply.ensures.position;
+    } in
     let digest = ap (λ (o : OpenerState). o.digest) took.stands in
     record {
       layer = after_opening layer c.args.body.now;

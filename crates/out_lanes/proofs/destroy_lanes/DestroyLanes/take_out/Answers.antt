@@ -14,7 +14,8 @@ returns-clause-items c =
     let w = written number_keys c.self.inside.lanes (c.get_mut.follows.lender c.retain.new.self) c.args.chan _ _
     (c.get_mut.follows.holds c.retain.new.self) c.in-Some.ensures.value in
     rw (← c.self.view_is)
-    (rw (w.is_line, w.was_line) (filter_same _ (λ d. not (d.id == c.args.id)) _ (λ x r f' k. search rules) _ _ c.retain.ensures.filtered))
+    (rw (w.is_line, w.was_line)
+    (filter_same _ (λ d. not (d.id == c.args.id)) _ (λ x r f' k. search rules) _ _ c.retain.ensures.filtered))
 
 pub returns-clause-capacity : goal.returns-clause-capacity
 returns-clause-capacity c =

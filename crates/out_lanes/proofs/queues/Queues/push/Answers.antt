@@ -33,7 +33,8 @@ returns-in-Some-clause-others c =
 pub returns-in-Some-clause-err : goal.returns-in-Some-clause-err
 returns-in-Some-clause-err c =
     OnErr-by c.push.result
-    (λ same. rewritten pair_keys c.self.inside.queues (c.get_mut.follows.lender c.push.new.self) c.args.leg _ _ (c.get_mut.follows.holds c.push.new.self) c.in-Some.ensures.value same ∙ c.self.view_is)
+    (λ same. rewritten pair_keys c.self.inside.queues (c.get_mut.follows.lender c.push.new.self) c.args.leg _ _
+    (c.get_mut.follows.holds c.push.new.self) c.in-Some.ensures.value same ∙ c.self.view_is)
     c.push.ensures.err
 
 pub returns-in-Some-clause-room : goal.returns-in-Some-clause-room
@@ -60,7 +61,8 @@ pub invariant_of-self-2 : goal.invariant_of-self-2
 invariant_of-self-2 c =
     are-added (c.get_mut.follows.lender-at-none) c.insert.new.self c.args.leg
     (rw c.get_mut.follows.holds-at-none c.self.invariant) _ c.in_ok-insert.ensures.updates
-    (subst EachWellFormed (sym (c.in_ok-push.ensures.ok ∙ ap (λ cells. cells ++ c.args.cell ∷ []) c.new-queue.ensures)) (c.requires, tt))
+    (subst EachWellFormed (sym (c.in_ok-push.ensures.ok ∙ ap (λ cells. cells ++ c.args.cell ∷ []) c.new-queue.ensures))
+    (c.requires, tt))
 
 pub returns-clause-ok : goal.returns-clause-ok
 returns-clause-ok c =

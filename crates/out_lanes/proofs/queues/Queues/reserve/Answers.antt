@@ -29,7 +29,8 @@ pub returns-in_err-insert : goal.returns-in_err-insert
 returns-in_err-insert c =
     let failed = err_from_is_err_and c.from_residual-in_err-insert.result c.from_residual-in_err-insert.ensures.1 in
     reserves-refused _ failed.1
-    (ap from_entries c.in_err-insert.ensures.err ∙ ap (λ m. from_entries m.entries) c.get_mut.follows.holds-at-none ∙ c.self.view_is)
+    (ap from_entries c.in_err-insert.ensures.err ∙ ap (λ m. from_entries m.entries) c.get_mut.follows.holds-at-none
+    ∙ c.self.view_is)
     (none_at pair_keys c.self.inside.queues c.args.leg c.self.view_is c.in_default.ensures.value)
     (omega (arith, c.if-more-eq0.false))
 

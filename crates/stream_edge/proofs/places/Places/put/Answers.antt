@@ -15,5 +15,7 @@ invariant_of-self c =
     IsInStep-put here place content c.self.invariant
     (subst (λ (s : PlacesState). s.calls < 2 ^ 63) (sym c.self.view_is) c.requires.calls)
     c.requires.within
-    (subst (λ (s : PlacesState). (h : PlacedStream) → content ≡ Some h → IsCounted h (s.calls + 1)) (sym c.self.view_is) c.requires.counted)
-    (subst (λ (s : PlacesState). (id : ℕ) → IsTrue (is_live_as id content) → IsTrue (is_live_as id (held_at s place))) (sym c.self.view_is) c.requires.lives)
+    (subst (λ (s : PlacesState). (h : PlacedStream) → content ≡ Some h → IsCounted h (s.calls + 1)) (sym c.self.view_is)
+    c.requires.counted)
+    (subst (λ (s : PlacesState). (id : ℕ) → IsTrue (is_live_as id content) → IsTrue (is_live_as id (held_at s place)))
+    (sym c.self.view_is) c.requires.lives)

@@ -7,12 +7,16 @@ use Rattle.switch_core.proofs.circuit.Circuit.send_first.Goals as goal
 
 pub returns-clause-state : goal.returns-clause-state
 returns-clause-state c =
-    subst (λ (x : CircuitState). FirstSent c.args.now x (circuit_of c.send_first.new.self.state c.self.inside.forth.state c.self.inside.back.state c.self.inside.orders.state)) c.self.view_is
-    (first_sent c.self.inside.forth.state c.self.inside.back.state c.self.inside.orders.state c.self.inside.leg.state c.send_first.new.self.state c.args.now c.self.invariant.queued c.send_first.ensures.state)
+    subst (λ (x : CircuitState). FirstSent c.args.now x
+    (circuit_of c.send_first.new.self.state c.self.inside.forth.state c.self.inside.back.state c.self.inside.orders.state))
+    c.self.view_is
+    (first_sent c.self.inside.forth.state c.self.inside.back.state c.self.inside.orders.state c.self.inside.leg.state
+    c.send_first.new.self.state c.args.now c.self.invariant.queued c.send_first.ensures.state)
 
 pub invariant_of-self : goal.invariant_of-self
 invariant_of-self c =
-    let fewer : length c.send_first.new.self.state.queue ≤ length c.self.inside.leg.state.queue = fewer_wait c.self.inside.leg.state c.send_first.new.self.state c.args.now c.send_first.ensures.state in
+    let fewer : length c.send_first.new.self.state.queue ≤ length c.self.inside.leg.state.queue =
+    fewer_wait c.self.inside.leg.state c.send_first.new.self.state c.args.now c.send_first.ensures.state in
     record {
       queued = omega (arith, c.self.invariant.queued, fewer);
       packaged = c.self.invariant.packaged;

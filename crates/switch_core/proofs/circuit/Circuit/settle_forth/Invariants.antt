@@ -13,7 +13,8 @@ invariant-loop-number l = record {
   forth : l.self-inside.forth ≡ l.initial.self-inside.forth;
   claimed_count : l.self-inside.back.state.claimed_count ≡ l.initial.self-inside.back.state.claimed_count;
   claim_out : l.self-inside.back.state.claim_out ≡ l.initial.self-inside.back.state.claim_out;
-  waiting_bodies : length l.self-inside.back.state.waiting_bodies ≤ length l.initial.self-inside.back.state.waiting_bodies + l.number;
+  waiting_bodies : length l.self-inside.back.state.waiting_bodies ≤ length l.initial.self-inside.back.state.waiting_bodies
+      + l.number;
   room_packaged : l.initial.self-inside.back.spare ≤ l.self-inside.back.spare + l.number;
   room_ordered : l.initial.self-inside.orders.spare ≤ l.self-inside.orders.spare + l.number;
   rooms : l.initial.self-inside.orders.rooms ≤ l.self-inside.orders.rooms + l.number;
@@ -25,8 +26,12 @@ invariant-loop-number l = record {
   dials : l.counters.dial_orders ≤ l.initial.counters.dial_orders + l.number;
   goes_on :
       (events : List Event) → RelayIs l.initial.relay (rules_of l.rules) events l.initial.self-inside.back.state
-      → AreOpened l.opened_bodies (rules_of l.rules) events (circuit_of l.initial.self-inside.leg.state l.initial.self-inside.forth.state l.initial.self-inside.back.state l.initial.self-inside.orders.state)
+      → AreOpened l.opened_bodies (rules_of l.rules) events
+      (circuit_of l.initial.self-inside.leg.state l.initial.self-inside.forth.state l.initial.self-inside.back.state
+      l.initial.self-inside.orders.state)
       → GoesOn (rules_of l.rules) events (kept_cells l.initial.self-inside.forth.state.claim_out)
-      (circuit_of l.initial.self-inside.leg.state l.initial.self-inside.forth.state l.initial.self-inside.back.state l.initial.self-inside.orders.state) l.initial.counters l.number l.relay
-      l.self-inside.leg.state l.self-inside.forth.state l.self-inside.back.state l.self-inside.orders.state l.counters l.opened_bodies;
+      (circuit_of l.initial.self-inside.leg.state l.initial.self-inside.forth.state l.initial.self-inside.back.state
+      l.initial.self-inside.orders.state) l.initial.counters l.number l.relay
+      l.self-inside.leg.state l.self-inside.forth.state l.self-inside.back.state l.self-inside.orders.state l.counters
+      l.opened_bodies;
 }

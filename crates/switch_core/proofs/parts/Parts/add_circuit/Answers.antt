@@ -5,5 +5,7 @@ use Rattle.switch_core.proofs.parts.Parts.add_circuit.Goals as goal
 
 pub invariant_of-self-2 : goal.invariant_of-self-2
 invariant_of-self-2 c =
-    subst (StepsFit (record c.self.inside.counters { steps = c.self.inside.counters.steps + 1 }) c.self.inside.channels.items) (sym c.in_ok-push.ensures.items)
-    (fits_opened c.self.inside.counters c.self.inside.channels.items c.self.inside.circuits.items c.new-2.result c.self.invariant (ap taken_count c.new-2.ensures))
+    subst (StepsFit (record c.self.inside.counters { steps = c.self.inside.counters.steps + 1 }) c.self.inside.channels.items)
+    (sym c.in_ok-push.ensures.items)
+    (fits_opened c.self.inside.counters c.self.inside.channels.items c.self.inside.circuits.items c.new-2.result c.self.invariant
+    (ap taken_count c.new-2.ensures))

@@ -8,17 +8,21 @@ use Rattle.switch_core.proofs.parts.Parts.circuit_with.Goals as goal
 pub returns-then-slot_has_port-clause-leg : goal.returns-then-slot_has_port-clause-leg
 returns-then-slot_has_port-clause-leg c =
     let slot : Option CircuitState = c.index-slot.result.now in
-    let below : c.loop-number.number < length c.self.inside.circuits.items = omega (arith, c.len-number-end.ensures, c.loop-number-test.true, c.self.inside.circuits.ok) in
+    let below : c.loop-number.number < length c.self.inside.circuits.items =
+    omega (arith, c.len-number-end.ensures, c.loop-number-test.true, c.self.inside.circuits.ok) in
     let live : slot_at c.args.self.now.circuits c.loop-number.number ≡ slot =
     circuit_read _ _ c.self.inside.circuits.items c.args.self.now c.loop-number.number slot c.self.view_is below
     c.index-slot.ensures in
-    let inside : c.loop-number.number < length c.args.self.now.circuits = subst (λ (s : State). c.loop-number.number < length s.circuits) c.self.view_is below in
-    first_with c.args.self.now c.args.chan.0 c.args.id c.loop-number.number slot c.slot_has_port.result live c.slot_has_port.ensures.one_leg c.slot_has_port.ensures.port c.if-slot_has_port.true c.loop-number.invariant inside
+    let inside : c.loop-number.number < length c.args.self.now.circuits =
+    subst (λ (s : State). c.loop-number.number < length s.circuits) c.self.view_is below in
+    first_with c.args.self.now c.args.chan.0 c.args.id c.loop-number.number slot c.slot_has_port.result live
+    c.slot_has_port.ensures.one_leg c.slot_has_port.ensures.port c.if-slot_has_port.true c.loop-number.invariant inside
 
 pub returns-then-slot_has_port-clause-one_leg : goal.returns-then-slot_has_port-clause-one_leg
 returns-then-slot_has_port-clause-one_leg c =
     let slot : Option CircuitState = c.index-slot.result.now in
-    let below : c.loop-number.number < length c.self.inside.circuits.items = omega (arith, c.len-number-end.ensures, c.loop-number-test.true, c.self.inside.circuits.ok) in
+    let below : c.loop-number.number < length c.self.inside.circuits.items =
+    omega (arith, c.len-number-end.ensures, c.loop-number-test.true, c.self.inside.circuits.ok) in
     let live : slot_at c.args.self.now.circuits c.loop-number.number ≡ slot =
     circuit_read _ _ c.self.inside.circuits.items c.args.self.now c.loop-number.number slot c.self.view_is below
     c.index-slot.ensures in
@@ -27,8 +31,10 @@ returns-then-slot_has_port-clause-one_leg c =
 pub loop-number-preserved : goal.loop-number-preserved
 loop-number-preserved c =
     let slot : Option CircuitState = c.index-slot.result.now in
-    let below : c.loop-number.number < length c.self.inside.circuits.items = omega (arith, c.len-number-end.ensures, c.loop-number-test.true, c.self.inside.circuits.ok) in
+    let below : c.loop-number.number < length c.self.inside.circuits.items =
+    omega (arith, c.len-number-end.ensures, c.loop-number-test.true, c.self.inside.circuits.ok) in
     let live : slot_at c.args.self.now.circuits c.loop-number.number ≡ slot =
     circuit_read _ _ c.self.inside.circuits.items c.args.self.now c.loop-number.number slot c.self.view_is below
     c.index-slot.ensures in
-    one_further c.args.self.now c.args.chan.0 c.args.id c.loop-number.number slot c.slot_has_port.result live c.slot_has_port.ensures.one_leg c.slot_has_port.ensures.port c.if-slot_has_port.false c.loop-number.invariant
+    one_further c.args.self.now c.args.chan.0 c.args.id c.loop-number.number slot c.slot_has_port.result live
+    c.slot_has_port.ensures.one_leg c.slot_has_port.ensures.port c.if-slot_has_port.false c.loop-number.invariant

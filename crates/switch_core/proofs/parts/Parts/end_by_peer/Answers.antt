@@ -4,4 +4,6 @@ use Rattle.switch_core.proofs.Takes.{ended_none}
 use Rattle.switch_core.proofs.parts.Parts.end_by_peer.Goals as goal
 
 pub returns-in_default-clause-state : goal.returns-in_default-clause-state
-returns-in_default-clause-state c = ap counted (c.self.view_is ∙ c.in_default.ensures.none.1) ∙ ended_none c.args.self.now c.args.circ.0 c.in_default.ensures.none.0
+returns-in_default-clause-state c =
+    ap counted (c.self.view_is ∙ c.in_default.ensures.none.1)
+    ∙ ended_none c.args.self.now c.args.circ.0 c.in_default.ensures.none.0

@@ -10,5 +10,7 @@ returns-in-None-clause-answer c = none_claimed c.args.switch c.args.self.now c.a
 pub returns-in-Some-clause-answer : goal.returns-in-Some-clause-answer
 returns-in-Some-clause-answer c =
     let live : slot_at c.args.self.now.circuits c.in-Some.offer.circ ≡ c.index.result.now =
-    circuit_at _ _ _ c.args.self.now c.in-Some.offer.circ c.index.result.now c.self.view_is c.in-Some.ensures.inside ∙ sym c.index.ensures in
-    one_claimed c.args.switch c.args.self.now c.args.worker c.in-Some.offer c.index.result.now c.note_of.result c.in-Some.ensures.offer live c.note_of.ensures.answer
+    circuit_at _ _ _ c.args.self.now c.in-Some.offer.circ c.index.result.now c.self.view_is c.in-Some.ensures.inside
+    ∙ sym c.index.ensures in
+    one_claimed c.args.switch c.args.self.now c.args.worker c.in-Some.offer c.index.result.now c.note_of.result
+    c.in-Some.ensures.offer live c.note_of.ensures.answer

@@ -7,4 +7,5 @@ use Rattle.switch_core.proofs.parts.Parts.picked.Given as goal
 abbrev pub invariant-loop-number : goal.invariant-loop-number
 invariant-loop-number l =
     (l.now ≡ max l.self.tick l.new_tick)
-    × Picks l.self l.new_tick l.number l.least (least_of (cell_count_in l.self l.new_tick) (waiting_before l.self l.chan.0 l.number))
+    × Picks l.self l.new_tick l.number l.least
+    (least_of (cell_count_in l.self l.new_tick) (waiting_before l.self l.chan.0 l.number))

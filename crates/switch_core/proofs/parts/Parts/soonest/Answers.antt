@@ -9,15 +9,28 @@ use Rattle.switch_core.proofs.parts.Parts.soonest.Goals as goal
 pub loop-number-preserved : goal.loop-number-preserved
 loop-number-preserved c =
     let slot : Option CircuitState = c.index-slot.result.now in
-    let below : c.loop-number.number < length c.self.inside.circuits.items = omega (arith, c.len-number-end.ensures, c.loop-number-test.true, c.self.inside.circuits.ok) in
+    let below : c.loop-number.number < length c.self.inside.circuits.items =
+    omega (arith, c.len-number-end.ensures, c.loop-number-test.true, c.self.inside.circuits.ok) in
     let live : slot_at c.args.self.now.circuits c.loop-number.number ≡ slot =
     circuit_read _ _ c.self.inside.circuits.items c.args.self.now c.loop-number.number slot c.self.view_is below
     c.index-slot.ensures in
-    circuit_more c.args.self.now c.loop-number.number slot c.loop-number.best c.sooner-with_forth.result c.sooner-best.result c.slot_offer-forth.result c.slot_offer-back.result
-    live c.slot_offer-forth.ensures c.slot_offer-back.ensures c.sooner-with_forth.ensures c.sooner-best.ensures c.loop-number.invariant
+    circuit_more c.args.self.now c.loop-number.number slot c.loop-number.best c.sooner-with_forth.result c.sooner-best.result
+    c.slot_offer-forth.result c.slot_offer-back.result
+    live c.slot_offer-forth.ensures c.slot_offer-back.ensures c.sooner-with_forth.ensures c.sooner-best.ensures
+    c.loop-number.invariant
 
 pub returns-clause-inside : goal.returns-clause-inside
 returns-clause-inside c =
-    let all : length c.self.inside.circuits.items ≡ length c.args.self.now.circuits = ap (λ (s : State). length s.circuits) c.self.view_is in
-    let last : c.loop-number.number ≡ length c.args.self.now.circuits = omega (arith, c.loop-number-test.false, c.loop-number.auto.number-end, c.len-number-end.ensures, c.self.inside.circuits.ok, all) in
-    offer_inside c.args.self.now c.loop-number.best (subst (λ n. option_map offer_of c.loop-number.best ≡ soonest_below c.args.self.now n) last c.loop-number.invariant)
+    let all : length c.self.inside.circuits.items ≡ length c.args.self.now.circuits =
+    ap (λ (s : State). length s.circuits) c.self.view_is in
+    let last : c.loop-number.number ≡ length c.args.self.now.circuits =
+    omega (
+      arith,
+      c.loop-number-test.false,
+      c.loop-number.auto.number-end,
+      c.len-number-end.ensures,
+      c.self.inside.circuits.ok,
+      all,
+    ) in
+    offer_inside c.args.self.now c.loop-number.best
+    (subst (λ n. option_map offer_of c.loop-number.best ≡ soonest_below c.args.self.now n) last c.loop-number.invariant)

@@ -10,6 +10,8 @@ use Rattle.switch_core.proofs.way.Way.command_out.Goals as goal
 pub returns : goal.returns
 returns c =
     ap (λ (w : WaitingCell). w.cell.command) c.behind-self.view_is
-    ∙ command_out c.self.inside.claimed_count c.self.inside.claim c.self.inside.bodies.items c.args.number c.index.result.now c.index.result.now c.self.invariant
-    (subst (λ (w : WithRoom WayState). c.args.number < kept_length w.state.claim_out) (sym c.self.view_is) c.requires) c.index.ensures
+    ∙ command_out c.self.inside.claimed_count c.self.inside.claim c.self.inside.bodies.items c.args.number c.index.result.now
+    c.index.result.now c.self.invariant
+    (subst (λ (w : WithRoom WayState). c.args.number < kept_length w.state.claim_out) (sym c.self.view_is) c.requires)
+    c.index.ensures
     ∙ ap (λ (w : WithRoom WayState). command_at c.args.number (kept_cells w.state.claim_out)) c.self.view_is

@@ -7,7 +7,8 @@ use Rattle.switch_core.proofs.way.Way.out_count.Goals as goal
 
 pub returns-in-Some : goal.returns-in-Some
 returns-in-Some c =
-    sym (out_some c.self.inside.claimed_count c.self.inside.claim c.self.inside.bodies.items c.in-Some.note c.self.invariant c.in-Some.is)
+    sym (out_some c.self.inside.claimed_count c.self.inside.claim c.self.inside.bodies.items c.in-Some.note c.self.invariant
+    c.in-Some.is)
     ∙ ap (λ (w : WithRoom WayState). kept_length w.state.claim_out) c.self.view_is
 
 pub returns-in-None : goal.returns-in-None

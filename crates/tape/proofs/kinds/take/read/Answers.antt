@@ -11,7 +11,8 @@ returns-in-Some-clause-front c =
     let fields : List ℕ = c.args.fields.now in
     let bytes : List ℕ = take (length fields - 8) (drop 8 fields) in
     let formed : IsWellFormed c.in-Some.cell = rw c.in-Some.is at c.in_ok-cell.ensures.well_formed in
-    let found : cell_at bytes ≡ Some (wire_cell c.in-Some.cell, c.in-Some.rest_bytes.now) = rw c.in-Some.is at c.in_ok-cell.ensures.cell in
+    let found : cell_at bytes ≡ Some (wire_cell c.in-Some.cell, c.in-Some.rest_bytes.now) =
+    rw c.in-Some.is at c.in_ok-cell.ensures.cell in
     taken c.from_be_bytes.result fields bytes c.in-Some.rest_bytes.now c.in-Some.cell (omega (arith, c.if-fields-lt8.false))
     (c.from_be_bytes.ensures ∙ ap (from_be_bytes w64) c.field.ensures) (take_rest fields 8) formed found
 

@@ -4,4 +4,5 @@ use Rattle.tr_io.proofs.memory_outlet_out.MemoryOutletOutOutletOut.reach.Goals a
 
 pub returns-clause-sessions : goal.returns-clause-sessions
 returns-clause-sessions c =
-    ap Some (reached c.args.self.now.sessions.items c.push.new.self.items c.args.to c.len-number.result (search rules) (search rules))
+    ap Some (reached c.args.self.now.sessions.items c.push.new.self.items c.args.to c.len-number.result (search rules)
+    (search rules))

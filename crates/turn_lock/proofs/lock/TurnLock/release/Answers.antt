@@ -8,7 +8,8 @@ pub store-requires : goal.store-requires
 store-requires g c = let m = c.args.seat.now.me in let h = c.requires.holding in (
   search rules,
   search rules,
-  gives_turn g.T.Kept.stands g.T.Kept.is_legal _ _ _ _ m h.state g.J.Adding.step _ h.turn h.slot c.requires.word.0 c.requires.word.1 h.stands_is h.legal_is,
+  gives_turn g.T.Kept.stands g.T.Kept.is_legal _ _ _ _ m h.state g.J.Adding.step _ h.turn h.slot c.requires.word.0
+      c.requires.word.1 h.stands_is h.legal_is,
 )
 
 pub returns-clause-gave : goal.returns-clause-gave

@@ -10,4 +10,5 @@ split_seat-seat-requires g c =
 
 pub returns-clause-fresh : goal.returns-clause-fresh
 returns-clause-fresh g c =
-    subst (λ v. (own_steps v ≡ []) × (steps_by_share v ≡ [] ∷ [])) (sym (ap (λ x. x.0) c.split_seat-seat.ensures.4)) (no_steps c.args.pass.now.seat.me.0)
+    subst (λ v. (own_steps v ≡ []) × (steps_by_share v ≡ [] ∷ [])) (sym (ap (λ x. x.0) c.split_seat-seat.ensures.4))
+    (no_steps c.args.pass.now.seat.me.0)

@@ -7,5 +7,9 @@ store-requires g c =
     (search rules, search rules, sleeps g.T.Kept.stands g.T.Kept.is_legal _ _ _ _ _ c.args.seat.now.me (λ (n : ℕ). 0))
 
 pub fetch_add-requires : goal.fetch_add-requires
-fetch_add-requires g c =
-    (search rules, search rules, sleeps g.T.Kept.stands g.T.Kept.is_legal _ _ _ _ _ c.store.new.seat.me (λ (n : ℕ). (n + 1) % 2 ^ 64))
+fetch_add-requires g c = (
+  search rules,
+  search rules,
+  sleeps g.T.Kept.stands g.T.Kept.is_legal _ _ _ _ _ c.store.new.seat.me
+      (λ (n : ℕ). (n + 1) % 2 ^ 64),
+)
