@@ -50,7 +50,7 @@ use Rattle.switch_core.specs.Started.{SwitchAdds}
 use Rattle.switch_core.specs.declared.relay.Relay.{Relay}
 use Rattle.switch_core.proofs.ForthHome.{circuit_stands, relay_of}
 use Rattle.switch_core.specs.Homecoming.{PutsRelay}
-use Rattle.switch_core.proofs.ForthWhole.{home_at, relays_put, stays_live}
+use Rattle.switch_core.proofs.ForthRelays.{home_at, relays_put, stays_live}
 use Rattle.switch_machine.proofs.Take.CellCounts.{kept-count}
 use Rattle.switch_core.proofs.Whole.{started}
 

@@ -1,5 +1,5 @@
 -- Worked jobs that come home: those that are refused, and those that are what the switch gave out.
-use Rattle.std.proofs.Common.{◌≡◌, ℕ, ◌+◌, ◌==◌, ◌≤◌, ◌<◌, not, nat_lt, if◌then◌else◌, Bool, true, false, List, ◌∷◌, length, map, Option, Some, None, refl, sym, ◌∙◌, ap, subst}
+use Rattle.std.proofs.Common.{◌≡◌, ℕ, ◌==◌, ◌≤◌, ◌<◌, not, nat_lt, if◌then◌else◌, Bool, true, false, List, ◌∷◌, length, map, Option, Some, None, refl, sym, ◌∙◌, ap, subst}
 use Rattle.std.proofs.lemmas.Bool.{ltb-true}
 use Rattle.circuit_model.specs.Batches.{body_of}
 use Rattle.circuit_model.specs.Events.{Event}
@@ -7,7 +7,6 @@ use Rattle.circuit_model.specs.Rules.{Rules}
 use Rattle.hop_crypto.specs.Jobs.{IsDoneJob}
 use Rattle.hop_crypto.specs.declared.cipher.Cipher.{Cipher}
 use Rattle.hop_crypto.specs.declared.parts.DoneParts.{DoneParts}
-use Rattle.relay_cell.specs.declared.head.Opened.{Opened}
 use Rattle.tr_io.specs.declared.answers.BackAnswer.{BackAnswer}
 use Rattle.tr_io.specs.declared.answers.Difference.{Difference}
 use Rattle.tr_io.specs.declared.names.ClaimNote.{ClaimNote}
@@ -15,7 +14,7 @@ use Rattle.tr_io.specs.declared.names.Dir.{Dir}
 use Rattle.tr_io.specs.declared.names.Dir.TheVariants.{Forth, Back}
 use Rattle.tr_io.specs.declared.step.Step.{Step}
 use Rattle.tr_io.specs.declared.step.Step.TheVariants.{GiveBack}
-use Rattle.switch_model.specs.Answers.GiveBack.{done_by, is_note}
+use Rattle.switch_model.specs.Answers.GiveBack.{is_note}
 use Rattle.switch_model.specs.History.Circuit.{events, is_accepted_return, is_live_circuit}
 use Rattle.switch_model.specs.History.EdgePast.{edge_past}
 use Rattle.switch_model.specs.History.Legs.{circuits, holds_id}
@@ -30,19 +29,18 @@ use Rattle.switch_machine.specs.Machine.{counted, kept_cells, kept_note, way_of_
 use Rattle.switch_machine.specs.State.{CircuitState, KeptClaim, State, slot_at}
 use Rattle.switch_machine.proofs.GiveBack.Law.{give_back_adds}
 use Rattle.switch_machine.proofs.GiveBack.Said.{is-kept}
-use Rattle.switch_core.specs.Homecoming.{HomeBack, HomeForth}
 use Rattle.switch_core.specs.Meaning.{home_count}
 use Rattle.switch_core.specs.Relays.{RelayAt, RelaysStand, RelayStands}
-use Rattle.switch_core.specs.Returning.{bodies_out, IsPlace, OfPlace, refusal, refusal_on, RefusedCase, start_out}
-use Rattle.switch_core.specs.Sealing.{sealed_by, sealed_cells_of}
-use Rattle.switch_core.specs.Settling.{CallsFit, CallsGrow, PartsSettle}
-use Rattle.switch_core.specs.Started.{Started, SwitchAdds, SwitchStands, SwitchStandsForSome}
+use Rattle.switch_core.specs.Returning.{bodies_out, IsPlace, refusal, refusal_on, RefusedCase, start_out}
+use Rattle.switch_core.specs.Settling.{CallsFit}
+use Rattle.switch_core.specs.Started.{SwitchAdds, SwitchStands}
 use Rattle.switch_core.specs.declared.relay.Relay.{Relay}
-use Rattle.switch_core.proofs.BackWhole.{back_out, back_whole, IsHomeBack}
+use Rattle.switch_core.proofs.BackWhole.{back_out, IsHomeBack}
 use Rattle.switch_core.proofs.ForthHome.{calls_fit, circuit_stands, relay_of}
-use Rattle.switch_core.proofs.ForthWhole.{forth_whole, IsHomeForth, settles_of}
+use Rattle.switch_core.proofs.ForthWhole.{IsHomeForth}
 use Rattle.switch_core.proofs.Homes.{IsThere}
-use Rattle.switch_core.proofs.Returns.{IsRefusal, of_parts, out_bodies, passed_by, refused_by}
+use Rattle.switch_core.proofs.Returns.{IsRefusal, refused_by}
+use Rattle.switch_core.proofs.HomeReturns.{out_bodies, passed_by}
 use Rattle.switch_core.proofs.Whole.{started}
 
 -- a return that is refused
@@ -226,108 +224,3 @@ home_back start s relays done back home = record {
   start = starts-back home.relay done.note.dir done.start back home.begins;
   input = home.input;
 }
-
--- the place of a done job
-
-pub of_done : (s : Started) (done parts : DoneParts) (relays : List (Option Relay)) (bodies : List (List ℕ)) (place : Option ℕ)
-    (P : ClaimNote → Option ℕ → Type 0) → parts ≡ done → relays ≡ s.relays → bodies ≡ parts.input.items →
-    IsPlace relays s.state parts.note parts.start bodies place → P parts.note place
-    → OfPlace s done.note done.start done.input.items (λ p. P done.note p)
-of_done s done parts relays bodies place P same there all first fact =
-    subst (λ (d : DoneParts). OfPlace s d.note d.start d.input.items (λ p. P d.note p)) same
-    (of_parts s relays parts.note parts.start bodies parts.input.items place (λ p. P parts.note p) there all first fact)
-
--- the steps
-
-record IsGiven (start : SwitchStart) (s : State) (relays : List (Option Relay)) (done : DoneParts) (place : Option ℕ) : Type 0
-  where
-    history : List Step
-    stands : SwitchStands (started start s relays) history
-    home : IsHome start s relays done
-    no_place : place ≡ None
-
-is-given : (start : SwitchStart) (s : State) (relays : List (Option Relay)) (done : DoneParts) (bodies : List (List ℕ))
-    (place : Option ℕ) → SwitchStandsForSome (started start s relays) → IsDoneJob done
-    → length done.output.items ≡ length done.input.items → bodies ≡ done.input.items →
-    IsPlace relays s done.note done.start bodies place → refusal start.name s done.note place ≡ None
-    → IsGiven start s relays done place
-is-given start s relays done bodies place some job many all first passes = record {
-  history = some.history;
-  stands = some.stands;
-  home = is_home start s relays some.history done place some.stands job many
-      (subst (λ l. IsPlace relays s done.note done.start l place) all first) passes;
-  no_place = (passed_by start.name s done.note place (λ x. BackAnswer.Settled) passes).no_place;
-}
-
-same-relay : (slot : Option Relay) (a b : Relay) → slot ≡ Some a → slot ≡ Some b → a ≡ b
-same-relay slot a b one other = let same : Some a ≡ Some b = sym one ∙ other in cc
-
-pub forth_given : (start : SwitchStart) (old mid new : State) (relays after : List (Option Relay)) (done : DoneParts)
-    (bodies : List (List ℕ)) (opened_bodies : List Opened) (place : Option ℕ) (a : BackAnswer)
-    → SwitchStandsForSome (started start old relays) → IsDoneJob done →
-    length done.output.items ≡ length done.input.items → bodies ≡ done.input.items
-    → IsPlace relays old done.note done.start bodies place → refusal start.name old done.note place ≡ None → mid ≡ old
-    → done.note.dir ≡ Forth → opened_bodies ≡ done.output.items →
-    HomeForth start.rules mid new relays after done.note.circ.0 done.end opened_bodies a
-    → SwitchAdds (started start old relays) (started start new after) (GiveBack done.note place a)
-forth_given start old mid new relays after done bodies opened_bodies place a some job many all first passes same forth outputs
-    behind =
-    let given = is-given start old relays done bodies place some job many all first passes in
-    let home = home_forth start old relays done forth given.home in
-    let relay : given.home.relay ≡ behind.relay =
-    same-relay (slot_at relays done.note.circ.0) given.home.relay behind.relay given.home.there behind.there in
-    subst (λ p. SwitchAdds (started start old relays) (started start new after) (GiveBack done.note p a)) (sym given.no_place)
-    (forth_whole start old new relays after done given.home.circuit given.home.claim_out behind.relay behind.next a
-    (subst (λ r. IsHomeForth start.name old relays done given.home.circuit given.home.claim_out r) relay home)
-    (subst (λ s. PartsSettle start.rules s new done.note.circ.0 behind.relay.circuit behind.next.circuit done.output.items a) same
-    (subst (λ l. PartsSettle start.rules mid new done.note.circ.0 behind.relay.circuit behind.next.circuit l a) outputs
-    behind.settles))
-    (behind.steps ∙ ap (λ (s : State). s.steps + 1) same) behind.forth behind.back
-    (subst (λ (l : List Opened). CallsGrow (length l) behind.relay.circuit behind.next.circuit) outputs behind.grown)
-    behind.home)
-
-settled-case : (reason : Option ℕ) (P : Type 0) → RefusedCase (done_by reason) P
-settled-case None P = tt
-settled-case (Some reason) P = tt
-
-pub forth_case : (start : SwitchStart) (old mid new : State) (relays after : List (Option Relay)) (done : DoneParts)
-    (bodies : List (List ℕ)) (opened_bodies : List Opened) (place : Option ℕ) (a : BackAnswer) (P : Type 0)
-    → SwitchStandsForSome (started start old relays) → IsDoneJob done →
-    length done.output.items ≡ length done.input.items → bodies ≡ done.input.items
-    → IsPlace relays old done.note done.start bodies place → refusal start.name old done.note place ≡ None → mid ≡ old
-    → done.note.dir ≡ Forth → opened_bodies ≡ done.output.items →
-    HomeForth start.rules mid new relays after done.note.circ.0 done.end opened_bodies a → RefusedCase a P
-forth_case start old mid new relays after done bodies opened_bodies place a P some job many all first passes same forth outputs
-    behind =
-    let given = is-given start old relays done bodies place some job many all first passes in
-    let home = home_forth start old relays done forth given.home in
-    let relay : given.home.relay ≡ behind.relay =
-    same-relay (slot_at relays done.note.circ.0) given.home.relay behind.relay given.home.there behind.there in
-    let settles =
-    settles_of start old new given.history relays done given.home.circuit given.home.claim_out behind.relay behind.next a
-    (subst (λ r. IsHomeForth start.name old relays done given.home.circuit given.home.claim_out r) relay home) given.stands
-    (subst (λ s. PartsSettle start.rules s new done.note.circ.0 behind.relay.circuit behind.next.circuit done.output.items a) same
-    (subst (λ l. PartsSettle start.rules mid new done.note.circ.0 behind.relay.circuit behind.next.circuit l a) outputs
-    behind.settles)) in
-    subst (λ b. RefusedCase b P) (sym settles.answer_is) (settled-case _ P)
-
-pub back_given : (start : SwitchStart) (old mid new : State) (relays after : List (Option Relay)) (done : DoneParts)
-    (bodies : List (List ℕ)) (sealed : List Opened) (place : Option ℕ) → SwitchStandsForSome (started start old relays)
-    → IsDoneJob done →
-    length done.output.items ≡ length done.input.items → bodies ≡ done.input.items
-    → IsPlace relays old done.note done.start bodies place → refusal start.name old done.note place ≡ None → mid ≡ old
-    → done.note.dir ≡ Back → sealed ≡ done.output.items →
-    HomeBack mid new relays after done.note.circ.0 done.end sealed
-    → SwitchAdds (started start old relays) (started start new after) (GiveBack done.note place BackAnswer.Settled)
-back_given start old mid new relays after done bodies sealed place some job many all first passes same back outputs behind =
-    let given = is-given start old relays done bodies place some job many all first passes in
-    let home = home_back start old relays done back given.home in
-    let relay : given.home.relay ≡ behind.relay =
-    same-relay (slot_at relays done.note.circ.0) given.home.relay behind.relay given.home.there behind.there in
-    subst (λ p. SwitchAdds (started start old relays) (started start new after) (GiveBack done.note p BackAnswer.Settled))
-    (sym given.no_place)
-    (back_whole start old new relays after done given.home.circuit given.home.claim_out behind.relay
-    (record behind.relay { back = done.end })
-    (subst (λ r. IsHomeBack start.name old relays done given.home.circuit given.home.claim_out r) relay home)
-    (behind.state ∙ ap (λ s. sealed_by s done.note.circ.0 (sealed_cells_of sealed)) same
-    ∙ ap (λ l. sealed_by old done.note.circ.0 (sealed_cells_of l)) outputs) refl refl refl behind.puts)

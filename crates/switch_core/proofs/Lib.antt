@@ -14,10 +14,15 @@ pub mod Finding
 pub mod Ways
 pub mod Taken
 pub mod Takes
+pub mod LegCells
+pub mod TakeSteps
 pub mod Settles
+pub mod SettlesOn
+pub mod SettleRoom
 pub mod Settled
 pub mod ForthHome
 pub mod ForthWhole
+pub mod ForthRelays
 pub mod Claims
 pub mod Offers
 pub mod Claimed
@@ -25,4 +30,6 @@ pub mod Serving
 pub mod Seals
 pub mod BackWhole
 pub mod Returns
+pub mod HomeReturns
 pub mod GivenBack
+pub mod GivenSteps

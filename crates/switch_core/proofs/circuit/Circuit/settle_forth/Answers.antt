@@ -11,7 +11,9 @@ use Rattle.switch_machine.specs.State.{CircuitState, LegState, WayState}
 use Rattle.switch_machine.proofs.Take.CellCounts.{kept-count}
 use Rattle.switch_core.specs.Meaning.{WithRoom, circuit_of, home_count}
 use Rattle.switch_core.specs.Settling.{AreOpened, RelayIs, SettlesForth, command_at}
-use Rattle.switch_core.proofs.Settles.{next_cell, goes, goes_unclosed, all_went, applied_as, closes_circuit, counts_more, counts_on, one_more_back, queued_still, some_reason, no_reason, fewer_than_kept}
+use Rattle.switch_core.proofs.Settles.{next_cell}
+use Rattle.switch_core.proofs.SettlesOn.{goes, all_went, closes_circuit, some_reason, no_reason}
+use Rattle.switch_core.proofs.SettleRoom.{goes_unclosed, applied_as, counts_more, counts_on, one_more_back, queued_still, fewer_than_kept}
 use Rattle.switch_core.proofs.circuit.Circuit.settle_forth.Goals as goal
 
 pub returns-clause-settles : goal.returns-clause-settles

@@ -1,6 +1,7 @@
 use Rattle.std.proofs.Common.{sym, ap, ◌∙◌}
 use Rattle.switch_machine.specs.Machine.{counted}
-use Rattle.switch_core.proofs.Returns.{refused_answer, refused_state, torn_answer, torn_state_is}
+use Rattle.switch_core.proofs.Returns.{refused_answer, refused_state}
+use Rattle.switch_core.proofs.HomeReturns.{torn_answer, torn_state_is}
 use Rattle.switch_core.proofs.parts.Parts.abandon.Goals as goal
 
 pub returns-in-Some-clause-state : goal.returns-in-Some-clause-state

@@ -1,4 +1,4 @@
-use Rattle.switch_core.proofs.Takes.{closed_other}
+use Rattle.switch_core.proofs.TakeSteps.{closed_other}
 use Rattle.switch_core.proofs.parts.Parts.close.Goals as goal
 
 pub returns-in_default-clause-answer : goal.returns-in_default-clause-answer

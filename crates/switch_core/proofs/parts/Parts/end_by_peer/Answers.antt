@@ -1,6 +1,6 @@
 use Rattle.std.proofs.Common.{ap, ◌∙◌}
 use Rattle.switch_machine.specs.Machine.{counted}
-use Rattle.switch_core.proofs.Takes.{ended_none}
+use Rattle.switch_core.proofs.TakeSteps.{ended_none}
 use Rattle.switch_core.proofs.parts.Parts.end_by_peer.Goals as goal
 
 pub returns-in_default-clause-state : goal.returns-in_default-clause-state

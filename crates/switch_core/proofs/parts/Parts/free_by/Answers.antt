@@ -3,7 +3,7 @@ use Rattle.switch_core.proofs.Lanes.{lanes_at, lanes_same, freed_shorter}
 use Rattle.switch_core.proofs.Leaves.{channel_put}
 use Rattle.switch_core.proofs.Plain.{there, beyond}
 use Rattle.switch_machine.specs.State.{slot_at}
-use Rattle.switch_core.proofs.Takes.{no_lane_to_free, lane_freed}
+use Rattle.switch_core.proofs.TakeSteps.{no_lane_to_free, lane_freed}
 use Rattle.switch_core.proofs.parts.Parts.free_by.Goals as goal
 
 pub returns-then-chan-len : goal.returns-then-chan-len

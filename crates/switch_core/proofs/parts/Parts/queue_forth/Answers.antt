@@ -5,7 +5,8 @@ use Rattle.switch_machine.specs.Machine.{counted}
 use Rattle.switch_machine.specs.State.{CircuitState, slot_at}
 use Rattle.switch_core.specs.Taking.{queued_answer, slot_with_body}
 use Rattle.switch_core.proofs.Leaves.{circuit_put, circuit_read}
-use Rattle.switch_core.proofs.Takes.{case_by, case_of, fact_of, differ, gone_forth, gone_forth_said, queued_put, passed_put}
+use Rattle.switch_core.proofs.Takes.{case_by, case_of, fact_of, differ}
+use Rattle.switch_core.proofs.TakeSteps.{gone_forth, gone_forth_said, queued_put, passed_put}
 use Rattle.switch_core.proofs.Taken.{fits_taken, taken_at, waits_fits}
 use Rattle.switch_core.proofs.TearDown.{out_far}
 use Rattle.switch_core.proofs.parts.Parts.queue_forth.Goals as goal

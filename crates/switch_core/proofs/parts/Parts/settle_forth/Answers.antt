@@ -7,7 +7,7 @@ use Rattle.switch_machine.specs.Machine.{kept_cells}
 use Rattle.switch_machine.specs.State.{CircuitState, State, with_slot}
 use Rattle.switch_core.specs.Settling.{AreOpened, CallsFit, RelayIs, SettlesForth}
 use Rattle.switch_core.specs.Meaning.{home_count}
-use Rattle.switch_core.proofs.Takes.{no_rules}
+use Rattle.switch_core.proofs.TakeSteps.{no_rules}
 use Rattle.switch_core.proofs.ForthHome.{calls_for}
 use Rattle.switch_core.proofs.Leaves.{circuit_put}
 use Rattle.switch_core.proofs.Settled.{live_slot, finished_steps, fits_settled, is_inside, settled_fits, settles_by, some_is}

@@ -1,7 +1,8 @@
 use Rattle.std.proofs.Common.{sym, ap, ◌∙◌}
 use Rattle.switch_model.specs.Names.{circuit_cell}
 use Rattle.switch_machine.specs.Machine.{counted}
-use Rattle.switch_core.proofs.Takes.{passed_state, is_on_leg}
+use Rattle.switch_core.proofs.Takes.{passed_state}
+use Rattle.switch_core.proofs.TakeSteps.{is_on_leg}
 use Rattle.switch_core.proofs.parts.Parts.take.Goals as goal
 
 pub returns-in-Some-clause-state : goal.returns-in-Some-clause-state

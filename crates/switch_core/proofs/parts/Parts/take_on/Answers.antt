@@ -4,7 +4,9 @@ use Rattle.tor_spec.specs.Reasons.{destroy_destroyed, destroy_protocol, destroy_
 use Rattle.switch_machine.specs.State.{slot_at}
 use Rattle.switch_model.specs.Names.{circuit_cell}
 use Rattle.switch_core.specs.Taking.{body_count}
-use Rattle.switch_core.proofs.Takes.{case_by, case_of, closed_no_memory, closed_left, created2_said, destroy_said, ended_left, full_said, queued_said, queued_case}
+use Rattle.switch_core.proofs.Takes.{case_by, case_of, closed_no_memory}
+use Rattle.switch_core.proofs.LegCells.{closed_left, created2_said, destroy_said, ended_left, full_said, queued_said}
+use Rattle.switch_core.proofs.TakeSteps.{queued_case}
 use Rattle.switch_core.proofs.parts.Parts.take_on.Goals as goal
 
 pub returns-then-cell-eq-DESTROY-clause-state : goal.returns-then-cell-eq-DESTROY-clause-state

@@ -4,7 +4,8 @@ use Rattle.switch_machine.specs.Machine.{counted}
 use Rattle.switch_core.specs.Meaning.{start_of}
 use Rattle.switch_core.specs.Returning.{OfPlace, RefusedCase}
 use Rattle.switch_core.specs.Started.{Started, SwitchAdds}
-use Rattle.switch_core.proofs.Returns.{of_place, refused_leaves}
+use Rattle.switch_core.proofs.Returns.{refused_leaves}
+use Rattle.switch_core.proofs.HomeReturns.{of_place}
 use Rattle.switch_core.proofs.Steps.{abandon_whole}
 use Rattle.switch_core.proofs.Whole.{started, whole_stays}
 use Rattle.switch_core.proofs.switch.Switch.abandon.Goals as goal

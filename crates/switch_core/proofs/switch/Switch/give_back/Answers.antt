@@ -4,7 +4,8 @@ use Rattle.tr_io.specs.declared.step.Step.TheVariants.{GiveBack}
 use Rattle.switch_core.specs.Meaning.{start_of}
 use Rattle.switch_core.specs.Returning.{OfPlace}
 use Rattle.switch_core.specs.Started.{Started, SwitchAdds}
-use Rattle.switch_core.proofs.GivenBack.{back_given, forth_case, forth_given, of_done, refused_whole}
+use Rattle.switch_core.proofs.GivenBack.{refused_whole}
+use Rattle.switch_core.proofs.GivenSteps.{back_given, forth_case, forth_given, of_done}
 use Rattle.switch_core.proofs.Whole.{started, whole_stays}
 use Rattle.switch_core.proofs.switch.Switch.give_back.Goals as goal
 

@@ -2,7 +2,7 @@ use Rattle.std.proofs.Common.{◌∙◌, ◌<◌, length, arith}
 use Rattle.std.proofs.lemmas.Option.{slice_get-get_or}
 use Rattle.switch_core.specs.Returning.{bodies_out_of}
 use Rattle.switch_core.proofs.Returns.{same_further, differs_behind}
-use Rattle.switch_core.proofs.Returns.{out_bodies}
+use Rattle.switch_core.proofs.HomeReturns.{out_bodies}
 use Rattle.switch_core.proofs.way.Way.different_body.Goals as goal
 
 pub loop-number-preserved : goal.loop-number-preserved

@@ -6,7 +6,7 @@ use Rattle.switch_machine.specs.State.{WaitingCell, WayState}
 use Rattle.switch_core.specs.Meaning.{WithRoom, way_of}
 use Rattle.switch_core.specs.Returning.{bodies_out_of}
 use Rattle.switch_core.proofs.Returns.{out_inside, out_get, same_body, none_out}
-use Rattle.switch_core.proofs.Returns.{out_bodies}
+use Rattle.switch_core.proofs.HomeReturns.{out_bodies}
 use Rattle.switch_core.proofs.way.Way.has_out.Goals as goal
 
 pub returns-then-number-out_count : goal.returns-then-number-out_count
