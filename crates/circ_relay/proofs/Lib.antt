@@ -40,3 +40,4 @@ pub mod SendmeMessages
 pub mod DataMessages
 pub mod BeginMessages
 pub mod ReceivedCells
+pub mod EarlyCells

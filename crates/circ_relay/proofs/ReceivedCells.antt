@@ -1,13 +1,12 @@
 -- What a relay cell from the client is, and the parts of a circuit behind it.
-use Rattle.std.proofs.Common.{◌≡◌, ℕ, ◌+◌, ◌≤◌, ◌==◌, ◌&&◌, not, nat_le, if◌then◌else◌, List, ◌∷◌, length, drop, take, Bool, true, false, Option, Some, None, refl, sym, ap, subst, ◌∙◌, arith, length-take}
+use Rattle.std.proofs.Common.{◌≡◌, ℕ, ◌≤◌, ◌==◌, ◌&&◌, nat_le, if◌then◌else◌, List, length, drop, take, Bool, true, false, Option, Some, None, refl, sym, ap, subst, ◌∙◌, arith, length-take}
 use Rattle.std.specs.Prelude.{is_some, position}
 use Rattle.tor_spec.specs.RelayCell.{relay_head, fits_length, payload_of, data_command}
 use Rattle.relay_cell.specs.declared.head.Opened.{Opened}
 use Rattle.stream_edge.specs.PlacesState.{PlacesState}
 use Rattle.stream_edge.specs.Streams.{is_live_as}
 use Rattle.tor_spec.specs.CellCommands.{relay_early_command}
-use Rattle.sendme_windows.specs.WindowsState.{KeepsLimits}
-use Rattle.circuit_model.specs.Events.{Event, CircuitCell}
+use Rattle.circuit_model.specs.Events.{CircuitCell}
 use Rattle.circuit_model.specs.declared.event.Event.TheVariants.{Forward}
 use Rattle.circuit_model.specs.Rules.{Rules}
 use Rattle.circuit_model.specs.Log.{Log, Effects, is_closed, closing}
@@ -24,16 +23,13 @@ use Rattle.circ_relay.specs.declared.message.Message.{Message as CodeMessage}
 use Rattle.circ_relay.specs.BroughtMessages.{IsBrought, IsNextCell, after_cell}
 use Rattle.circ_relay.specs.Packaging.{IsPackagedNext}
 use Rattle.circ_relay.specs.OpenedBodies.{is_data_for_live}
-use Rattle.circ_relay.specs.CircuitOfLog.{HasParts, IsCircuit, IsMadeBy}
-use Rattle.circ_relay.specs.OpenedBodies.{IsOpened}
-use Rattle.circ_relay.proofs.Bools.{not-not}
-use Rattle.circ_relay.proofs.Named.{history_is_named}
-use Rattle.circuit_model.specs.Words.{entry_after, log}
+use Rattle.circ_relay.specs.CircuitOfLog.{HasParts}
+use Rattle.circuit_model.specs.Words.{log}
 use Rattle.circ_relay.proofs.WindowByEvent.{quiet_event_leaves}
 use Rattle.circ_relay.proofs.Others.{no_message_leaves_places}
 use Rattle.circ_relay.proofs.Lists.{same_some}
 use Rattle.circ_relay.proofs.AfterCells.{cell_parts}
-use Rattle.circ_relay.proofs.Longer.{made_after, unclosed_after, none_packaged, same_streams, stands_still}
+use Rattle.circ_relay.proofs.Longer.{none_packaged, same_streams, stands_still}
 
 -- One RELAY_EARLY too many.
 pub too_many_does : (rules : Rules) (log : Log) (command : ℕ) (body : List ℕ) → is_closed log ≡ false
@@ -204,64 +200,3 @@ data_for_live opened state command stream digest is fits commanded streamed data
     (is_some (position (is_live_as (relay_head opened.body).stream) state.streams))
     (ap is_some is) fits (ap (λ n. n == data_command) (sym commanded ∙ data_))
     (ap (λ n. is_some (position (is_live_as n) state.streams)) (sym streamed) ∙ live)
-
--- The count of RELAY_EARLY cells.
-
-pub early_apart : (c d : Circuit) (early : ℕ) (log : Log) → d ≡ record c { early_cells = early } → HasParts c log → HasParts d log
-early_apart c d early log is has =
-    subst (λ e. HasParts e log) (sym is)
-    (record {
-      hop = has.hop;
-      asked = has.asked;
-      packager = has.packager;
-      windows = has.windows;
-      places = has.places;
-      addresses =
-          has.addresses;
-    })
-
-pub made_early : (c d : Circuit) (early : ℕ) (rules : Rules) → d ≡ record c { early_cells = early } → IsMadeBy c rules
-    → IsMadeBy d rules
-made_early c d early rules is made = subst (λ e. IsMadeBy e rules) (sym is) (record { start = made.start; least = made.least })
-
-pub limits_early : (c d e : Circuit) (early : ℕ) → d ≡ record c { early_cells = early } → KeepsLimits d.windows e.windows
-    → KeepsLimits c.windows e.windows
-limits_early c d e early is keeps = record {
-  start = keeps.start ∙ ap (λ (x : Circuit). x.windows.start) is;
-  least = keeps.least ∙ ap (λ (x : Circuit). x.windows.least) is;
-}
-
-pub too_many : (c : Circuit) (rules : Rules) (h : List Event) (command : ℕ) (counts : Bool) → IsCircuit c rules h
-    → counts ≡ not ((command == relay_early_command) && nat_le relay_early_limit c.early_cells)
-    → ((command == relay_early_command) && nat_le relay_early_limit (early_count (log rules h))) ≡ not counts
-too_many c rules h command counts is by =
-    ap (λ n. (command == relay_early_command) && nat_le relay_early_limit n) (sym is.early)
-    ∙ not-not ((command == relay_early_command) && nat_le relay_early_limit c.early_cells) ∙ ap not (sym by)
-
-pub cell_of_history : (c : Circuit) (opened : Opened) (rules : Rules) (h : List Event) (command : ℕ) (body : List ℕ)
-    (counts : Bool)
-    → IsCircuit c rules h → IsOpened opened (log rules h) body
-    → counts ≡ not ((command == relay_early_command) && nat_le relay_early_limit c.early_cells) → counts ≡ true
-    → IsNextCell opened (log rules h) command body
-cell_of_history c opened rules h command body counts is opens by so =
-    record {
-      unclosed = is.unclosed;
-      named = history_is_named rules h;
-      opens = opens;
-      few =
-          too_many c rules h command counts is by ∙ ap not so;
-    }
-
-pub circuit_after : (c d : Circuit) (rules : Rules) (h : List Event) (command : ℕ) (body : List ℕ) (outcome : Effects)
-    → IsCircuit c rules h → effects_after rules (log rules h) (Forward command body) ≡ outcome
-    → outcome.close ≡ None → d.early_cells ≡ (if command == relay_early_command then c.early_cells + 1 else c.early_cells)
-    → KeepsLimits c.windows d.windows → HasParts d (after_cell rules (log rules h) command body)
-    → IsCircuit d rules (Forward command body ∷ h)
-circuit_after c d rules h command body outcome is does none early limits has = record {
-  unclosed =
-      unclosed_after (entry_after rules (log rules h) (Forward command body)) (log rules h)
-      (ap (λ (e : Effects). e.close) does ∙ none) is.unclosed;
-  early = early ∙ ap (λ n. if command == relay_early_command then n + 1 else n) is.early;
-  made = made_after c d rules is.made limits;
-  parts = has;
-}

@@ -23,7 +23,6 @@ use Rattle.switch_core.specs.Returning.{bodies_out_of, content_refusal, refusal_
 use Rattle.switch_core.specs.Started.{Started}
 use Rattle.switch_core.specs.declared.relay.Relay.{Relay}
 
-
 pub record Passes (slot : Option CircuitState) (note : ClaimNote) (place : Option ℕ) (answer : CircuitState → BackAnswer)
     (a : BackAnswer) : Type 0 where
   pub circuit : CircuitState

@@ -16,7 +16,6 @@ use Rattle.switch_core.specs.Picking.{first_leg_of, HasOneLeg}
 use Rattle.switch_core.specs.Taking.{closed_answer, queued_answer, forth_queued_state, body_count}
 use Rattle.switch_core.proofs.Gone.{with-same}
 
-
 closed-by : (c : ℕ) (x : Option CircuitState) (rules : Rules) (ev : List Event) (cell : CircuitCell) → cell.command ≡ 11
     → closed_answer c destroy_protocol x ≡ leg_result rules ev (first_leg_of c) cell x
 closed-by c None rules ev cell is = refl

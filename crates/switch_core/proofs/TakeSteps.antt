@@ -24,7 +24,6 @@ use Rattle.switch_core.proofs.Gone.{with-same}
 use Rattle.switch_core.proofs.Takes.{has_it}
 use Rattle.switch_core.proofs.LegCells.{queued_left}
 
-
 closed-none : (x : Option CircuitState) (c reason : ℕ) (a : BackAnswer) → a ≡ tear_down_result_of x reason
     → ((r : ℕ) → a ≡ BackAnswer.Down r → ⊥) → PassedOver Why.NoCircuit ≡ closed_answer c reason x
 closed-none None c reason a is other = refl

@@ -8,6 +8,7 @@ pub mod Frees
 pub mod Frames
 pub mod PassedOver
 pub mod QueuedForth
+pub mod DownLegs
 pub mod Down
 pub mod Kept
 pub mod Law

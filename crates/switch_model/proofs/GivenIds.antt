@@ -1,6 +1,6 @@
 -- In a legal history a CircID that a leg has was given out on its channel, or is of the peer's side, so this side
 -- gives out a new one.
-use Rattle.std.proofs.Common.{◌≡◌, ℕ, ◌+◌, ◌<◌, ◌==◌, ◌&&◌, ◌||◌, Bool, true, false, not, nat_le, if◌then◌else◌, cond, is_some, is_none, List, [], ◌∷◌, Option, Some, None, refl, sym, ap, subst, arith}
+use Rattle.std.proofs.Common.{◌≡◌, ℕ, ◌+◌, ◌<◌, ◌==◌, ◌&&◌, ◌||◌, Bool, true, false, not, nat_le, if◌then◌else◌, cond, is_some, is_none, List, [], ◌∷◌, Option, None, refl, sym, ap, subst, arith}
 use Rattle.std.specs.List.{list_any, filter}
 use Rattle.std.proofs.lemmas.Bool.Decides.{nat_tests}
 use Rattle.circuit_model.specs.Rules.{Rules}
@@ -15,12 +15,12 @@ use Rattle.tr_io.specs.declared.dials.DialStep.{DialStep}
 use Rattle.tr_io.specs.declared.names.ChanNo.{ChanNo}
 use Rattle.tr_io.specs.declared.names.CircNo.{CircNo}
 use Rattle.tr_io.specs.declared.step.Step.{Step}
-use Rattle.tr_io.specs.declared.step.Step.TheVariants.{ChannelUp, ChannelDown, OpenCircuit, Take, NextCell, DialDone}
+use Rattle.tr_io.specs.declared.step.Step.TheVariants.{ChannelUp, ChannelDown, DialDone}
 use Rattle.switch_model.specs.Start.{SwitchStart}
 use Rattle.switch_model.specs.Limits.{channel_limit, given_id_base}
-use Rattle.switch_model.specs.Names.{Leg, circ_no, chan_no}
+use Rattle.switch_model.specs.Names.{circ_no, chan_no}
 use Rattle.switch_model.specs.History.Channels.{Channel, channels, channel_at, is_live_channel, live_channels, opened_by_us, given_ids, next_given_id}
-use Rattle.switch_model.specs.History.Legs.{circuits, at, is_destroy_for}
+use Rattle.switch_model.specs.History.Legs.{circuits, at}
 use Rattle.switch_model.specs.History.Circuit.{is_live_circuit}
 use Rattle.switch_model.specs.Waiting.Dials.{Dial, dials_made, is_open, was_handed_out, same_dial}
 use Rattle.switch_model.specs.Answers.OpenCircuit.{is_in_use, is_peers_id, live_circuits, open_answer}
@@ -222,79 +222,3 @@ peers-given start h legal chan id is side = record {
   up = live-up start h legal chan is;
   below = λ ours. peers-below (opened_by_us (channel_at h chan)) given_id_base id (given_ids h chan) (side ours) ours;
 }
-
--- whether a step gives a leg this CircID
-abbrev pub takes_id : List Step → Step → ℕ → ℕ → Bool
-takes_id h (OpenCircuit n i reply keys pad (Opened c)) chan id = (n.0 == chan) && (i == id)
-takes_id h (DialDone order outcome (DialAnswer.Up n)) chan id = (n.0 == chan) && (next_given_id h chan == id)
-takes_id h s chan id = false
-
-at-given-if : (P : Type 0) (b : Bool) (leg : Leg) (x : Option Leg) → (b ≡ true → P) → (is_some x ≡ true → P)
-    → is_some (if b then Some leg else x) ≡ true → P
-at-given-if P true leg x here there is = here refl
-at-given-if P false leg x here there is = there is
-
-pub was-some : (b : Bool) (x : Option Leg) → is_some (if b then None else x) ≡ true → is_some x ≡ true
-was-some true x is = absurd cc
-was-some false x is = is
-
-opened-given : (start : SwitchStart) (h : List Step) (n : ChanNo) (i chan id : ℕ) → IsGiven h n.0 i
-    → ((n.0 == chan) && (i == id)) ≡ true → IsGiven h chan id
-opened-given start h n i chan id given both =
-    subst (λ x. IsGiven h chan x) (same-number i id (and-second (n.0 == chan) _ both))
-    (subst (λ x. IsGiven h x i) (same-number n.0 chan (and-first (n.0 == chan) _ both)) given)
-
-pub some-live : (x : Option Channel) → opened_by_us x ≡ true → is_some x ≡ true
-some-live (Some channel) ours = refl
-some-live None ours = absurd cc
-
-linked-up : (start : SwitchStart) (h : List Step) (order : DialStep) (outcome : DialOutcome) (n : ChanNo)
-    → IsLegal start (DialDone order outcome (DialAnswer.Up n) ∷ h) → n.0 < channels (DialDone order outcome (DialAnswer.Up n) ∷ h)
-linked-up start h order (DialOutcome.Opened slot) n legal = let number : n.0 ≡ channels h =
-    linked-over start h order (DialOutcome.Opened slot) n legal in omega (arith, number)
-linked-up start h order (DialOutcome.Over chan) n legal =
-    live-up start h legal.1 n.0 (some-live (channel_at h n.0) (linked-over start h order (DialOutcome.Over chan) n legal))
-linked-up start h order DialOutcome.Failed n legal = absurd (linked-over start h order DialOutcome.Failed n legal)
-
-newest-given : (b : Bool) (base count id : ℕ) → b ≡ true → base + count + 1 ≡ id
-    → id < base + (if b then count + 1 else count) + 1
-newest-given true base count id is same = omega (arith, same)
-newest-given false base count id is same = absurd cc
-
-linked-given : (start : SwitchStart) (h : List Step) (order : DialStep) (outcome : DialOutcome) (n : ChanNo) (chan id : ℕ)
-    → IsLegal start (DialDone order outcome (DialAnswer.Up n) ∷ h) → ((n.0 == chan) && (next_given_id h chan == id)) ≡ true →
-    IsGiven (DialDone order outcome (DialAnswer.Up n) ∷ h) chan id
-linked-given start h order outcome n chan id legal both =
-    let here = and-first (n.0 == chan) _ both in
-    let same_chan = same-number n.0 chan here in
-    let up = linked-up start h order outcome n legal in
-    record {
-      up = subst (λ x. x < channels (DialDone order outcome (DialAnswer.Up n) ∷ h)) same_chan up;
-      below = λ ours. newest-given (n.0 == chan) given_id_base (given_ids h chan) id here
-          (same-number (next_given_id h chan) id (and-second (n.0 == chan) _ both));
-    }
-
-pub at-given : (start : SwitchStart) (h : List Step) → IsLegal start h → (chan id : ℕ) → is_some (at h chan id) ≡ true
-    → IsGiven h chan id
-at-given start [] legal chan id is = absurd cc
-at-given start (OpenCircuit n i reply keys pad (Opened c) ∷ h) legal chan id is =
-    let fits = opened-fits start h n.0 i keys c legal.0.1 in
-    given-stays start h (OpenCircuit n i reply keys pad (Opened c)) chan id legal
-    (at-given-if (IsGiven h chan id) ((n.0 == chan) && (i == id)) _ (at h chan id)
-    (opened-given start h n i chan id (peers-given start h legal.1 n.0 i fits.channel (λ ours. fits.side)))
-    (at-given start h legal.1 chan id) is)
-at-given start (DialDone order outcome (DialAnswer.Up n) ∷ h) legal chan id is =
-    at-given-if (IsGiven (DialDone order outcome (DialAnswer.Up n) ∷ h) chan id) ((n.0 == chan) && (next_given_id h chan == id)) _
-    (at h chan id) (linked-given start h order outcome n chan id legal)
-    (λ was. given-stays start h (DialDone order outcome (DialAnswer.Up n)) chan id legal (at-given start h legal.1 chan id was))
-    is
-at-given start (NextCell n tick (Some cell) ∷ h) legal chan id is =
-    given-stays start h (NextCell n tick (Some cell)) chan id legal
-    (at-given start h legal.1 chan id (was-some (is_destroy_for n cell chan id) (at h chan id) is))
-at-given start (Take n cell answer ∷ h) legal chan id is =
-    given-stays start h (Take n cell answer) chan id legal
-    (at-given start h legal.1 chan id (was-some (is_destroy_for n cell chan id) (at h chan id) is))
-at-given start (ChannelDown n BackAnswer.Settled ∷ h) legal chan id is =
-    given-stays start h (ChannelDown n BackAnswer.Settled) chan id legal
-    (at-given start h legal.1 chan id (was-some (n.0 == chan) (at h chan id) is))
-at-given start (s ∷ h) legal chan id is = given-stays start h s chan id legal (at-given start h legal.1 chan id is)

@@ -26,7 +26,8 @@ use Rattle.switch_model.proofs.Common.{and-first, same-number, or-first, or-seco
 use Rattle.switch_model.proofs.Unopened.{opened-number, not-yet, stays-torn}
 use Rattle.switch_model.proofs.Ported.{none-leg}
 use Rattle.switch_model.proofs.StaysTorn.{not-opened}
-use Rattle.switch_model.proofs.GivenIds.{IsGiven, IsLinkedOver, opened-fits, linked-over, dial-live, takes_id, given-stays, peers-given, at-given}
+use Rattle.switch_model.proofs.GivenIds.{IsGiven, IsLinkedOver, opened-fits, linked-over, dial-live, given-stays, peers-given}
+use Rattle.switch_model.proofs.LegIds.{takes_id, at-given}
 use Rattle.switch_model.proofs.LaneStays.{Refuses, lane-all}
 
 -- an opening that is refused by a DESTROY is at a CircID that isn't in use

@@ -21,7 +21,8 @@ use Rattle.switch_model.specs.Legal.{IsLegal}
 use Rattle.switch_model.proofs.Common.{self_eq, and-first, and-second, same-number, or-first}
 use Rattle.switch_model.proofs.Ways.{was-live}
 use Rattle.switch_model.proofs.Ported.{makes_leg, port-before, turned, link-same}
-use Rattle.switch_model.proofs.GivenIds.{opened-fits, linked-over, at-given, was-some, some-live}
+use Rattle.switch_model.proofs.GivenIds.{opened-fits, linked-over}
+use Rattle.switch_model.proofs.LegIds.{at-given, was-some, some-live}
 use Rattle.switch_model.proofs.LaneIds.{leg-some, link-untaken}
 
 -- legs that were made have a port

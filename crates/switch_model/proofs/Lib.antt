@@ -10,6 +10,7 @@ pub mod WindowsKept
 pub mod BackInOrder
 pub mod Leaving
 pub mod WrongSendmes
+pub mod BodiesGrow
 pub mod BodiesListed
 pub mod ClaimFinds
 pub mod Returning
@@ -26,6 +27,7 @@ pub mod StaysTorn
 pub mod BodiesStay
 pub mod LogGrows
 pub mod GivenIds
+pub mod LegIds
 pub mod LaneStays
 pub mod LaneIds
 pub mod SentBegins

@@ -23,6 +23,7 @@ pub mod GiveBackCalls
 pub mod AbandonCalls
 pub mod Plays
 pub mod Turns
+pub mod PlayingEnds
 pub mod Spellings
 pub mod Spelled
 pub mod RuleSpellings

@@ -1,7 +1,7 @@
 use Rattle.std.proofs.Common.{◌∙◌, ap, refl}
 use Rattle.tape.specs.Runs.{cut_status}
 use Rattle.tape.specs.TapeRules.{rules_ahead}
-use Rattle.tape.proofs.Turns.{ends_cut_short, ends_ruleless}
+use Rattle.tape.proofs.PlayingEnds.{ends_cut_short, ends_ruleless}
 use Rattle.tape.proofs.run.play.Goals as goal
 
 pub returns-in-Cut-clause-play : goal.returns-in-Cut-clause-play

@@ -1,5 +1,6 @@
 use Rattle.std.proofs.Common.{sym, refl, arith}
-use Rattle.tape.proofs.Turns.{made_so, ahead_of, ends_whole, ends_cut, ends_broken, ends_early}
+use Rattle.tape.proofs.Turns.{made_so, ahead_of}
+use Rattle.tape.proofs.PlayingEnds.{ends_whole, ends_cut, ends_broken, ends_early}
 use Rattle.tape.proofs.run.play_under.Goals as goal
 
 pub returns-in_default-clause-play : goal.returns-in_default-clause-play

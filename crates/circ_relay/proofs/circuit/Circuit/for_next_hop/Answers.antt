@@ -1,7 +1,8 @@
 use Rattle.std.proofs.Common.{not, sym, ap, refl, ◌∙◌}
 use Rattle.circuit_model.specs.Words.{log}
 use Rattle.circ_relay.specs.Values.{effects_of}
-use Rattle.circ_relay.proofs.ReceivedCells.{too_many_does, too_many, cell_of_history, early_apart, limits_early, circuit_after, passed_on_does, passed_on_parts}
+use Rattle.circ_relay.proofs.ReceivedCells.{too_many_does, passed_on_does, passed_on_parts}
+use Rattle.circ_relay.proofs.EarlyCells.{too_many, cell_of_history, early_apart, limits_early, circuit_after}
 use Rattle.circ_relay.proofs.circuit.Circuit.for_next_hop.Goals as goal
 
 pub returns-then-not-counts-clause-effects : goal.returns-then-not-counts-clause-effects
