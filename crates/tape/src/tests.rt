@@ -2,8 +2,11 @@
 //! is SHA-1 of 41 zero bytes, computed elsewhere.
 ghost use Rattle.std.specs.Prelude.{◌≤◌};
 
+mod bad_tapes;
+mod faults;
 mod jobs;
 mod round_trip;
+mod rules;
 mod take;
 mod tear_down;
 
@@ -147,68 +150,6 @@ fn one_padded_opening_is_answered(rt: HostRuntime) -> Result<(), Fail> {
     Ok(())
 }
 
-/// A tape with rules in front gives what it gives without them, as long as no circuit packages so
-/// many DATA cells.
-#[test]
-fn rules_have_no_answer(rt: HostRuntime) -> Result<(), Fail> {
-    let plain = tape(rt.alloc(), [0x80, 0, 0, 1])?;
-    let answers = answers(rt.alloc())?;
-    for rules in [
-        [0x10, 0, 100, 0, 0],
-        [0x10, 0, 100, 1, 0],
-        [0x10, 3, 232, 0, 0],
-        [0x10, 3, 232, 1, 0],
-    ] {
-        let run = play_tape(rt.alloc(), &rules, 4096, &[], &[])?;
-        assert_eq!(rt; run.status, Status::Done);
-        assert!(rt; run.sink.as_slice().is_empty());
-        let mut tape = Vec::new(rt.alloc());
-        put(&mut tape, &rules)?;
-        put(&mut tape, plain.as_slice())?;
-        let run = play_tape(rt.alloc(), tape.as_slice(), 4096, &[], &[])?;
-        assert_eq!(rt; run.status, Status::Done);
-        assert_eq!(rt; run.sink.as_slice(), answers.as_slice());
-    }
-    Ok(())
-}
-
-#[test]
-fn rules_out_of_range_end_the_tape(rt: HostRuntime) -> Result<(), Fail> {
-    for rules in [
-        // A window of 99, of 1001, of 65535; version 2; a last byte other than 0.
-        [0x10, 0, 0x63, 0, 0],
-        [0x10, 3, 233, 1, 0],
-        [0x10, 255, 255, 1, 0],
-        [0x10, 0, 100, 2, 0],
-        [0x10, 0, 100, 1, 1],
-    ] {
-        let run = play_tape(rt.alloc(), &rules, 4096, &[], &[])?;
-        assert_eq!(rt; run.status, Status::BadTape(0));
-        assert!(rt; run.sink.as_slice().is_empty());
-    }
-    Ok(())
-}
-
-#[test]
-fn rules_are_whole_and_stand_first(rt: HostRuntime) -> Result<(), Fail> {
-    let twice = [0x10, 0, 100, 0, 0, 0x10, 0, 100, 0, 0];
-    for (length, status) in [
-        (1, Status::BadTape(0)),
-        (4, Status::BadTape(0)),
-        (5, Status::Done),
-        (6, Status::BadTape(5)),
-        (10, Status::BadTape(5)),
-    ] {
-        let run = play_tape(rt.alloc(), front(&twice, length)?, 4096, &[], &[])?;
-        assert_eq!(rt; run.status, status);
-        assert!(rt; run.sink.as_slice().is_empty());
-    }
-    // The second read, which begins inside the rules, fails.
-    let run = play_tape(rt.alloc(), &twice, 3, &[1], &[])?;
-    assert_eq!(rt; run.status, Status::ReadFault);
-    Ok(())
-}
-
 /// HTYPE ff01, HLEN 20, X and Y zero: CREATED2 brings HLEN 40, Y and KH.
 #[test]
 fn one_create2_is_answered(rt: HostRuntime) -> Result<(), Fail> {
@@ -274,119 +215,4 @@ fn front(bytes: &[u8], length: usize) -> Result<&[u8], &'static str> {
         Some((front, _)) => Ok(front),
         None => Err("too few bytes"),
     }
-}
-
-#[test]
-fn a_cut_tape_is_bad_at_its_last_record(rt: HostRuntime) -> Result<(), Fail> {
-    let tape = tape(rt.alloc(), [0x80, 0, 0, 1])?;
-    let answers = answers(rt.alloc())?;
-    for (length, status, written) in [
-        (3, Status::BadTape(0), 0),
-        (6, Status::Done, 10),
-        (7, Status::BadTape(6), 10),
-        (100, Status::BadTape(6), 10),
-        (548, Status::BadTape(6), 10),
-        (549, Status::Done, 20),
-        (565, Status::BadTape(549), 20),
-    ] {
-        let run = play_tape(rt.alloc(), front(tape.as_slice(), length)?, 4096, &[], &[])?;
-        assert_eq!(rt; run.status, status);
-        assert_eq!(rt; run.sink.as_slice(), front(answers.as_slice(), written)?);
-    }
-    Ok(())
-}
-
-#[test]
-fn bytes_that_begin_no_built_record_end_the_tape(rt: HostRuntime) -> Result<(), Fail> {
-    for (record, status) in [
-        // No kind, a side and a worker that are none, records that are cut, kinds that aren't built.
-        ([0x00, 0, 0, 0, 0, 0], Status::BadTape(6)),
-        ([0x11, 0, 0, 0, 0, 0], Status::BadTape(6)),
-        ([0xff, 0, 0, 0, 0, 0], Status::BadTape(6)),
-        ([0x01, 0, 0, 0, 0, 2], Status::BadTape(6)),
-        ([0x02, 0, 0, 0, 0, 0], Status::NotBuilt(2)),
-        ([0x04, 0, 0, 0, 0, 0], Status::BadTape(6)),
-        ([0x05, 0, 0, 0, 64, 0], Status::BadTape(6)),
-        ([0x07, 0, 0, 0, 0, 0], Status::BadTape(6)),
-        ([0x09, 0, 0, 0, 0, 0], Status::NotBuilt(9)),
-        ([0x0d, 0, 0, 0, 0, 0], Status::NotBuilt(13)),
-        ([0x0e, 0, 0, 0, 0, 0], Status::BadTape(6)),
-    ] {
-        let mut tape = Vec::new(rt.alloc());
-        put(&mut tape, &[1, 0, 0, 0, 0, 0])?;
-        put(&mut tape, &record)?;
-        let run = play_tape(rt.alloc(), tape.as_slice(), 4096, &[], &[])?;
-        assert_eq!(rt; run.status, status);
-        assert_eq!(rt; run.sink.as_slice(), UP.as_slice());
-    }
-    Ok(())
-}
-
-#[test]
-fn openings_by_other_commands_end_the_tape(rt: HostRuntime) -> Result<(), Fail> {
-    for command in [0, 2, 3, 4, 6, 9, 11, 255] {
-        let tape = tape_of(rt.alloc(), [0x80, 0, 0, 1], command, [0; 4])?;
-        let run = play_tape(rt.alloc(), tape.as_slice(), 4096, &[], &[])?;
-        assert_eq!(rt; run.status, Status::BadTape(6));
-        assert_eq!(rt; run.sink.as_slice(), UP.as_slice());
-    }
-    // The cell of an opening is cut.
-    for command in [1, 5, 10] {
-        let tape = tape_of(rt.alloc(), [0x80, 0, 0, 1], command, [0; 4])?;
-        let run = play_tape(rt.alloc(), front(tape.as_slice(), 548)?, 4096, &[], &[])?;
-        assert_eq!(rt; run.status, Status::BadTape(6));
-    }
-    Ok(())
-}
-
-/// The tape of 566 bytes is read in seven pieces of up to 100 bytes, and an eighth read finds its
-/// end. The answers of the records that were read whole are written.
-#[test]
-fn a_fault_at_any_read_ends_the_tape(rt: HostRuntime) -> Result<(), Fail> {
-    let tape = tape(rt.alloc(), [0x80, 0, 0, 1])?;
-    let answers = answers(rt.alloc())?;
-    for (read, written) in [(0, 0), (1, 10), (4, 10), (5, 10), (6, 536)] {
-        let run = play_tape(rt.alloc(), tape.as_slice(), 100, &[read], &[])?;
-        assert_eq!(rt; run.status, Status::ReadFault);
-        assert_eq!(rt; run.sink.as_slice(), front(answers.as_slice(), written)?);
-    }
-    let run = play_tape(rt.alloc(), tape.as_slice(), 100, &[7], &[])?;
-    assert_eq!(rt; run.status, Status::Done);
-    Ok(())
-}
-
-/// The 536 bytes of the answers are written in six pieces of up to 100 bytes, and then sent on.
-#[test]
-fn a_fault_at_any_write_ends_the_tape(rt: HostRuntime) -> Result<(), Fail> {
-    let tape = tape(rt.alloc(), [0x80, 0, 0, 1])?;
-    let answers = answers(rt.alloc())?;
-    for (write, written) in [(0, 0), (1, 100), (5, 500), (6, 536)] {
-        let run = play_tape(rt.alloc(), tape.as_slice(), 100, &[], &[write])?;
-        assert_eq!(rt; run.status, Status::WriteFault);
-        assert_eq!(rt; run.sink.as_slice(), front(answers.as_slice(), written)?);
-    }
-    let run = play_tape(rt.alloc(), tape.as_slice(), 100, &[], &[7])?;
-    assert_eq!(rt; run.status, Status::Done);
-    Ok(())
-}
-
-/// The status of these words, a line each, over a tape that would begin a record.
-fn status_of(alloc: Global, text: &str) -> Result<Status, AllocError> {
-    let mut words = Vec::new(alloc);
-    for word in text.lines() {
-        words.push(String::from_str(alloc, word)?)?;
-    }
-    let mut source = MemorySource::new([1, 0].to_vec(alloc)?, 1, Vec::new(alloc));
-    let mut sink = MemorySink::new(alloc, 1, Vec::new(alloc));
-    Ok(tape_main(alloc, words.as_slice(), &mut source, &mut sink))
-}
-
-#[test]
-fn other_words_are_no_command_line(rt: HostRuntime) -> Result<(), Fail> {
-    assert_eq!(rt; status_of(rt.alloc(), "tape")?, Status::BadTape(0));
-    assert_eq!(rt; status_of(rt.alloc(), "")?, Status::Usage);
-    assert_eq!(rt; status_of(rt.alloc(), "Tape")?, Status::Usage);
-    assert_eq!(rt; status_of(rt.alloc(), "tape\ntape")?, Status::Usage);
-    assert_eq!(rt; status_of(rt.alloc(), "gen\n1\n0")?, Status::Usage);
-    Ok(())
 }
