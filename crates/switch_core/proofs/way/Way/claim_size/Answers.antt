@@ -5,8 +5,8 @@ use Rattle.switch_core.specs.Meaning.{WithRoom, way_of}
 use Rattle.switch_core.proofs.Ways.{whole_length}
 use Rattle.switch_core.proofs.way.Way.claim_size.Goals as goal
 
-pub overflow_sub-waiting : goal.overflow_sub-waiting
-overflow_sub-waiting c =
+pub overflow_sub-waiting_count : goal.overflow_sub-waiting_count
+overflow_sub-waiting_count c =
     let whole = whole_length c.self.inside.claimed_count c.self.inside.claim c.self.inside.bodies.items c.self.invariant in
     let out : kept_length (way_of c.self.inside.claimed_count c.self.inside.claim c.self.inside.bodies.items).claim_out
     ≡ kept_length c.args.self.now.state.claim_out =
