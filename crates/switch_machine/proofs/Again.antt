@@ -101,12 +101,12 @@ last-of-circuit n (first ∷ dials) dial numbers inside last =
 
 -- An order that is out, by the history: it is its circuit's.
 
-record IsOut (rules : Rules) (h : List Step) (given_order : DialStep) (dials : List Dial) : Type 0 where
-  dial : Dial
-  inside : IsIn dial dials
-  same : same_dial given_order dial ≡ true
-  is_open : is_open rules h dial ≡ true
-  handed_out : was_handed_out h dial.order ≡ true
+pub record IsOut (rules : Rules) (h : List Step) (given_order : DialStep) (dials : List Dial) : Type 0 where
+  pub dial : Dial
+  pub inside : IsIn dial dials
+  pub same : same_dial given_order dial ≡ true
+  pub is_open : is_open rules h dial ≡ true
+  pub handed_out : was_handed_out h dial.order ≡ true
 
 out-by : (rules : Rules) (h : List Step) (given_order : DialStep) (first : Dial) (dials rest : List Dial) (b d : Bool)
     → (is_open rules h first && was_handed_out h first.order) ≡ b → same_dial given_order first ≡ d →
@@ -128,7 +128,7 @@ out-by rules h given_order first dials rest false d is same later some =
     let out = later some in
     record { dial = out.dial; inside = inr out.inside; same = out.same; is_open = out.is_open; handed_out = out.handed_out }
 
-out-of : (rules : Rules) (h : List Step) (given_order : DialStep) (dials : List Dial) →
+pub out-of : (rules : Rules) (h : List Step) (given_order : DialStep) (dials : List Dial) →
     list_any (same_dial given_order) (filter (λ dial. is_open rules h dial && was_handed_out h dial.order) dials) ≡ true
     → IsOut rules h given_order dials
 out-of rules h given_order [] some = absurd cc

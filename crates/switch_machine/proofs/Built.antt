@@ -10,10 +10,14 @@ use Rattle.tr_io.specs.declared.names.CircNo.{CircNo}
 use Rattle.tr_io.specs.declared.names.ClaimNote.{ClaimNote}
 use Rattle.tr_io.specs.declared.names.Side.{Side}
 use Rattle.tr_io.specs.declared.step.Step.{Step}
-use Rattle.tr_io.specs.declared.step.Step.TheVariants.{ChannelUp, OpenCircuit, NextCell, TearDown, GiveBack, Abandon, Claim, Take, DialOrder}
+use Rattle.tr_io.specs.declared.step.Step.TheVariants.{ChannelUp, OpenCircuit, NextCell, TearDown, GiveBack, Abandon, Claim, Take, DialOrder, DialDone}
 use Rattle.switch_model.specs.Start.{SwitchStart}
 use Rattle.switch_model.specs.History.Circuit.{events}
 use Rattle.switch_model.specs.Legal.{IsLegal}
+use Rattle.tr_io.specs.declared.answers.DialAnswer.{DialAnswer}
+use Rattle.tr_io.specs.declared.dials.DialOutcome.{DialOutcome}
+use Rattle.switch_machine.specs.Calls.DialDone.{dial_done_result, dial_done_state}
+use Rattle.switch_machine.proofs.DialDone.Kept.{dial_done_kept}
 use Rattle.switch_machine.specs.State.{State}
 use Rattle.switch_machine.specs.Calls.ChannelUp.{channel_up_result, channel_up_state}
 use Rattle.switch_machine.specs.Calls.OpenCircuit.{open_result, open_state}
@@ -150,6 +154,17 @@ with-order start h a s legal st =
           (dial_order_kept start each.state h each.stands);
     }
 
+with-done : (start : SwitchStart) (h : List Step) (given : DialStep) (outcome : DialOutcome) (a : DialAnswer) (s : State) →
+    IsLegal start (DialDone given outcome a ∷ h) → Stands start s h → StandsForSomeState start (DialDone given outcome a ∷ h)
+with-done start h given outcome a s legal st =
+    let t = dial_done_state start.rules (events start.rules h) s given outcome in
+    let kept : Stands start t (DialDone given outcome (dial_done_result s given outcome) ∷ h) =
+    dial_done_kept start s h given outcome st in
+    record {
+      state = t;
+      stands = subst (λ b. Stands start t (DialDone given outcome b ∷ h)) (kept.steps.legal.0.1 ∙ sym legal.0.1) kept;
+    }
+
 pub built_stands : (start : SwitchStart) (h : List Step) → HasMachine h → IsLegal start h → StandsForSomeState start h
 built_stands start [] built legal = record { state = _; stands = stands_empty start }
 built_stands start (ChannelUp slot side a ∷ h) built legal =
@@ -179,4 +194,7 @@ built_stands start (Take chan cell a ∷ h) built legal =
 built_stands start (DialOrder a ∷ h) built legal =
     let some = built_stands start h built legal.1 in
     with-order start h a some.state legal some.stands
+built_stands start (DialDone given outcome a ∷ h) built legal =
+    let some = built_stands start h built legal.1 in
+    with-done start h given outcome a some.state legal some.stands
 built_stands start (s ∷ h) built legal = absurd built

@@ -43,7 +43,7 @@ stands_empty start = record {
   dials = record { are_out = tt; once = tt; never = λ order beyond. refl };
   counts = record { counts = λ leg. tt; no_count = λ c k beyond. refl };
   slots = record { slots = λ slot. refl; halts = refl; least_halt = λ n. refl };
-  not_yet = record { unreached = λ c serial. refl; unlinked = λ c. refl };
+  not_yet = record { unreached = λ c serial. refl };
 }
 
 pub stands_new : (start : SwitchStart) (s : State) → s ≡ new_state → Stands start s []

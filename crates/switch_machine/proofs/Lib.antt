@@ -17,6 +17,7 @@ pub mod Abandon
 pub mod Waiting
 pub mod OneWay
 pub mod SameLegs
+pub mod GrewLegs
 pub mod Claim
 pub mod Take
 pub mod Counting
@@ -24,5 +25,6 @@ pub mod NextCell
 pub mod Laws
 pub mod Again
 pub mod DialOrder
+pub mod DialDone
 pub mod Built
 pub mod PlainLists

@@ -16,6 +16,12 @@ pub length-with : {A : Type 0} (slots : List (Option A)) (n : ℕ) (x : Option A
 unfolding with_slot
 length-with slots n x = grind (arith, common_steps)
 
+-- nothing is put behind the end
+pub slot_at-outside : {A : Type 0} (slots : List (Option A)) (n : ℕ) (x : Option A) (m : ℕ) → length slots ≤ n
+    → slot_at (with_slot slots n x) m ≡ slot_at slots m
+unfolding slot_at with_slot
+slot_at-outside slots n x m outside = grind (arith, common_steps, gets)
+
 pub slot_at-push : {A : Type 0} (slots : List (Option A)) (x : Option A) (m : ℕ)
     → slot_at (slots ++ x ∷ []) m ≡ (if m == length slots then x else slot_at slots m)
 unfolding slot_at

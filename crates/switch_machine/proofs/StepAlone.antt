@@ -5,7 +5,7 @@ use Rattle.tr_io.specs.declared.names.StreamKey.{StreamKey}
 use Rattle.tr_io.specs.declared.step.Step.{Step}
 use Rattle.switch_model.specs.Answers.Halted.{halts, some_halt}
 use Rattle.switch_model.specs.History.EdgePast.{EdgePast, edge_past}
-use Rattle.switch_model.specs.History.Legs.{at, hops, holds_id}
+use Rattle.switch_model.specs.History.Legs.{at, holds_id}
 use Rattle.switch_model.specs.History.Past.{Past, past}
 use Rattle.switch_model.specs.Legal.{IsRightStep}
 use Rattle.switch_model.specs.Names.{Leg}
@@ -44,7 +44,6 @@ pub record Words : Type 0 where
   pub halt_steps : ℕ
   pub has_halt : ℕ → Bool
   pub reached : ℕ → ℕ → Bool
-  pub hop_count : ℕ → ℕ
 
 abbrev pub words : Rules → List Step → Words
 words rules h = record {
@@ -63,7 +62,6 @@ words rules h = record {
   halt_steps = halts h;
   has_halt = λ n. some_halt n h;
   reached = is_reached h;
-  hop_count = hops h;
 }
 
 pub step-alone : (start : SwitchStart) (s : State) (h : List Step) (step : Step) →
@@ -83,5 +81,5 @@ step-alone start s h step same right st =
       counts = subst (λ (w : Words). CountsStand (leg_in s) w.count w.tick (length s.circuits)) back st.counts;
       slots = subst (λ (w : Words). SlotsStand s.slots s.halts s.least_halt w.bound_to w.halt_steps w.has_halt) back
           st.slots;
-      not_yet = subst (λ (w : Words). NotYetStand w.reached w.hop_count) back st.not_yet;
+      not_yet = subst (λ (w : Words). NotYetStand w.reached) back st.not_yet;
     }

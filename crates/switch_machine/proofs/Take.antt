@@ -8,7 +8,12 @@ pub mod Frees
 pub mod Frames
 pub mod PassedOver
 pub mod QueuedForth
-pub mod DownLegs
+pub mod LostLeg
+pub mod Quiet
+pub mod Draining
+pub mod QueuedBack
+pub mod BackKept
 pub mod Down
+pub mod ByLeg
 pub mod Kept
 pub mod Law

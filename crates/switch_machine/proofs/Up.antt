@@ -28,7 +28,8 @@ pub live-at : (p : ChannelPast) (x : Option ChannelState) → ChannelAt x p → 
 live-at p None at = rw at.channel refl
 live-at p (Some x) at = rw at.channel refl
 
-filled-channels : (start : SwitchStart) (s : State) (h : List Step) → Stands start s h → filled_slots s.channels ≡ live_channels h
+pub filled-channels : (start : SwitchStart) (s : State) (h : List Step) → Stands start s h
+    → filled_slots s.channels ≡ live_channels h
 filled-channels start s h st =
     count_below-same (λ n. is_some (slot_at s.channels n)) (is_live_channel h)
     (λ n. live-at (channel_past start.rules h n) (slot_at s.channels n) (st.channels.channel n)) (length s.channels)

@@ -4,7 +4,7 @@ use Rattle.circuit_model.specs.Words.{in_order}
 use Rattle.tr_io.specs.declared.answers.OpenAnswer.{OpenAnswer}
 use Rattle.tr_io.specs.declared.answers.UpAnswer.{UpAnswer}
 use Rattle.tr_io.specs.declared.step.Step.{Step}
-use Rattle.tr_io.specs.declared.step.Step.TheVariants.{ChannelUp, OpenCircuit, NextCell, TearDown, GiveBack, Abandon, Claim, Take, DialOrder}
+use Rattle.tr_io.specs.declared.step.Step.TheVariants.{ChannelUp, OpenCircuit, NextCell, TearDown, GiveBack, Abandon, Claim, Take, DialOrder, DialDone}
 use Rattle.switch_model.specs.Start.{SwitchStart}
 use Rattle.switch_machine.specs.State.{State}
 use Rattle.switch_machine.specs.Stands.{Stands}
@@ -48,6 +48,7 @@ HasMachine (Abandon note place a ∷ h) = HasMachine h
 HasMachine (Claim worker a ∷ h) = HasMachine h
 HasMachine (Take chan cell a ∷ h) = HasMachine h
 HasMachine (DialOrder a ∷ h) = HasMachine h
+HasMachine (DialDone order outcome a ∷ h) = HasMachine h
 HasMachine (s ∷ h) = ⊥
 
 -- That the state stands for a history which is listed oldest first.

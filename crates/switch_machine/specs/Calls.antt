@@ -5,6 +5,7 @@ pub mod OpenCircuit
 pub mod NextCell
 pub mod DialOrder
 pub mod DialMemory
+pub mod DialDone
 -- a circuit behind one more event
 pub mod Settling
 pub mod TearDown

@@ -4,7 +4,7 @@
 use Rattle.std.specs.Prelude.{List, length}
 use Rattle.tr_io.specs.declared.step.Step.{Step}
 use Rattle.switch_model.specs.Start.{SwitchStart}
-use Rattle.switch_model.specs.History.Legs.{at, hops, holds_id}
+use Rattle.switch_model.specs.History.Legs.{at, holds_id}
 use Rattle.switch_model.specs.History.Past.{past}
 use Rattle.switch_model.specs.History.EdgePast.{edge_past}
 use Rattle.switch_model.specs.Waiting.Lanes.{lane}
@@ -50,4 +50,4 @@ pub record Stands (start : SwitchStart) (s : State) (h : List Step) : Type 0 whe
   pub dials : DialsStand s.again (dial_in s) (length (dials_made start.rules h)) (was_handed_out h)
   pub counts : CountsStand (leg_in s) (cell_count start.rules h) (tick h) (length s.circuits)
   pub slots : SlotsStand s.slots s.halts s.least_halt (bound h) (halts h) (λ n. some_halt n h)
-  pub not_yet : NotYetStand (is_reached h) (hops h)
+  pub not_yet : NotYetStand (is_reached h)

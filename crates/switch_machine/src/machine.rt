@@ -8,7 +8,7 @@ ghost use Rattle.tr_io.specs.declared.names.CircNo.{CircNo};
 ghost use Rattle.tr_io.specs.declared.names.ClaimNote.{ClaimNote};
 ghost use Rattle.tr_io.specs.declared.names.Side.{Side};
 ghost use Rattle.tr_io.specs.declared.step.Step.{Step};
-ghost use Rattle.tr_io.specs.declared.step.Step.TheVariants.{ChannelUp, OpenCircuit, NextCell, TearDown, GiveBack, Abandon, Claim, Take, DialOrder};
+ghost use Rattle.tr_io.specs.declared.step.Step.TheVariants.{ChannelUp, OpenCircuit, NextCell, TearDown, GiveBack, Abandon, Claim, Take, DialOrder, DialDone};
 ghost use Rattle.switch_model.specs.History.Circuit.{events};
 ghost use Rattle.switch_model.specs.Answers.ChannelUp.{channel_up_answer};
 ghost use Rattle.switch_model.specs.Answers.OpenCircuit.{open_answer};
@@ -28,9 +28,11 @@ ghost use Rattle.switch_machine.specs.Calls.GiveBack.{give_back_result, give_bac
 ghost use Rattle.switch_machine.specs.Calls.Abandon.{abandon_result, abandon_state};
 ghost use Rattle.switch_machine.specs.Stands.{Stands};
 ghost use Rattle.switch_machine.specs.Adds.{Adds, AddsTo, HasMachine, StandsForSomeState};
-ghost use Rattle.switch_model.specs.Answers.DialDone.{is_out};
+ghost use Rattle.switch_model.specs.Answers.DialDone.{dial_done_answer, is_out};
+ghost use Rattle.switch_machine.specs.Calls.DialDone.{dial_done_result, dial_done_state};
 ghost use Rattle.switch_machine.specs.Calls.DialMemory.{dial_memory_state, dial_order_by};
 ghost use Rattle.switch_model.specs.Legal.{IsDialOrder, IsLegal};
+ghost use Rattle.tr_io.specs.declared.dials.DialOutcome.{DialOutcome};
 ghost use Rattle.tr_io.specs.declared.dials.DialStep.{DialStep};
 ghost use Rattle.switch_model.specs.Limits.{worker_limit};
 ghost use Rattle.switch_model.specs.Answers.Claim.{claim_answer};
@@ -139,6 +141,18 @@ pub fn dial_order_is_one_step()
         → IsDialOrder start.rules h (dial_order_result s) }
     ensures answer { (start : SwitchStart) (s : State) (h : List Step) → Stands start s h →
         dial_order_result s ≡ dial_order_by start.rules h s.again }
+{}
+
+/// The outcome of a dial order is one step of the history whose events it was given: the circuit's next hop is
+/// linked, over a new channel or one that was live, or the circuit is torn down; an order that isn't out is gone.
+#[tactic(auto, using(crate::proofs::DialDone::Law::dial_done_adds, crate::proofs::DialDone::Said::dial_done_said))]
+pub fn dial_done_is_one_step()
+    ensures adds { (start : SwitchStart) (h : List Step) (s t : State) (given_order : DialStep) (outcome : DialOutcome) →
+        t ≡ dial_done_state start.rules (events start.rules h) s given_order outcome →
+        AddsTo start h s t (DialDone given_order outcome (dial_done_result s given_order outcome)) }
+    ensures answer { (start : SwitchStart) (s : State) (h : List Step) (given_order : DialStep) (outcome : DialOutcome)
+        → Stands start s h →
+        dial_done_result s given_order outcome ≡ dial_done_answer start.rules h given_order outcome }
 {}
 
 /// dial_done of an order that is out, where memory is wanting, is no step: the switch stands for the same

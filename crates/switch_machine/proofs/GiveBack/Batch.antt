@@ -5,6 +5,9 @@ use Rattle.circuit_model.specs.Events.{CircuitCell, Event}
 use Rattle.circuit_model.specs.Log.{Log, pushed}
 use Rattle.circuit_model.specs.NextHop.{leg_count}
 use Rattle.circuit_model.specs.Packaged.{back_bodies}
+use Rattle.circuit_model.specs.Sent.{given_forth}
+use Rattle.switch_machine.proofs.GrewLegs.{Grew, grew-both, grew-none, hop-grew}
+use Rattle.switch_machine.specs.State.{slot_at}
 use Rattle.circuit_model.specs.Rules.{Rules}
 use Rattle.circuit_model.specs.Words.{entry_after, log}
 use Rattle.switch_machine.proofs.Settling.Core.{CoreStands, core-step, numbers_with}
@@ -163,9 +166,12 @@ batch-events rules (cell ∷ cells) y =
     (settled rules y.circuit.sent_count (forward_of cell ∷ y.events) cells) refl refl
     (batch-events rules cells (settle_one rules cell y))
 
--- those of a circuit without next hops leave its legs
-pub legs-unlinked : (rules : Rules) (cells : List CircuitCell) (y : Settling) → leg_count (log rules y.events) ≡ 0
-    → (settle_all rules y cells).circuit.legs ≡ y.circuit.legs
-legs-unlinked rules cells y none =
-    let both = batch-keeps (λ z. (leg_count (log rules z.events) ≡ 0) × (z.circuit.legs ≡ y.circuit.legs)) rules
-    (λ z cell own. (own.0, rw own.0 own.1)) cells y (none, refl) in both.1
+-- cells may wait on its legs
+pub legs-batch : (rules : Rules) (cells : List CircuitCell) (y : Settling) (j : ℕ)
+    → Grew (slot_at y.circuit.legs j) (slot_at (settle_all rules y cells).circuit.legs j)
+legs-batch rules cells y j =
+    batch-keeps (λ z. Grew (slot_at y.circuit.legs j) (slot_at z.circuit.legs j)) rules
+    (λ z cell own. grew-both (slot_at y.circuit.legs j) (slot_at z.circuit.legs j) _ own
+    (hop-grew z.circuit.legs (leg_count (log rules z.events))
+    (given_forth (log rules z.events) (entry_after rules (log rules z.events) (forward_of cell))) j)) cells y
+    (grew-none (slot_at y.circuit.legs j))

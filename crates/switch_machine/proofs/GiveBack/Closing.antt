@@ -7,7 +7,7 @@ use Rattle.switch_machine.proofs.GiveBack.Batch.{batch-events}
 use Rattle.switch_machine.proofs.GiveBack.Returned.{batch-returned, claimed_forth, returning}
 use Rattle.switch_machine.proofs.OneCircuit.{circuit-own}
 use Rattle.switch_machine.proofs.OtherEdges.{other_edges}
-use Rattle.switch_machine.proofs.SameLegs.{counts-same, ids-same, legs-kept, legs-same}
+use Rattle.switch_machine.proofs.GrewLegs.{Grew, counts-grew, ids-grew, legs-grew, lies-grew}
 use Rattle.switch_machine.proofs.Slots.{length-with, slot_at-inside, slot_at-with}
 use Rattle.switch_machine.proofs.TearDown.By.{torn-by}
 use Rattle.switch_machine.specs.Calls.GiveBack.{closed_state, home_way, settle_all, settled_state}
@@ -24,6 +24,7 @@ use Rattle.switch_model.specs.History.EdgePast.{edge_past}
 use Rattle.switch_model.specs.History.Legs.{at, holds_id}
 use Rattle.switch_model.specs.History.Past.{past}
 use Rattle.switch_model.specs.History.Returns.{settled}
+use Rattle.switch_model.specs.Names.{Leg}
 use Rattle.switch_model.specs.Start.{SwitchStart}
 use Rattle.switch_model.specs.Waiting.Counts.{cell_count, tick}
 use Rattle.switch_model.specs.Waiting.Dials.{asked, dials_made, numbered, was_handed_out}
@@ -58,7 +59,7 @@ closing-kept start s h n reason x k st found forth out its said =
     let alive : is_live_circuit rules h c ≡ true = own.live in
     let behind_it =
     batch-returned rules s.last_closes h n (BackAnswer.Down reason) y k forth refl out its refl st.numbers.bodies
-    st.numbers.dial_orders st.dials.never (st.not_yet.unlinked c) own in
+    st.numbers.dial_orders st.dials.never own in
     let told : settled rules x.sent_count (events rules h c) k.cells ≡ events rules (step ∷ h) c =
     sym (batch-events rules k.cells y) ∙ behind_it.events_are in
     let inside = slot_at-inside s.circuits c x found in
@@ -72,7 +73,7 @@ closing-kept start s h n reason x k st found forth out its said =
       other_pasts rules h step d (rw other refl),
       other_edges rules h step d (rw other refl) refl,
     ) (st.circuits.circuit d) in
-    let legs_same = legs-kept s c x new found behind_it.legs in
+    let grew : (leg : Leg) → Grew (leg_in s leg) (leg_in t leg) = legs-grew s c x new found behind_it.legs in
     subst (λ ev. Stands start (torn_state rules ev t c reason new) (step ∷ h)) (sym told)
     (torn-by start s t h step c reason new (λ m. lane rules h m) st (record {
       said = (tt, said);
@@ -91,8 +92,8 @@ closing-kept start s h n reason x k st found forth out its said =
           let other = not_equal c d (λ same. absurd (omega (arith, beyond, size, inside, same))) in
           rw (other_pasts rules h step d (rw other refl), other_edges rules h step d (rw other refl) refl)
           (st.circuits.fresh d (omega (arith, beyond, size)));
-      ids = ids-same (leg_in t) (leg_in s) (λ m. lane rules h m) (at h) legs_same st.ids;
-      legs_stand = legs-same s.channels (leg_in t) (leg_in s) legs_same st.legs;
+      ids = ids-grew (leg_in s) (leg_in t) (λ m. lane rules h m) (at h) grew st.ids;
+      legs_stand = lies-grew s.channels (leg_in s) (leg_in t) grew st.legs;
       dials = dials-changed s.again (dial_in s) (dial_in t) c (length (dials_made rules h)) (length (dials_made rules (step ∷ h)))
           (was_handed_out h) (was_handed_out (step ∷ h)) z.circuit.dial
           (rw (slot_at-with s.circuits c (Some new) c inside, self_eq c) refl)
@@ -105,8 +106,8 @@ closing-kept start s h n reason x k st found forth out its said =
                 (numbered (length (dials_made rules h)) c
                 (drop (length (asked (log rules (events rules h c)))) (asked (log rules (events rules (step ∷ h) c))))),
           ))) st.dials;
-      counts = counts-same (leg_in t) (leg_in s) (cell_count rules h) (tick h) (length t.circuits) (length s.circuits) legs_same
-          size st.counts;
+      counts = counts-grew (leg_in s) (leg_in t) (cell_count rules h) (tick h) (length t.circuits) (length s.circuits) grew size
+          st.counts;
       slots = st.slots;
       not_yet = st.not_yet;
       found = rw (slot_at-with s.circuits c (Some new) c inside, self_eq c) refl;

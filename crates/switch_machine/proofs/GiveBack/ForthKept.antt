@@ -8,7 +8,7 @@ use Rattle.switch_machine.proofs.GiveBack.Settled.{circuit-settled}
 use Rattle.switch_machine.proofs.OneCircuit.{circuit-changed, circuit-own}
 use Rattle.switch_machine.proofs.OneStep.{step-added}
 use Rattle.switch_machine.proofs.OtherEdges.{other_edges}
-use Rattle.switch_machine.proofs.SameLegs.{counts-same, ids-same, legs-kept, legs-same}
+use Rattle.switch_machine.proofs.GrewLegs.{Grew, counts-grew, ids-grew, legs-grew, lies-grew}
 use Rattle.switch_machine.proofs.Slots.{length-with, slot_at-inside, slot_at-with}
 use Rattle.switch_machine.specs.Calls.GiveBack.{home_way, settle_all, settled_state}
 use Rattle.switch_machine.specs.Machine.{dial_in, leg_in}
@@ -24,6 +24,7 @@ use Rattle.switch_model.specs.History.EdgePast.{edge_past}
 use Rattle.switch_model.specs.History.Legs.{at, holds_id}
 use Rattle.switch_model.specs.History.Past.{past}
 use Rattle.switch_model.specs.History.Returns.{settling_reason}
+use Rattle.switch_model.specs.Names.{Leg}
 use Rattle.switch_model.specs.Start.{SwitchStart}
 use Rattle.switch_model.specs.Waiting.Counts.{cell_count, tick}
 use Rattle.switch_model.specs.Waiting.Dials.{asked, dials_made, numbered, was_handed_out}
@@ -54,7 +55,7 @@ forth-kept start s h n x k st found forth out its none said =
     st.circuits in
     let behind_it =
     batch-returned rules s.last_closes h n Settled y k forth refl out its refl st.numbers.bodies st.numbers.dial_orders
-    st.dials.never (st.not_yet.unlinked c) own in
+    st.dials.never own in
     let circuits_now : CircuitsStand rules s.last_closes t.circuits (λ d. past rules (step ∷ h) d)
     (λ d j. holds_id (step ∷ h) d j) (λ d. edge_past rules (step ∷ h) d) =
     circuit-changed rules s.last_closes s.circuits (λ d. past rules h d) (λ d. past rules (step ∷ h) d) (λ d j. holds_id h d j)
@@ -63,7 +64,7 @@ forth-kept start s h n x k st found forth out its none said =
     (λ d other fresh. rw (other_pasts rules h step d (rw other refl), other_edges rules h step d (rw other refl) refl) fresh)
     (circuit-settled rules s.last_closes h n y k forth out its refl st.numbers.bodies none own behind_it) st.circuits in
     let size : length t.circuits ≡ length s.circuits = length-with s.circuits c (Some new) in
-    let legs_same = legs-kept s c x new found behind_it.legs in
+    let grew : (leg : Leg) → Grew (leg_in s leg) (leg_in t leg) = legs-grew s c x new found behind_it.legs in
     record {
       steps = step-added start s.steps h step st.steps (tt, said);
       numbers = record {
@@ -76,8 +77,8 @@ forth-kept start s h n x k st found forth out its none said =
       };
       channels = st.channels;
       circuits = circuits_now;
-      ids = ids-same (leg_in t) (leg_in s) (λ m. lane rules h m) (at h) legs_same st.ids;
-      legs = legs-same s.channels (leg_in t) (leg_in s) legs_same st.legs;
+      ids = ids-grew (leg_in s) (leg_in t) (λ m. lane rules h m) (at h) grew st.ids;
+      legs = lies-grew s.channels (leg_in s) (leg_in t) grew st.legs;
       dials = dials-changed s.again (dial_in s) (dial_in t) c (length (dials_made rules h)) (length (dials_made rules (step ∷ h)))
           (was_handed_out h) (was_handed_out (step ∷ h)) z.circuit.dial
           (rw (slot_at-with s.circuits c (Some new) c (slot_at-inside s.circuits c x found), self_eq c) refl)
@@ -90,8 +91,8 @@ forth-kept start s h n x k st found forth out its none said =
                 (numbered (length (dials_made rules h)) c
                 (drop (length (asked (log rules (events rules h c)))) (asked (log rules (events rules (step ∷ h) c))))),
           ))) st.dials;
-      counts = counts-same (leg_in t) (leg_in s) (cell_count rules h) (tick h) (length t.circuits) (length s.circuits) legs_same
-          size st.counts;
+      counts = counts-grew (leg_in s) (leg_in t) (cell_count rules h) (tick h) (length t.circuits) (length s.circuits) grew size
+          st.counts;
       slots = st.slots;
       not_yet = st.not_yet;
     }

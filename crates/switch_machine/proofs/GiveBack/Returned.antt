@@ -3,7 +3,7 @@
 use Rattle.std.proofs.Common.{◌≡◌, ℕ, ◌+◌, ◌≤◌, true, false, List, ◌∷◌, ◌++◌, length, drop, replicate, Some, None, refl, sym, ◌∙◌, ap, subst}
 use Rattle.std.specs.List.{filter}
 use Rattle.circuit_model.specs.Events.{Event}
-use Rattle.circuit_model.specs.NextHop.{leg_count, next_hop}
+use Rattle.circuit_model.specs.NextHop.{next_hop}
 use Rattle.circuit_model.specs.Packaged.{back_bodies}
 use Rattle.circuit_model.specs.Rules.{Rules}
 use Rattle.circuit_model.specs.Words.{log}
@@ -13,11 +13,12 @@ use Rattle.switch_machine.proofs.NewBodies.{all-new, new-many, new-none}
 use Rattle.switch_machine.proofs.GiveBack.Said.{cells-said}
 use Rattle.switch_machine.proofs.Settling.Core.{CoreStands}
 use Rattle.switch_machine.proofs.Settling.Dials.{dial-before, dials-after_are, dials-counted, open_by}
-use Rattle.switch_machine.proofs.GiveBack.Batch.{legs-unlinked}
+use Rattle.switch_machine.proofs.GiveBack.Batch.{legs-batch}
+use Rattle.switch_machine.proofs.GrewLegs.{Grew}
 use Rattle.switch_machine.specs.Calls.GiveBack.{settle_all}
 use Rattle.switch_machine.specs.Calls.Settling.{Settling, unsettled}
 use Rattle.switch_machine.specs.Stands.OneCircuit.{CircuitStands, OrdersStand}
-use Rattle.switch_machine.specs.State.{CircuitState, KeptClaim, State}
+use Rattle.switch_machine.specs.State.{CircuitState, KeptClaim, State, slot_at}
 use Rattle.switch_model.proofs.Common.{self_eq}
 use Rattle.switch_model.specs.Answers.EdgeOut.{Ordered}
 use Rattle.switch_model.specs.History.Circuit.{events, is_accepted_return, sent}
@@ -59,7 +60,7 @@ pub record Returned (rules : Rules) (h : List Step) (n : ClaimNote) (a : BackAns
   pub dial : z.circuit.dial ≡ open_by (next_hop (log rules z.events)) (was_handed_out h)
       (filter (is_from n.circ.0) (dials_made rules (returning n a ∷ h)))
   pub sent_count : z.circuit.sent_count ≡ y.circuit.sent_count
-  pub legs : z.circuit.legs ≡ y.circuit.legs
+  pub legs : (j : ℕ) → Grew (slot_at y.circuit.legs j) (slot_at z.circuit.legs j)
 
 -- the events of the circuit
 events-returned : (rules : Rules) (h : List Step) (n : ClaimNote) (a : BackAnswer) → n.dir ≡ Forth → is_accepted_return a ≡ true →
@@ -79,11 +80,11 @@ pub batch-returned : (rules : Rules) (closes : List Ordered) (h : List Step) (n 
     (k : KeptClaim) → n.dir ≡ Forth → is_accepted_return a ≡ true →
     y.circuit.forth.claim_out ≡ Some k → k.note ≡ n → y.events ≡ events rules h n.circ.0 → y.bodies ≡ length (born_bodies rules h)
     → y.dials ≡ length (dials_made rules h) →
-    ((order : ℕ) → length (dials_made rules h) ≤ order → was_handed_out h order ≡ false) → (past rules h n.circ.0).hops ≡ 0 →
+    ((order : ℕ) → length (dials_made rules h) ≤ order → was_handed_out h order ≡ false) →
     CircuitStands rules closes y.circuit n.circ.0 (past rules h n.circ.0) (λ j. holds_id h n.circ.0 j)
     (edge_past rules h n.circ.0) →
     Returned rules h n a y (settle_all rules y k.cells)
-batch-returned rules closes h n a y k forth accepted out its before body_count dial_count never unlinked own =
+batch-returned rules closes h n a y k forth accepted out its before body_count dial_count never own =
     let c = n.circ.0 in
     let p = past rules h c in
     let made = dials_made rules h in
@@ -115,7 +116,6 @@ batch-returned rules closes h n a y k forth accepted out its before body_count d
     let dial_behind =
     dial-batch rules c (length made) (length (asked (log rules y.events))) (filter (is_from c) made) (was_handed_out h)
     k.cells y never (dial-before rules c made (was_handed_out h) y dial_count dial_before) in
-    let linked : leg_count (log rules y.events) ≡ 0 = rw before (own.linked ∙ unlinked) in
     let made_now : (e : List Event) → e ≡ events rules (returning n a ∷ h) c → made ++ numbered (length made) c
     (drop (length (asked (log rules y.events))) (asked (log rules e))) ≡ dials_made rules (returning n a ∷ h) =
     λ e same. rw (same, before) refl in
@@ -138,5 +138,5 @@ batch-returned rules closes h n a y k forth accepted out its before body_count d
           (sym (dials-after_are c (length (asked (log rules y.events))) made (log rules (settle_all rules y k.cells).events))
           ∙ ap (filter (is_from c)) (made_now (settle_all rules y k.cells).events all_events));
       sent_count = sent_count-settled rules k.cells y;
-      legs = legs-unlinked rules k.cells y linked;
+      legs = legs-batch rules k.cells y;
     }

@@ -174,20 +174,27 @@ within-pushed : (bodies : List (List ℕ)) (more : Option (List ℕ)) (n : ℕ) 
 within-pushed bodies None n le = le
 within-pushed bodies (Some body) n le = omega (arith, length-append bodies (body ∷ []), le)
 
--- a forward cell, whatever its effects
+-- an event that opens no circuit and links no next hop, whatever its effects
+pub core-more : (y : Settling) (c : ℕ) (l : Log) (p : Past) (has_id : ℕ → Bool) (all : List ℕ) (entry : Entry)
+    → born_reply (entry ∷ l) ≡ born_reply l → born_keys (entry ∷ l) ≡ born_keys l → leg_count (entry ∷ l) ≡ leg_count l →
+    CoreStands y c l p has_id all
+    → CoreStands (settle_entry l entry y) c (entry ∷ l) p has_id (numbers_with all y.bodies entry.effects.back)
+core-more y c l p has_id all entry reply keys count own =
+    let inside : leg_count l < length y.circuit.legs = omega (arith, own.hops, own.linked) in
+    record {
+      born = rw reply own.born;
+      sealed = within-pushed (back_bodies l) entry.effects.back p.sealed_count own.sealed;
+      hops = length-queued y.circuit.legs (leg_count l) (given_forth l entry) ∙ own.hops;
+      linked = count ∙ own.linked;
+      legs = legs-more y.circuit.legs l p has_id entry inside reply keys count own.born own.sealed own.legs;
+      back = back-more c y.bodies y.circuit.back p.sealed_count (back_bodies l) (p.claimed_count Back) (p.claim_out Back) all
+          entry.effects.back own.sealed own.back;
+    }
+
+-- a forward cell
 pub core-step : (y : Settling) (c : ℕ) (l : Log) (p : Past) (has_id : ℕ → Bool) (all : List ℕ) (command : ℕ) (body : List ℕ)
     (m : Option Message) (fx : Effects) → CoreStands y c l p has_id all →
     CoreStands (settle_entry l (record { event = Forward command body; message = m; effects = fx }) y) c
     (record { event = Forward command body; message = m; effects = fx } ∷ l) p has_id (numbers_with all y.bodies fx.back)
 core-step y c l p has_id all command body m fx own =
-    let entry : Entry = record { event = Forward command body; message = m; effects = fx } in
-    let inside : leg_count l < length y.circuit.legs = omega (arith, own.hops, own.linked) in
-    record {
-      born = own.born;
-      sealed = within-pushed (back_bodies l) fx.back p.sealed_count own.sealed;
-      hops = length-queued y.circuit.legs (leg_count l) (given_forth l entry) ∙ own.hops;
-      linked = own.linked;
-      legs = legs-more y.circuit.legs l p has_id entry inside refl refl refl own.born own.sealed own.legs;
-      back = back-more c y.bodies y.circuit.back p.sealed_count (back_bodies l) (p.claimed_count Back) (p.claim_out Back) all
-          fx.back own.sealed own.back;
-    }
+    core-more y c l p has_id all (record { event = Forward command body; message = m; effects = fx }) refl refl refl own

@@ -40,21 +40,29 @@ events-first rules h chan cell a c d here = rw (here, and-false (c == d)) refl
 -- no new bodies
 
 new-at : (rules : Rules) (h after : List Step) (o : Option ℕ) (all : List Way)
-    → ((c : ℕ) → events rules after c ≡ events rules h c) → ((c : ℕ) → taken_forth after c ≡ taken_forth h c) →
+    → ((c : ℕ) → back_bodies (log rules (events rules after c)) ≡ back_bodies (log rules (events rules h c)))
+    → ((c : ℕ) → taken_forth after c ≡ taken_forth h c) →
     new_at rules h after o ++ all ≡ all
-new-at rules h after None all same_events same_forth = refl
-new-at rules h after (Some c) all same_events same_forth =
-    all-new _ _ all []
-    (new-none (record { circ = c; dir = Back }) _ _ (ap (λ ev. length (back_bodies (log rules ev))) (same_events c)))
+new-at rules h after None all same_behind same_forth = refl
+new-at rules h after (Some c) all same_behind same_forth =
+    all-new _ _ all [] (new-none (record { circ = c; dir = Back }) _ _ (ap (λ (l : List (List ℕ)). length l) (same_behind c)))
     (new-none (record { circ = c; dir = Forth }) _ _ (ap (λ (l : List CircuitCell). length l) (same_forth c)))
+
+pub born-alike : (rules : Rules) (h : List Step) (chan : ℕ) (cell : Cell) (a : TakeAnswer)
+    → ((c : ℕ) → back_bodies (log rules (events rules (Take (chan_no chan) cell a ∷ h) c))
+    ≡ back_bodies (log rules (events rules h c))) →
+    ((c : ℕ) → taken_forth (Take (chan_no chan) cell a ∷ h) c ≡ taken_forth h c)
+    → born_bodies rules (Take (chan_no chan) cell a ∷ h) ≡ born_bodies rules h
+born-alike rules h chan cell a same_behind same_forth =
+    new-at rules h (Take (chan_no chan) cell a ∷ h) (circuit_at (at h chan cell.circ)) (born_bodies rules h) same_behind
+    same_forth
 
 pub born-same : (rules : Rules) (h : List Step) (chan : ℕ) (cell : Cell) (a : TakeAnswer)
     → ((c : ℕ) → events rules (Take (chan_no chan) cell a ∷ h) c ≡ events rules h c) →
     ((c : ℕ) → taken_forth (Take (chan_no chan) cell a ∷ h) c ≡ taken_forth h c)
     → born_bodies rules (Take (chan_no chan) cell a ∷ h) ≡ born_bodies rules h
 born-same rules h chan cell a same_events same_forth =
-    new-at rules h (Take (chan_no chan) cell a ∷ h) (circuit_at (at h chan cell.circ)) (born_bodies rules h) same_events
-    same_forth
+    born-alike rules h chan cell a (λ c. ap (λ ev. back_bodies (log rules ev)) (same_events c)) same_forth
 
 -- what the edge sees of a circuit follows from its events and the body numbers
 

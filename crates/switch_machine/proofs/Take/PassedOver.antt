@@ -31,15 +31,15 @@ use Rattle.switch_machine.proofs.Slots.{length-with, slot_at-inside}
 use Rattle.switch_machine.proofs.Take.Frames.{born-same, edge-taken, events-passed}
 use Rattle.switch_machine.proofs.Take.Frees.{circuit-taken, freed-is, frees, ids-freed, lane-stays}
 
-past-passed : (rules : Rules) (h : List Step) (chan : ℕ) (cell : Cell) (why : Why) (d : ℕ)
+pub past-passed : (rules : Rules) (h : List Step) (chan : ℕ) (cell : Cell) (why : Why) (d : ℕ)
     → past rules (Take (chan_no chan) cell (PassedOver why) ∷ h) d ≡ past rules h d
 past-passed rules h chan cell why d = ap (λ ev. record (past rules h d) { events = ev }) (events-passed rules h chan cell why d)
 
-born-passed : (rules : Rules) (h : List Step) (chan : ℕ) (cell : Cell) (why : Why)
+pub born-passed : (rules : Rules) (h : List Step) (chan : ℕ) (cell : Cell) (why : Why)
     → born_bodies rules (Take (chan_no chan) cell (PassedOver why) ∷ h) ≡ born_bodies rules h
 born-passed rules h chan cell why = born-same rules h chan cell (PassedOver why) (events-passed rules h chan cell why) (λ c. refl)
 
-edge-passed : (rules : Rules) (h : List Step) (chan : ℕ) (cell : Cell) (why : Why) (d : ℕ)
+pub edge-passed : (rules : Rules) (h : List Step) (chan : ℕ) (cell : Cell) (why : Why) (d : ℕ)
     → edge_past rules (Take (chan_no chan) cell (PassedOver why) ∷ h) d ≡ edge_past rules h d
 edge-passed rules h chan cell why d =
     edge-taken rules h chan cell (PassedOver why) d (events-passed rules h chan cell why d)

@@ -8,7 +8,7 @@ use Rattle.tr_io.specs.declared.step.Step.{Step}
 use Rattle.switch_model.specs.Start.{SwitchStart}
 use Rattle.switch_model.specs.Names.{Leg}
 use Rattle.switch_model.specs.History.Channels.{channel_at, given_ids}
-use Rattle.switch_model.specs.History.Legs.{port, hops, at, holds_id}
+use Rattle.switch_model.specs.History.Legs.{port, at, holds_id}
 use Rattle.switch_model.specs.History.Circuit.{is_live_circuit, current_leg, events}
 use Rattle.switch_model.specs.History.Past.{past}
 use Rattle.switch_model.specs.History.EdgePast.{edge_past}
@@ -56,7 +56,7 @@ pub record ToTear (start : SwitchStart) (s : State) (h : List Step) (step : Step
   pub dials : DialsStand s.again (dial_in s) (length (dials_made start.rules (step ∷ h))) (was_handed_out (step ∷ h))
   pub counts : CountsStand (leg_in s) (cell_count start.rules (step ∷ h)) (tick (step ∷ h)) (length s.circuits)
   pub slots : SlotsStand s.slots s.halts s.least_halt (bound (step ∷ h)) (halts (step ∷ h)) (λ n. some_halt n (step ∷ h))
-  pub not_yet : NotYetStand (is_reached (step ∷ h)) (hops (step ∷ h))
+  pub not_yet : NotYetStand (is_reached (step ∷ h))
   -- the circuit
   pub found : slot_at s.circuits c ≡ Some x
   pub legs : (k : ℕ) → LegBy (slot_at x.legs k) ((past start.rules (step ∷ h) c).sent k)
