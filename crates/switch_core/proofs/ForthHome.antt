@@ -44,7 +44,7 @@ use Rattle.switch_machine.specs.Stands.OneWay.{WayStands, cell_waiting}
 use Rattle.switch_machine.specs.State.{CircuitState, KeptClaim, State, WayState, slot_at}
 use Rattle.switch_core.specs.Meaning.{home_count}
 use Rattle.switch_core.specs.Relays.{RelayAt, RelayStands}
-use Rattle.switch_core.specs.Settling.{AreOpened, CallsFit, HasCallsFor, RelayIs}
+use Rattle.switch_core.specs.Settling.{AreOpened, CallsFit, HasCallsFor, RelayFits}
 use Rattle.switch_core.specs.declared.relay.Relay.{Relay}
 use Rattle.switch_machine.proofs.Take.CellCounts.{kept-count}
 use Rattle.switch_core.proofs.Taken.{taken_count}
@@ -97,9 +97,10 @@ calls_fit rules closes x c p has_id e relay own stands =
     (p.claim_out Forth) (e.numbers Forth) own.forth)) stands.calls
 
 pub relay_is : (rules : Rules) (closes : List Ordered) (x : CircuitState) (c : ℕ) (p : Past) (has_id : ℕ → Bool) (e : EdgePast)
-    (relay : Relay) → CircuitStands rules closes x c p has_id e → p.hops ≡ 0 → RelayStands relay rules p.events p.sealed_count
-    → RelayIs relay.circuit rules p.events x.back
-relay_is rules closes x c p has_id e relay own none stands =
+    (relay : Relay) → CircuitStands rules closes x c p has_id e → RelayStands relay rules p.events p.sealed_count
+    → RelayFits relay.circuit rules p.events x
+relay_is rules closes x c p has_id e relay own stands = λ one.
+    let none : p.hops ≡ 0 = omega (arith, own.hops, one) in
     let given =
     given-count c Back x.back (take p.sealed_count (relay_cells (back_bodies (log rules p.events))))
     (relay_cells (back_bodies (log rules p.events))) (p.claimed_count Back) (p.claim_out Back) (e.numbers Back) own.back in

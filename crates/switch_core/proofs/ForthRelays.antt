@@ -187,7 +187,7 @@ settles_of start old new h relays done x k relay next a home st parts =
     let stands : RelayStands relay start.rules ev (past start.rules h c).sealed_count =
     relay_of _ (slot_at relays c) relay start.rules ev _ (st.relays.relay c) own.live home.relay_there in
     let is = relay_is start.rules old.last_closes x c (past start.rules h c) (λ j. holds_id h c j) (edge_past start.rules h c)
-    relay own (st.state.not_yet.unlinked c) stands in
+    relay own stands in
     parts x ev home.live is (outputs-are start old h relays done x k relay home st)
 
 -- the step

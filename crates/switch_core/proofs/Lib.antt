@@ -33,3 +33,6 @@ pub mod Returns
 pub mod HomeReturns
 pub mod GivenBack
 pub mod GivenSteps
+pub mod Sums
+pub mod DialNumbers
+pub mod Dialled

@@ -10,3 +10,4 @@ pub mod Claiming
 pub mod Sealing
 pub mod Returning
 pub mod Homecoming
+pub mod Dialling

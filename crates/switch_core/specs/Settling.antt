@@ -52,6 +52,10 @@ pub record RelayIs (relay : RelayCircuit) (rules : Rules) (events : List Event) 
   pub behind_is : length (back_bodies (log rules events)) ≡ back.claimed_count + length back.waiting_bodies
   pub out : kept_length back.claim_out ≤ back.claimed_count
 
+-- The same of a circuit, if it has one leg: then it has no next hop.
+abbrev pub RelayFits : RelayCircuit → Rules → List Event → CircuitState → Type 0
+RelayFits relay rules events x = length x.legs ≡ 1 → RelayIs relay rules events x.back
+
 -- The relay has room to count so many more events.
 pub record HasCallsFor (n : ℕ) (relay : RelayCircuit) : Type 0 where
   pub windows : relay.windows.calls + n ≤ 2 ^ 63
@@ -102,7 +106,7 @@ pub record SlotSettles (rules : Rules) (old new : Option CircuitState) (k next :
   pub behind_it : CircuitState
   pub live : old ≡ Some circuit
   pub stays : new ≡ Some behind_it
-  pub settles : (events : List Event) → RelayIs first rules events circuit.back → AreOpened opened_bodies rules events circuit
+  pub settles : (events : List Event) → RelayFits first rules events circuit → AreOpened opened_bodies rules events circuit
       → SettlesForth rules events circuit behind_it k next relay reason
   pub taken : behind_it.forth.claimed_count + length behind_it.forth.waiting_bodies ≤ circuit.forth.claimed_count
       + length circuit.forth.waiting_bodies
@@ -129,5 +133,5 @@ pub record Settles (rules : Rules) (events : List Event) (old new : State) (c : 
 
 abbrev pub PartsSettle : Rules → State → State → ℕ → RelayCircuit → RelayCircuit → List Opened → BackAnswer → Type 0
 PartsSettle rules old new c first relay opened_bodies answer =
-    (x : CircuitState) (events : List Event) → slot_at old.circuits c ≡ Some x → RelayIs first rules events x.back
+    (x : CircuitState) (events : List Event) → slot_at old.circuits c ≡ Some x → RelayFits first rules events x
     → AreOpened opened_bodies rules events x → Settles rules events old new c x relay answer

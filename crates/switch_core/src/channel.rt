@@ -3,6 +3,7 @@ ghost use Rattle.std.specs.Prelude.{◌≡◌, ◌==◌, ◌+◌, ◌++◌, ◌�
 ghost use Rattle.std.specs.List.{list_any};
 ghost use Rattle.cell_codec.specs.Cells.{IsWellFormed};
 ghost use Rattle.switch_model.specs.History.Channels.{is_ours};
+ghost use Rattle.switch_machine.specs.Calls.DialOrder.{is_dialled_to};
 ghost use Rattle.switch_machine.specs.Calls.OpenCircuit.{has_peers_bit, refusing};
 ghost use Rattle.switch_machine.specs.Calls.Take.{without_destroys};
 ghost use Rattle.switch_model.specs.Waiting.Lanes.{refusal_reason, with_refusal};
@@ -16,7 +17,7 @@ use std::collections::LinkedList;
 use std::marker::Model;
 use std::mem::replace;
 use tr_io::answers::OpenRefusal;
-use tr_io::names::Side;
+use tr_io::names::{Dest, Side};
 
 /// How many refusals of openings may wait on a channel.
 const MOST_REFUSALS: usize = 512;
@@ -71,6 +72,15 @@ impl Channel {
         match self.side {
             Side::PeerOpened => false,
             Side::WeOpened => true,
+        }
+    }
+
+    /// Whether this side dialled the channel to a destination. Whoever opened it, it was dialled to none.
+    pub fn leads_to(&self, _to: &Dest) -> bool
+        ensures { result ≡ is_dialled_to _to.now (Some self.now) }
+    {
+        match self.side {
+            Side::PeerOpened | Side::WeOpened => false,
         }
     }
 

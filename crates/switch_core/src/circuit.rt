@@ -12,6 +12,7 @@ ghost use Rattle.switch_core.specs.Taking.{body_count};
 ghost use Rattle.switch_machine.specs.Calls.Take.{forth_waits};
 
 mod claims;
+mod dials;
 mod home;
 mod seals;
 mod settles;

@@ -4,6 +4,8 @@ ghost use Rattle.circ_relay.specs.Values.{address_of, order_of};
 ghost use Rattle.switch_core.specs.Ordering.{IsRoom, no_orders, ordered, with_edge};
 ghost use Rattle.switch_machine.specs.Calls.Settling.{dial_with};
 
+mod dials;
+
 use cell_codec::{Bytes, List, Queue};
 use std::alloc::{AllocError, Global};
 use std::marker::Model;

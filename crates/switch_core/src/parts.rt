@@ -5,6 +5,7 @@ ghost use Rattle.switch_machine.specs.Machine.{new_state};
 mod channels;
 mod circuits;
 mod claiming;
+mod dialling;
 mod finding;
 mod returning;
 mod sealing;

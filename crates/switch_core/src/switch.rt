@@ -18,6 +18,7 @@ ghost use Rattle.switch_core.specs.Started.{SwitchAdds};
 ghost use Rattle.switch_core.specs.Taking.{TakeCase};
 
 mod claims;
+mod dials;
 mod returns;
 
 use crate::opening::{forget_relay, forget_taken, open_with_relay};

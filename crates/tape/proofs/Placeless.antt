@@ -31,7 +31,7 @@ given-state start s note place h gone st = record {
   dials = record { are_out = st.dials.are_out; once = st.dials.once; never = λ order. st.dials.never order };
   counts = record { counts = λ leg. st.counts.counts leg; no_count = λ c. st.counts.no_count c };
   slots = record { slots = λ slot. st.slots.slots slot; halts = st.slots.halts; least_halt = λ n. st.slots.least_halt n };
-  not_yet = record { unreached = λ c. st.not_yet.unreached c; unlinked = λ c. st.not_yet.unlinked c };
+  not_yet = record { unreached = λ c. st.not_yet.unreached c };
 }
 
 pub given_to_gone : (s : Started) (note : ClaimNote) (place : Option ℕ) (h : List Step) →
@@ -62,7 +62,7 @@ abandoned-state start s note place h gone st = record {
   dials = record { are_out = st.dials.are_out; once = st.dials.once; never = λ order. st.dials.never order };
   counts = record { counts = λ leg. st.counts.counts leg; no_count = λ c. st.counts.no_count c };
   slots = record { slots = λ slot. st.slots.slots slot; halts = st.slots.halts; least_halt = λ n. st.slots.least_halt n };
-  not_yet = record { unreached = λ c. st.not_yet.unreached c; unlinked = λ c. st.not_yet.unlinked c };
+  not_yet = record { unreached = λ c. st.not_yet.unreached c };
 }
 
 pub abandoned_to_gone : (s : Started) (note : ClaimNote) (place : Option ℕ) (h : List Step) →

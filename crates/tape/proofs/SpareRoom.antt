@@ -41,7 +41,7 @@ bare_stands start s chan circ command (Var list) a h st = record {
   dials = record { are_out = st.dials.are_out; once = st.dials.once; never = λ order. st.dials.never order };
   counts = record { counts = λ leg. st.counts.counts leg; no_count = λ c. st.counts.no_count c };
   slots = record { slots = λ slot. st.slots.slots slot; halts = st.slots.halts; least_halt = λ n. st.slots.least_halt n };
-  not_yet = record { unreached = λ c. st.not_yet.unreached c; unlinked = λ c. st.not_yet.unlinked c };
+  not_yet = record { unreached = λ c. st.not_yet.unreached c };
 }
 
 bare_switch : (s : Started) (chan : ChanNo) (circ command : ℕ) (body : Body) (a : TakeAnswer) (h : List Step) →

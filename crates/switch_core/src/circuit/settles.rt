@@ -3,7 +3,7 @@ ghost use Rattle.std.specs.Prelude.{◌≡◌, ◌+◌, ◌<◌, ◌≤◌, ◌^
 ghost use Rattle.circ_relay.specs.Values.{rules_of};
 ghost use Rattle.circuit_model.specs.Events.{Event};
 ghost use Rattle.switch_machine.specs.Calls.Take.{kept_length};
-ghost use Rattle.switch_core.specs.Settling.{AreOpened, CallsGrow, HasCallsFor, RelayIs, SettlesForth};
+ghost use Rattle.switch_core.specs.Settling.{AreOpened, CallsGrow, HasCallsFor, RelayFits, SettlesForth};
 
 use crate::circuit::Circuit;
 use crate::counters::Counters;
@@ -26,7 +26,7 @@ impl Circuit {
         requires calls { HasCallsFor 32 relay.old }
         requires bodies { counters.old.bodies < 2 ^ 99 }
         requires dials { counters.old.dial_orders < 2 ^ 99 }
-        ensures settles { (events : List Event) → RelayIs relay.old (rules_of rules.now) events self.old.back
+        ensures settles { (events : List Event) → RelayFits relay.old (rules_of rules.now) events self.old
             → AreOpened opened_bodies.now (rules_of rules.now) events self.old →
             SettlesForth (rules_of rules.now) events self.old self.new counters.old counters.new relay.new result }
         ensures grown { CallsGrow (length opened_bodies.now) relay.old relay.new }

@@ -94,7 +94,7 @@ impl Parts {
         Ok(())
     }
 
-    /// A claim for which nothing was ready, which is a step.
+    /// A call for which nothing was ready, which is a step.
     pub fn give_nothing(&mut self)
         requires { self.old.steps < 2 ^ 62 }
         ensures { self.new ≡ counted self.old }

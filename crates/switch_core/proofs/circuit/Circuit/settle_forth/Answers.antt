@@ -10,7 +10,7 @@ use Rattle.switch_machine.specs.Machine.{kept_cells}
 use Rattle.switch_machine.specs.State.{CircuitState, LegState, WayState}
 use Rattle.switch_machine.proofs.Take.CellCounts.{kept-count}
 use Rattle.switch_core.specs.Meaning.{WithRoom, circuit_of, home_count}
-use Rattle.switch_core.specs.Settling.{AreOpened, RelayIs, SettlesForth, command_at}
+use Rattle.switch_core.specs.Settling.{AreOpened, RelayFits, SettlesForth, command_at}
 use Rattle.switch_core.proofs.Settles.{next_cell}
 use Rattle.switch_core.proofs.SettlesOn.{goes, all_went, closes_circuit, some_reason, no_reason}
 use Rattle.switch_core.proofs.SettleRoom.{goes_unclosed, applied_as, counts_more, counts_on, one_more_back, queued_still, fewer_than_kept}
@@ -24,14 +24,14 @@ returns-clause-settles c =
     let new : CircuitState =
     circuit_of c.loop-number.self-inside.leg.state c.bring_home-2.new.self.state c.loop-number.self-inside.back.state
     c.loop-number.self-inside.orders.state in
-    subst (λ (x : CircuitState). (events : List Event) → RelayIs c.args.relay.now rules events x.back
+    subst (λ (x : CircuitState). (events : List Event) → RelayFits c.args.relay.now rules events x
     → AreOpened c.args.opened_bodies.now rules events x
     → SettlesForth rules events x new c.args.counters.now c.loop-number.counters c.loop-number.relay None) c.self.view_is
     (λ events is outputs.
     all_went rules events _ new c.args.counters.now c.loop-number.counters c.loop-number.number c.loop-number.relay
     c.loop-number.self-inside.leg.state c.loop-number.self-inside.forth.state c.loop-number.self-inside.back.state
     c.loop-number.self-inside.orders.state c.args.opened_bodies.now
-    (c.loop-number.invariant.goes_on events is outputs)
+    (c.loop-number.invariant.goes_on events (is refl) outputs)
     (omega (arith, count, kept-count c.self.inside.forth.state.claim_out, c.loop-number-test.false))
     (ap (λ w. w.state) c.loop-number.invariant.forth)
     (ap (λ (w : WayState). circuit_of c.loop-number.self-inside.leg.state w c.loop-number.self-inside.back.state
@@ -127,16 +127,16 @@ returns-then-is_some-clause-settles c =
     let reason = some_reason c.apply-reason.result (sym c.if-is_some.ensures) in
     let new : CircuitState =
     circuit_of leg c.bring_home.new.self.state c.apply-reason.new.back.state c.apply-reason.new.orders.state in
-    subst (λ (o : Option ℕ). (events : List Event) → RelayIs c.args.relay.now rules events c.args.self.now.back
+    subst (λ (o : Option ℕ). (events : List Event) → RelayFits c.args.relay.now rules events c.args.self.now
     → AreOpened c.args.opened_bodies.now rules events c.args.self.now
     → SettlesForth rules events c.args.self.now new c.args.counters.now c.apply-reason.new.counters
     c.forward_reserved-effects.new.self o) (sym reason.1)
-    (subst (λ (x : CircuitState). (events : List Event) → RelayIs c.args.relay.now rules events x.back
+    (subst (λ (x : CircuitState). (events : List Event) → RelayFits c.args.relay.now rules events x
     → AreOpened c.args.opened_bodies.now rules events x
     → SettlesForth rules events x new c.args.counters.now c.apply-reason.new.counters c.forward_reserved-effects.new.self
     (Some reason.0)) c.self.view_is
     (λ events is outputs.
-    let g = c.loop-number.invariant.goes_on events is outputs in
+    let g = c.loop-number.invariant.goes_on events (is refl) outputs in
     let next = next_cell rules events (kept_cells c.self.inside.forth.state.claim_out) _ c.args.counters.now c.loop-number.number
     c.loop-number.relay leg forth back orders k c.args.opened_bodies.now _ _ g
     (fewer_than_kept c.loop-number.number c.args.opened_bodies.now c.self.inside.forth.state.claim_out count

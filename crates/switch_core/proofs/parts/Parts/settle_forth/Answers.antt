@@ -5,7 +5,7 @@ use Rattle.switch_model.specs.History.Returns.{settled}
 use Rattle.switch_machine.specs.Calls.Take.{kept_length}
 use Rattle.switch_machine.specs.Machine.{kept_cells}
 use Rattle.switch_machine.specs.State.{CircuitState, State, with_slot}
-use Rattle.switch_core.specs.Settling.{AreOpened, CallsFit, RelayIs, SettlesForth}
+use Rattle.switch_core.specs.Settling.{AreOpened, CallsFit, RelayFits, SettlesForth}
 use Rattle.switch_core.specs.Meaning.{home_count}
 use Rattle.switch_core.proofs.TakeSteps.{no_rules}
 use Rattle.switch_core.proofs.ForthHome.{calls_for}
@@ -87,8 +87,7 @@ returns c = record {
       c.index_mut-slot.result.now c.self.view_is c.requires.live c.index_mut-slot.ensures.value) ∙ live) in
       let settles : SettlesForth rules events x slots.behind_it k c.settle_forth_of-reason.new.counters
       c.settle_forth_of-reason.new.relay c.settle_forth_of-reason.result =
-      subst (λ (y : CircuitState). RelayIs c.args.relay.now rules events y.back
-      → AreOpened c.args.opened_bodies.now rules events y
+      subst (λ (y : CircuitState). RelayFits c.args.relay.now rules events y → AreOpened c.args.opened_bodies.now rules events y
       → SettlesForth rules events y slots.behind_it k c.settle_forth_of-reason.new.counters c.settle_forth_of-reason.new.relay
       c.settle_forth_of-reason.result) same
       (slots.settles events) is outputs in
