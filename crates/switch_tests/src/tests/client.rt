@@ -70,6 +70,13 @@ impl Client {
         assert_eq!(rt; switch.take(rt, self.id, &body), TakeAnswer::Queued);
     }
 
+    /// Sends this body in RELAY_EARLY, which waits in the switch then.
+    pub fn send_early(&mut self, rt: &impl Abort, switch: &mut TestSwitch, plain: &[u8; 509]) {
+        let body = self.seal(rt, plain);
+        let answer = switch.take_cell(rt, self.id, command::RELAY_EARLY, &body);
+        assert_eq!(rt; answer, TakeAnswer::Queued);
+    }
+
     /// The body of the next cell that leaves the switch, its Digest as zero. The cell is for this circuit, and the
     /// relay packaged it.
     pub fn receive(&mut self, rt: &impl Abort, switch: &mut TestSwitch) -> [u8; 509] {

@@ -4,6 +4,7 @@ mod batches;
 mod bodies;
 mod client;
 mod crossing;
+mod dials;
 mod leaving;
 mod limits;
 mod memory;

@@ -8,6 +8,7 @@ use std::alloc::{AllocError, Global};
 use std::process::Abort;
 use switch_core::Switch;
 use tr_io::answers::{BackAnswer, ClaimAnswer, OpenAnswer, TakeAnswer, UpAnswer};
+use tr_io::dials::{DialOrder, DialStep};
 use tr_io::names::{ChanNo, CircNo, Side};
 
 /// The only channel, which the peer opened.
@@ -70,10 +71,22 @@ impl TestSwitch {
 
     /// Takes a RELAY cell with this body.
     pub fn take(&mut self, rt: &impl Abort, id: u32, body: &[u8; 509]) -> TakeAnswer {
+        self.take_cell(rt, id, command::RELAY, body)
+    }
+
+    /// Takes a relay cell with this command and this body.
+    pub fn take_cell(
+        &mut self,
+        rt: &impl Abort,
+        id: u32,
+        relay: u8,
+        body: &[u8; 509],
+    ) -> TakeAnswer {
         assert!(rt; self.switch.steps() < MOST_STEPS);
+        assert!(rt; relay == command::RELAY || relay == command::RELAY_EARLY);
         let cell = Cell {
             circ: id,
-            command: command::RELAY,
+            command: relay,
             body: Body::Fixed(*body),
         };
         self.switch.take(CHANNEL, &cell)
@@ -108,6 +121,23 @@ impl TestSwitch {
         let done = self.claim(rt, 0).expect(rt, "memory")?;
         let count = done.note().count;
         Some((count, self.give_back(rt, done)))
+    }
+
+    /// The dial order that is handed out, if one waits.
+    pub fn dial_order(&mut self, rt: &impl Abort) -> Option<DialStep> {
+        assert!(rt; self.switch.steps() < MOST_STEPS);
+        let DialOrder {
+            order,
+            circ,
+            to,
+            over,
+        } = self.switch.dial_order()?;
+        Some(DialStep {
+            order,
+            circ,
+            to,
+            over,
+        })
     }
 
     /// Tears a circuit down for this reason.
