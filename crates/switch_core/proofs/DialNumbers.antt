@@ -15,7 +15,7 @@ use Rattle.tr_io.specs.declared.names.ClaimNote.{ClaimNote}
 use Rattle.tr_io.specs.declared.names.Dir.TheVariants.{Forth}
 use Rattle.tr_io.specs.declared.step.Step.{Step}
 use Rattle.tr_io.specs.declared.step.Step.TheVariants.{GiveBack, Take}
-use Rattle.switch_model.specs.History.Circuit.{events, is_accepted_return, returns_forth}
+use Rattle.switch_model.specs.History.Circuit.{events, returns_forth}
 use Rattle.switch_model.specs.History.Homecoming.{AddsNext}
 use Rattle.switch_model.specs.History.Legs.{at}
 use Rattle.switch_model.specs.History.Relayed.{settled_forth}

@@ -5,8 +5,6 @@ use Rattle.tr_io.specs.declared.dials.DialOrder.{DialOrder as Dial}
 use Rattle.tr_io.specs.declared.dials.DialStep.{DialStep}
 use Rattle.tr_io.specs.declared.names.Dest.{Dest}
 use Rattle.tr_io.specs.declared.step.Step.TheVariants.{DialOrder}
-use Rattle.tr_io.specs.PortSteps.{dial_step_of}
-use Rattle.tr_io.specs.declared.names.ChanNo.{ChanNo}
 use Rattle.switch_model.specs.Names.{chan_no}
 use Rattle.switch_model.specs.Start.{SwitchStart}
 use Rattle.switch_machine.specs.Adds.{Adds}
@@ -20,7 +18,7 @@ use Rattle.switch_machine.proofs.DialOrder.Open.{in-open}
 use Rattle.switch_machine.proofs.Again.{made-numbered}
 use Rattle.switch_core.specs.Dialling.{open_of}
 use Rattle.switch_core.specs.Meaning.{StepsFit}
-use Rattle.switch_core.specs.Started.{Started, SwitchAdds, SwitchStandsForSome}
+use Rattle.switch_core.specs.Started.{SwitchAdds, SwitchStandsForSome}
 use Rattle.switch_core.specs.declared.counters.Counters.{Counters}
 use Rattle.switch_core.specs.declared.dialling.WaitingDial.{WaitingDial}
 use Rattle.switch_core.specs.declared.relay.Relay.{Relay}

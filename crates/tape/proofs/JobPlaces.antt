@@ -8,7 +8,6 @@ use Rattle.circuit_model.specs.Rules.{Rules}
 use Rattle.hop_crypto.specs.declared.parts.JobParts.{JobParts}
 use Rattle.tr_io.specs.declared.answers.BackAnswer.{BackAnswer}
 use Rattle.tr_io.specs.declared.answers.BackAnswer.TheVariants.{Gone, Stranger, Settled, Down}
-use Rattle.tr_io.specs.declared.answers.Difference.{Difference}
 use Rattle.tr_io.specs.declared.names.ClaimNote.{ClaimNote}
 use Rattle.tr_io.specs.declared.names.Dir.{Dir}
 use Rattle.tr_io.specs.declared.names.Dir.TheVariants.{Forth, Back}

@@ -8,7 +8,7 @@ use Rattle.switch_model.specs.Start.{SwitchStart}
 use Rattle.switch_model.specs.Answers.DialOrder.{first_dial}
 use Rattle.switch_model.specs.Waiting.Dials.{Dial, dial_step, dials, dials_made, dials_out, is_from, is_open, was_handed_out}
 use Rattle.switch_machine.specs.Calls.DialMemory.{dial_order_by}
-use Rattle.switch_machine.specs.Calls.DialOrder.{OpenDial, dial_of, dial_order_result, next_dial_by, oldest_below, order_step, waiting_of}
+use Rattle.switch_machine.specs.Calls.DialOrder.{OpenDial, dial_of, dial_order_result, next_dial_by, oldest_below, order_step}
 use Rattle.switch_machine.specs.Machine.{dial_at, dial_in, is_handed_out}
 use Rattle.switch_machine.specs.Stands.{Stands}
 use Rattle.switch_machine.specs.Stands.OneCircuit.{last_of}

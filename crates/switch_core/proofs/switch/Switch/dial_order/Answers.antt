@@ -3,7 +3,6 @@ use Rattle.tr_io.specs.PortSteps.{dial_step_of}
 use Rattle.tr_io.specs.declared.step.Step.{Step}
 use Rattle.tr_io.specs.declared.step.Step.TheVariants.{DialOrder}
 use Rattle.switch_model.specs.Legal.{IsDialOrder}
-use Rattle.switch_machine.specs.Calls.DialOrder.{dial_order_result}
 use Rattle.switch_machine.proofs.DialOrder.Right.{dial_order_right}
 use Rattle.switch_core.specs.Meaning.{start_of}
 use Rattle.switch_core.specs.Started.{Started, SwitchAdds, SwitchStands}
