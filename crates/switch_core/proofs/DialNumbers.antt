@@ -114,20 +114,20 @@ home_in rules h c = length (settled_forth (circuit_log rules h c))
 -- a return of forward bodies
 home-more : (start : SwitchStart) (h : List Step) (note : ClaimNote) (place : Option ℕ) (a : BackAnswer) →
     (adds : AddsNext start.rules h note place a) →
-    home_in start.rules h note.circ.0 + length adds.settling ≤ home_in start.rules (GiveBack note place a ∷ h) note.circ.0
+    home_in start.rules h note.circ.0 + length adds.settling_cells ≤ home_in start.rules (GiveBack note place a ∷ h) note.circ.0
 home-more start h note place a adds =
     let grown = ap (λ l. length (settled_forth (log start.rules l))) adds.events
-    ∙ ap (λ (l : List CircuitCell). length l) (forth-behind start.rules (events start.rules h note.circ.0) adds.settling)
-    ∙ length-append (settled_forth (circuit_log start.rules h note.circ.0)) adds.settling in
+    ∙ ap (λ (l : List CircuitCell). length l) (forth-behind start.rules (events start.rules h note.circ.0) adds.settling_cells)
+    ∙ length-append (settled_forth (circuit_log start.rules h note.circ.0)) adds.settling_cells in
     omega (arith, grown)
 
 asked-more : (start : SwitchStart) (h : List Step) (note : ClaimNote) (place : Option ℕ) (a : BackAnswer) →
     (adds : AddsNext start.rules h note place a) →
     length (asked_in start.rules (GiveBack note place a ∷ h) note.circ.0)
-    ≤ length (asked_in start.rules h note.circ.0) + length adds.settling
+    ≤ length (asked_in start.rules h note.circ.0) + length adds.settling_cells
 asked-more start h note place a adds =
-    subst (λ ev. length (asked (log start.rules ev)) ≤ length (asked_in start.rules h note.circ.0) + length adds.settling)
-    (sym adds.events) (asked-behind start.rules (events start.rules h note.circ.0) adds.settling)
+    subst (λ ev. length (asked (log start.rules ev)) ≤ length (asked_in start.rules h note.circ.0) + length adds.settling_cells)
+    (sym adds.events) (asked-behind start.rules (events start.rules h note.circ.0) adds.settling_cells)
 
 adds-by : (start : SwitchStart) (h : List Step) (note : ClaimNote) (place : Option ℕ) (a : BackAnswer) (c : ℕ) →
     IsLegal start (GiveBack note place a ∷ h) → returns_forth c note a ≡ true → AddsNext start.rules h note place a
@@ -156,9 +156,9 @@ made-by : (start : SwitchStart) (h : List Step) (note : ClaimNote) (place : Opti
     length (dials_made start.rules (GiveBack note place a ∷ h)) ≤ sum_below (home_in start.rules (GiveBack note place a ∷ h)) n
 made-by start h note place a n true legal is below few =
     let adds = adds-by start h note place a note.circ.0 legal is in
-    let made = made-more start.rules h note place a (length adds.settling) (asked-more start h note place a adds) in
+    let made = made-more start.rules h note place a (length adds.settling_cells) (asked-more start h note place a adds) in
     let sum = sum-up (home_in start.rules h) (home_in start.rules (GiveBack note place a ∷ h)) note.circ.0
-    (length adds.settling) (λ c. home-up start h note place a c (returns_forth c note a) legal refl)
+    (length adds.settling_cells) (λ c. home-up start h note place a c (returns_forth c note a) legal refl)
     (home-more start h note place a adds) n below in
     omega (arith, made, sum, few)
 made-by start h note place a n false legal is below few =

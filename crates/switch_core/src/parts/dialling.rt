@@ -19,6 +19,7 @@ impl Parts {
         requires number { IfSome (oldest_dial self.old) (λ given. given.dial.order < 2 ^ 64) }
         ensures state { self.new ≡ dial_order_state self.old }
         ensures answer { option_map dial_step_of result ≡ dial_order_result self.old }
+        ensures none_again { self.old.again ≡ [] }
     {
         match self.oldest_dial() {
             Some(dial) => {

@@ -3,6 +3,7 @@ ghost use Rattle.std.specs.Prelude.{◌≡◌, ◌+◌, ◌<◌, ◌^◌, List, 
 ghost use Rattle.tr_io.specs.PortSteps.{dial_step_of};
 ghost use Rattle.tr_io.specs.declared.step.Step.{Step};
 ghost use Rattle.tr_io.specs.declared.step.Step.TheVariants.{DialOrder as DialOrderStep};
+ghost use Rattle.switch_model.specs.Answers.DialOrder.{dial_order_answer};
 ghost use Rattle.switch_model.specs.Legal.{IsDialOrder};
 ghost use Rattle.switch_machine.specs.Calls.DialOrder.{dial_order_result};
 ghost use Rattle.switch_core.specs.Started.{SwitchAdds, SwitchStands};
@@ -22,6 +23,8 @@ impl Switch {
         ensures whole { SwitchAdds self.old self.new (DialOrderStep (option_map dial_step_of result)) }
         ensures right { (h : List Step) → SwitchStands self.old h
             → IsDialOrder self.old.start.rules h (option_map dial_step_of result) }
+        ensures oldest { (h : List Step) → SwitchStands self.old h
+            → option_map dial_step_of result ≡ dial_order_answer self.old.start.rules h }
     {
         self.parts.dial_order()
     }

@@ -1,9 +1,12 @@
-use Rattle.std.proofs.Common.{◌≡◌, ◌<◌, ◌^◌, List, option_map, sym, subst, ap, arith}
+use Rattle.std.proofs.Common.{◌≡◌, ◌<◌, ◌^◌, List, option_map, sym, subst, ap, ◌∙◌, arith}
 use Rattle.tr_io.specs.PortSteps.{dial_step_of}
 use Rattle.tr_io.specs.declared.step.Step.{Step}
 use Rattle.tr_io.specs.declared.step.Step.TheVariants.{DialOrder}
+use Rattle.switch_model.specs.Answers.DialOrder.{dial_order_answer}
 use Rattle.switch_model.specs.Legal.{IsDialOrder}
+use Rattle.switch_machine.specs.Calls.DialMemory.{dial_order_by}
 use Rattle.switch_machine.proofs.DialOrder.Right.{dial_order_right}
+use Rattle.switch_machine.proofs.DialOrder.Said.{dial_order_said}
 use Rattle.switch_core.specs.Meaning.{start_of}
 use Rattle.switch_core.specs.Started.{Started, SwitchAdds, SwitchStands}
 use Rattle.switch_core.proofs.Dialled.{dialled_whole, number_fits}
@@ -52,3 +55,13 @@ returns-clause-right c h st =
     let own : SwitchStands s h = subst (λ (old : Started). SwitchStands old h) (sym c.self.view_is) st in
     subst (λ (old : Started). IsDialOrder old.start.rules h a) c.self.view_is
     (subst (IsDialOrder start.rules h) (sym c.dial_order.ensures.answer) (dial_order_right start c.self.inside.parts h own.state))
+
+pub returns-clause-oldest : goal.returns-clause-oldest
+returns-clause-oldest c h st =
+    let start = start_of c.self.inside.name c.self.inside.rules c.self.inside.circuits in
+    let s : Started = started start c.self.inside.parts c.self.inside.relays.items in
+    let a = option_map dial_step_of c.dial_order.result in
+    let own : SwitchStands s h = subst (λ (old : Started). SwitchStands old h) (sym c.self.view_is) st in
+    subst (λ (old : Started). a ≡ dial_order_answer old.start.rules h) c.self.view_is
+    (c.dial_order.ensures.answer ∙ dial_order_said start c.self.inside.parts h own.state
+    ∙ ap (dial_order_by start.rules h) c.dial_order.ensures.none_again)
