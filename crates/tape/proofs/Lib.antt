@@ -1,5 +1,6 @@
 pub mod Fields
 pub mod Teardowns
+pub mod DialSpellings
 pub mod JobSpellings
 pub mod JobsKept
 pub mod Takes

@@ -11,6 +11,7 @@ use Rattle.tr_io.specs.declared.answers.BackAnswer.{BackAnswer}
 use Rattle.tr_io.specs.declared.answers.OpenAnswer.{OpenAnswer}
 use Rattle.tr_io.specs.declared.answers.TakeAnswer.{TakeAnswer}
 use Rattle.tr_io.specs.declared.answers.UpAnswer.{UpAnswer}
+use Rattle.tr_io.specs.declared.dials.DialStep.{DialStep}
 use Rattle.tr_io.specs.declared.names.ChanNo.{ChanNo}
 use Rattle.tr_io.specs.declared.names.CircNo.{CircNo}
 use Rattle.tr_io.specs.declared.names.ClaimNote.{ClaimNote}
@@ -19,12 +20,14 @@ use Rattle.tr_io.specs.declared.step.Step.{Step}
 use Rattle.tr_io.specs.declared.step.Step.TheVariants as Steps
 use Rattle.switch_machine.specs.Adds.{UpCase, OpenCase}
 use Rattle.switch_model.specs.Answers.Claim.{claim_answer}
+use Rattle.switch_model.specs.Answers.DialOrder.{dial_order_answer}
 use Rattle.switch_model.specs.Legal.{IsAnswered, IsLegal}
+use Rattle.switch_model.specs.Start.{SwitchStart}
 use Rattle.switch_core.specs.Taking.{TakeCase}
 use Rattle.switch_core.specs.Started.{Started, SwitchStands, SwitchAdds}
 use Rattle.tape.specs.declared.record.CircuitRequest.{CircuitRequest}
 use Rattle.tape.specs.declared.record.Record.{Record}
-use Rattle.tape.specs.declared.record.Record.TheVariants.{ChannelUp, OpenCircuit, Take, Claim, GiveBack, Abandon, NextCell, TearDown}
+use Rattle.tape.specs.declared.record.Record.TheVariants.{ChannelUp, OpenCircuit, Take, Claim, GiveBack, Abandon, NextCell, DialOrder, TearDown}
 use Rattle.tape.specs.Kinds.OpenCircuit.{command_byte, opening_kind}
 use Rattle.tape.specs.Kinds.ChannelUp.{up_bytes}
 use Rattle.tape.specs.Kinds.OpenCircuit.{open_bytes}
@@ -32,6 +35,7 @@ use Rattle.tape.specs.Kinds.Take.{take_bytes}
 use Rattle.tape.specs.Kinds.Claim.{claim_bytes}
 use Rattle.tape.specs.Kinds.Return.{return_bytes}
 use Rattle.tape.specs.Kinds.NextCell.{next_bytes}
+use Rattle.tape.specs.Kinds.DialOrder.{dial_order_bytes}
 use Rattle.tape.specs.Kinds.TearDown.{tear_down_bytes}
 use Rattle.tape.specs.Fronts.{bare, bare_cell}
 use Rattle.tape.specs.KeptJobs.{kept_job}
@@ -73,29 +77,42 @@ pub record IsPlayOf (rules : Rules) (r : Record) (h : List Step) (step : Step) (
   pub makes : Some step ≡ step_of rules h r
   pub answers : bytes ≡ answer_of rules h r
 
+-- A step that is added makes a legal history.
+legal_by : (rules : Rules) (old new : Started) (step : Step) → old.start ≡ tape_start rules → SwitchAdds old new step →
+    (h : List Step) → SwitchStands old h → IsLegal (tape_start rules) (step ∷ h)
+unfolding SwitchAdds
+legal_by rules old new step is adds h st =
+    subst (λ s. IsLegal s (step ∷ h)) (adds.start ∙ is) (adds.stands h st).state.steps.legal
+
 -- A call plays a record whose step it makes, and leaves the jobs that are kept.
+plays_right : (rules : Rules) (r : Record) (old new : Started) (jobs : ℕ → Option JobParts) (step : Step)
+    (bytes answers more : List ℕ) →
+    old.start ≡ tape_start rules → SwitchAdds old new step → IsQuiet step →
+    ((h : List Step) → SwitchStands old h → IsPlayOf rules r h step bytes) →
+    more ≡ answers ++ bytes →
+    PlaysOn rules r (record { switch = old; jobs = jobs }) (record { switch = new; jobs = jobs }) answers more
+unfolding SwitchAdds
+plays_right rules r old new jobs step bytes answers more is adds quiet right written = record {
+  stands = λ h st.
+      subst (λ o. PlayerStands rules (record { switch = new; jobs = jobs }) (with_step o h))
+      (right h st.switch).makes (record {
+        switch = adds.stands h st.switch;
+        jobs = jobs_stay (tape_start rules) h step jobs (legal_by rules old new step is adds h st.switch) quiet st.jobs;
+        own = (quiet.own, st.own);
+      });
+  answer = λ h st. written ∙ ap (λ xs. answers ++ xs) (right h st.switch).answers;
+}
+
+-- The same where the step's answer determines the record's.
 plays : (rules : Rules) (r : Record) (old new : Started) (jobs : ℕ → Option JobParts) (step : Step)
     (bytes answers more : List ℕ) →
     old.start ≡ tape_start rules → SwitchAdds old new step → IsQuiet step →
     ((h : List Step) → IsAnswered (tape_start rules) h step → IsPlayOf rules r h step bytes) →
     more ≡ answers ++ bytes →
     PlaysOn rules r (record { switch = old; jobs = jobs }) (record { switch = new; jobs = jobs }) answers more
-unfolding SwitchAdds
 plays rules r old new jobs step bytes answers more is adds quiet right written =
-    let legal : (h : List Step) → SwitchStands old h → IsLegal (tape_start rules) (step ∷ h) =
-    λ h st. subst (λ s. IsLegal s (step ∷ h)) (adds.start ∙ is) (adds.stands h st).state.steps.legal in
-    let here : (h : List Step) → SwitchStands old h → IsPlayOf rules r h step bytes =
-    λ h st. right h (legal h st).0.1 in
-    record {
-      stands = λ h st.
-          subst (λ o. PlayerStands rules (record { switch = new; jobs = jobs }) (with_step o h))
-          (here h st.switch).makes (record {
-            switch = adds.stands h st.switch;
-            jobs = jobs_stay (tape_start rules) h step jobs (legal h st.switch) quiet st.jobs;
-            own = (quiet.own, st.own);
-          });
-      answer = λ h st. written ∙ ap (λ xs. answers ++ xs) (here h st.switch).answers;
-    }
+    plays_right rules r old new jobs step bytes answers more is adds quiet
+    (λ h st. right h (legal_by rules old new step is adds h st).0.1) written
 
 pub up_plays : (rules : Rules) (old new : Started) (jobs : ℕ → Option JobParts) (slot : ℕ) (side : Side)
     (a : UpAnswer) (answers more : List ℕ) → old.start ≡ tape_start rules → (a ≡ UpAnswer.Memory → ⊥) →
@@ -167,6 +184,21 @@ next_plays rules old new jobs chan tick a answers more is adds written =
     (λ h said. record {
       makes = ap (λ x. Some (Steps.NextCell chan tick x)) said;
       answers = ap next_bytes said;
+    }) written
+
+pub dial_order_plays : (rules : Rules) (old new : Started) (jobs : ℕ → Option JobParts) (a : Option DialStep)
+    (answers more : List ℕ) → old.start ≡ tape_start rules → SwitchAdds old new (Steps.DialOrder a) →
+    ((h : List Step) → SwitchStands old h → a ≡ dial_order_answer old.start.rules h) →
+    more ≡ answers ++ dial_order_bytes a →
+    PlaysOn rules DialOrder (record { switch = old; jobs = jobs }) (record { switch = new; jobs = jobs }) answers more
+dial_order_plays rules old new jobs a answers more is adds oldest written =
+    let said : (h : List Step) → SwitchStands old h → a ≡ dial_order_answer rules h =
+    λ h st. oldest h st ∙ ap (λ (s : SwitchStart). dial_order_answer s.rules h) is in
+    plays_right rules DialOrder old new jobs (Steps.DialOrder a) (dial_order_bytes a) answers more is adds
+    (record { jobs = λ h claim. refl; leaves = λ h note. record { claim_out = refl; away = refl }; own = tt })
+    (λ h st. record {
+      makes = ap (λ x. Some (Steps.DialOrder x)) (said h st);
+      answers = ap dial_order_bytes (said h st);
     }) written
 
 pub tear_down_plays : (rules : Rules) (old new : Started) (jobs : ℕ → Option JobParts) (circ : CircNo) (reason : ℕ)

@@ -19,9 +19,11 @@ use Rattle.tape.specs.Kinds.Take.{take_front}
 use Rattle.tape.specs.Kinds.Claim.{claim_front}
 use Rattle.tape.specs.Kinds.Return.{return_front}
 use Rattle.tape.specs.Kinds.NextCell.{next_cell_front}
+use Rattle.tape.specs.Kinds.DialOrder.{dial_order_front}
 use Rattle.tape.specs.Kinds.TearDown.{tear_down_front}
 use Rattle.tor_spec.specs.CellStream.{IsBytes}
 use Rattle.tape.proofs.Fields.{field_bytes, field_4, field_8, part, drop_bytes}
+use Rattle.tape.proofs.DialSpellings.{dial_order_spelled}
 use Rattle.tape.proofs.JobSpellings.{claim_spelled, return_spelled}
 use Rattle.tape.proofs.Takes.{take_spelled}
 use Rattle.tape.proofs.Teardowns.{tear_down_spelled}
@@ -182,11 +184,11 @@ opening_spelled fields pad n r rest bytes behind split is =
     open_by _ _ fields pad (drop n fields) r rest bytes (drop_bytes n fields bytes)
     (λ (long : 5 ≤ length (drop n fields)). omega (arith, long, length-drop n fields, behind)) split refl refl is
 
-front_by : (up opening taken claim given undone next torn padded unbuilt_kind : Bool) (kind : ℕ) (fields : List ℕ) (r : Record)
-    (rest : List ℕ) → IsBytes fields →
+front_by : (up opening taken claim given undone next dials torn padded unbuilt_kind : Bool) (kind : ℕ) (fields : List ℕ)
+    (r : Record) (rest : List ℕ) → IsBytes fields →
     (kind == 1) ≡ up → (kind == 3) ≡ opening → (kind == 4) ≡ taken → (kind == 5) ≡ claim → (kind == 6) ≡ given
     → (kind == 7) ≡ undone →
-    (kind == 8) ≡ next → (kind == 14) ≡ torn → (kind == 15) ≡ padded →
+    (kind == 8) ≡ next → (kind == 12) ≡ dials → (kind == 14) ≡ torn → (kind == 15) ≡ padded →
     (if up then channel_up_front fields
     else (if opening then open_circuit_front fields
     else (if taken then take_front fields
@@ -194,50 +196,55 @@ front_by : (up opening taken claim given undone next torn padded unbuilt_kind : 
     else (if given then return_front GiveBack fields
     else (if undone then return_front Abandon fields
     else (if next then next_cell_front fields
+    else (if dials then dial_order_front fields
     else (if torn then tear_down_front fields
     else (if padded then padded_circuit_front fields
-    else (if unbuilt_kind then unbuilt kind else no_record)))))))))) ≡ record_and r rest →
+    else (if unbuilt_kind then unbuilt kind else no_record))))))))))) ≡ record_and r rest →
     kind ∷ fields ≡ spelling r ++ rest
 unfolding channel_up_front next_cell_front
-front_by true opening taken claim given undone next torn padded unbuilt_kind kind fields r rest bytes is_up is_opening is_taken
-    is_claim is_given is_undone is_next is_torn is_padded is =
+front_by true opening taken claim given undone next dials torn padded unbuilt_kind kind fields r rest bytes is_up is_opening
+    is_taken is_claim is_given is_undone is_next is_dials is_torn is_padded is =
     ap (λ k. k ∷ fields) (eqb-true kind 1 is_up) ∙ up_by _ _ _ fields r rest bytes refl refl refl is
-front_by false true taken claim given undone next torn padded unbuilt_kind kind fields r rest bytes is_up is_opening is_taken
-    is_claim is_given is_undone is_next is_torn is_padded is =
+front_by false true taken claim given undone next dials torn padded unbuilt_kind kind fields r rest bytes is_up is_opening
+    is_taken is_claim is_given is_undone is_next is_dials is_torn is_padded is =
     ap (λ k. k ∷ fields) (eqb-true kind 3 is_opening) ∙ opening_spelled fields None 28 r rest bytes (omega arith) refl is
-front_by false false true claim given undone next torn padded unbuilt_kind kind fields r rest bytes is_up is_opening is_taken
-    is_claim is_given is_undone is_next is_torn is_padded is =
+front_by false false true claim given undone next dials torn padded unbuilt_kind kind fields r rest bytes is_up is_opening
+    is_taken is_claim is_given is_undone is_next is_dials is_torn is_padded is =
     ap (λ k. k ∷ fields) (eqb-true kind 4 is_taken) ∙ take_spelled fields r rest bytes is
-front_by false false false true given undone next torn padded unbuilt_kind kind fields r rest bytes is_up is_opening is_taken
-    is_claim is_given is_undone is_next is_torn is_padded is =
+front_by false false false true given undone next dials torn padded unbuilt_kind kind fields r rest bytes is_up is_opening
+    is_taken is_claim is_given is_undone is_next is_dials is_torn is_padded is =
     ap (λ k. k ∷ fields) (eqb-true kind 5 is_claim) ∙ claim_spelled fields r rest bytes is
-front_by false false false false true undone next torn padded unbuilt_kind kind fields r rest bytes is_up is_opening is_taken
-    is_claim is_given is_undone is_next is_torn is_padded is =
+front_by false false false false true undone next dials torn padded unbuilt_kind kind fields r rest bytes is_up is_opening
+    is_taken is_claim is_given is_undone is_next is_dials is_torn is_padded is =
     ap (λ k. k ∷ fields) (eqb-true kind 6 is_given) ∙ return_spelled 6 GiveBack fields r rest bytes (λ n. refl) is
-front_by false false false false false true next torn padded unbuilt_kind kind fields r rest bytes is_up is_opening is_taken
-    is_claim is_given is_undone is_next is_torn is_padded is =
+front_by false false false false false true next dials torn padded unbuilt_kind kind fields r rest bytes is_up is_opening
+    is_taken is_claim is_given is_undone is_next is_dials is_torn is_padded is =
     ap (λ k. k ∷ fields) (eqb-true kind 7 is_undone) ∙ return_spelled 7 Abandon fields r rest bytes (λ n. refl) is
-front_by false false false false false false true torn padded unbuilt_kind kind fields r rest bytes is_up is_opening is_taken
-    is_claim is_given is_undone is_next is_torn is_padded is =
+front_by false false false false false false true dials torn padded unbuilt_kind kind fields r rest bytes is_up is_opening
+    is_taken is_claim is_given is_undone is_next is_dials is_torn is_padded is =
     ap (λ k. k ∷ fields) (eqb-true kind 8 is_next) ∙ next_by _ fields r rest bytes refl is
-front_by false false false false false false false true padded unbuilt_kind kind fields r rest bytes is_up is_opening is_taken
-    is_claim is_given is_undone is_next is_torn is_padded is =
+front_by false false false false false false false true torn padded unbuilt_kind kind fields r rest bytes is_up is_opening
+    is_taken is_claim is_given is_undone is_next is_dials is_torn is_padded is =
+    ap (λ k. k ∷ fields) (eqb-true kind 12 is_dials) ∙ dial_order_spelled fields r rest is
+front_by false false false false false false false false true padded unbuilt_kind kind fields r rest bytes is_up is_opening
+    is_taken is_claim is_given is_undone is_next is_dials is_torn is_padded is =
     ap (λ k. k ∷ fields) (eqb-true kind 14 is_torn) ∙ tear_down_spelled fields r rest bytes is
-front_by false false false false false false false false true unbuilt_kind kind fields r rest bytes is_up is_opening is_taken
-    is_claim is_given is_undone is_next is_torn is_padded is =
+front_by false false false false false false false false false true unbuilt_kind kind fields r rest bytes is_up is_opening
+    is_taken is_claim is_given is_undone is_next is_dials is_torn is_padded is =
     ap (λ k. k ∷ fields) (eqb-true kind 15 is_padded)
     ∙ opening_spelled fields (Some (field 28 16 fields)) 44 r rest bytes (omega arith) (part 28 16 fields) is
-front_by false false false false false false false false false true kind fields r rest bytes is_up is_opening is_taken is_claim
-    is_given is_undone is_next is_torn is_padded is = cc
-front_by false false false false false false false false false false kind fields r rest bytes is_up is_opening is_taken is_claim
-    is_given is_undone is_next is_torn is_padded is = cc
+front_by false false false false false false false false false false true kind fields r rest bytes is_up is_opening
+    is_taken is_claim is_given is_undone is_next is_dials is_torn is_padded is = cc
+front_by false false false false false false false false false false false kind fields r rest bytes is_up is_opening
+    is_taken is_claim is_given is_undone is_next is_dials is_torn is_padded is = cc
 
 pub read_is_spelled : (bytes : List ℕ) (r : Record) (rest : List ℕ) → IsBytes bytes → front_of bytes ≡ record_and r rest
     → bytes ≡ spelling r ++ rest
 unfolding front_of
 read_is_spelled [] r rest bytes is = cc
 read_is_spelled (kind ∷ fields) r rest bytes is =
-    front_by _ _ _ _ _ _ _ _ _ _ kind fields r rest (λ i. bytes (suc i)) refl refl refl refl refl refl refl refl refl is
+    front_by _ _ _ _ _ _ _ _ _ _ _ kind fields r rest (λ i. bytes (suc i)) refl refl refl refl refl refl refl refl refl
+    refl is
 
 pub front_is_spelled : {E : Type 0} (r : Result Front E) (bytes : List ℕ) → IsBytes bytes
     → IfOk r (λ front. FrontIs front (front_of bytes)) →

@@ -8,7 +8,7 @@ use Rattle.std.specs.Int.{w32, w64, from_be_bytes, to_be_bytes}
 use Rattle.tr_io.specs.declared.names.Side.{Side}
 use Rattle.tr_io.specs.declared.names.Side.TheVariants.{PeerOpened, WeOpened}
 use Rattle.tape.specs.declared.record.Record.{Record}
-use Rattle.tape.specs.declared.record.Record.TheVariants.{ChannelUp, OpenCircuit, Take, Claim, GiveBack, Abandon, NextCell, TearDown}
+use Rattle.tape.specs.declared.record.Record.TheVariants.{ChannelUp, OpenCircuit, Take, Claim, GiveBack, Abandon, NextCell, DialOrder, TearDown}
 use Rattle.tape.specs.Fronts.{FrontOf, FrontIs, record_and, field}
 use Rattle.tape.specs.Records.{front_of}
 use Rattle.tape.specs.Kinds.ChannelUp.{channel_up_front}
@@ -191,6 +191,7 @@ spelled_is_read (Abandon claim) rest fits = return_read Abandon claim rest fits
 spelled_is_read (NextCell chan tick) rest fits =
     ap next_cell_front (append_assoc (to_be_bytes w64 chan.0) (to_be_bytes w64 tick) rest)
     ∙ next_read chan.0 tick rest fits.0 fits.1
+spelled_is_read DialOrder rest fits = refl
 spelled_is_read (TearDown circ reason) rest fits =
     ap tear_down_front (append_assoc (to_be_bytes w64 circ.0) (reason ∷ []) rest) ∙ tear_down_read circ.0 reason rest fits.0
 

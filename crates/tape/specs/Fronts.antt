@@ -6,7 +6,7 @@ use Rattle.cell_codec.specs.declared.cell.Cell.{Cell}
 use Rattle.cell_codec.specs.Cells.{IsWellFormed}
 use Rattle.tape.specs.declared.record.Record.{Record}
 use Rattle.switch_model.specs.Limits.{worker_limit}
-use Rattle.tape.specs.declared.record.Record.TheVariants.{ChannelUp, OpenCircuit, Take, Claim, GiveBack, Abandon, NextCell, TearDown}
+use Rattle.tape.specs.declared.record.Record.TheVariants.{ChannelUp, OpenCircuit, Take, Claim, GiveBack, Abandon, NextCell, DialOrder, TearDown}
 use Rattle.tape.specs.declared.record.Front.{Front}
 use Rattle.tape.specs.declared.record.Front.TheVariants.{Whole, Cut, Bad, NotBuilt}
 
@@ -38,6 +38,7 @@ bare (Claim worker) = Claim worker
 bare (GiveBack claim) = GiveBack claim
 bare (Abandon claim) = Abandon claim
 bare (NextCell chan tick) = NextCell chan tick
+bare DialOrder = DialOrder
 bare (TearDown circ reason) = TearDown circ reason
 
 -- What a record says meets the condition of its call.
@@ -49,6 +50,7 @@ MeetsCall (Claim worker) = worker < worker_limit
 MeetsCall (GiveBack claim) = Unit {0}
 MeetsCall (Abandon claim) = Unit {0}
 MeetsCall (NextCell chan tick) = Unit {0}
+MeetsCall DialOrder = Unit {0}
 MeetsCall (TearDown circ reason) = Unit {0}
 
 -- The code's front, by what its rest points to.

@@ -6,4 +6,5 @@ pub mod NextCell
 pub mod Take
 pub mod Claim
 pub mod Return
+pub mod DialOrder
 pub mod TearDown

@@ -6,13 +6,14 @@ use Rattle.tape.specs.Kinds.Take.{take_front}
 use Rattle.tape.specs.Kinds.Claim.{claim_front}
 use Rattle.tape.specs.Kinds.Return.{return_front}
 use Rattle.tape.specs.Kinds.NextCell.{next_cell_front}
+use Rattle.tape.specs.Kinds.DialOrder.{dial_order_front}
 use Rattle.tape.specs.Kinds.TearDown.{tear_down_front}
 use Rattle.tape.specs.declared.record.Record.TheVariants.{GiveBack, Abandon}
 use Rattle.tape.specs.Fronts.{FrontOf, less, no_record, unbuilt}
 
--- 02 and 09 to 0d.
+-- 02, 09 to 0b, and 0d.
 abbrev pub is_unbuilt : ℕ → Bool
-is_unbuilt kind = (kind == 2) || (nat_le 9 kind && nat_le kind 13)
+is_unbuilt kind = (kind == 2) || ((nat_le 9 kind && nat_le kind 11) || (kind == 13))
 
 unfoldable pub front_of : List ℕ → FrontOf
 front_of [] = less
@@ -24,6 +25,7 @@ front_of (kind ∷ fields) =
     else (if kind == 6 then return_front GiveBack fields
     else (if kind == 7 then return_front Abandon fields
     else (if kind == 8 then next_cell_front fields
+    else (if kind == 12 then dial_order_front fields
     else (if kind == 14 then tear_down_front fields
     else (if kind == 15 then padded_circuit_front fields
-    else (if is_unbuilt kind then unbuilt kind else no_record)))))))))
+    else (if is_unbuilt kind then unbuilt kind else no_record))))))))))

@@ -14,9 +14,10 @@ use Rattle.switch_model.specs.Answers.Claim.{claim_answer}
 use Rattle.switch_model.specs.Answers.GiveBack.{give_back_answer}
 use Rattle.switch_model.specs.Answers.Abandon.{abandon_answer}
 use Rattle.switch_model.specs.Answers.NextCell.{next_cell_answer}
+use Rattle.switch_model.specs.Answers.DialOrder.{dial_order_answer}
 use Rattle.switch_model.specs.Answers.TearDown.{tear_down_answer}
 use Rattle.tape.specs.declared.record.Record.{Record}
-use Rattle.tape.specs.declared.record.Record.TheVariants.{ChannelUp, OpenCircuit, Take, Claim, GiveBack, Abandon, NextCell, TearDown}
+use Rattle.tape.specs.declared.record.Record.TheVariants.{ChannelUp, OpenCircuit, Take, Claim, GiveBack, Abandon, NextCell, DialOrder, TearDown}
 use Rattle.tape.specs.Fronts.{record_and}
 use Rattle.tape.specs.Records.{front_of}
 use Rattle.tape.specs.KeptJobs.{kept_job}
@@ -26,6 +27,7 @@ use Rattle.tape.specs.Kinds.Take.{take_bytes}
 use Rattle.tape.specs.Kinds.Claim.{claim_bytes}
 use Rattle.tape.specs.Kinds.Return.{return_bytes}
 use Rattle.tape.specs.Kinds.NextCell.{next_bytes}
+use Rattle.tape.specs.Kinds.DialOrder.{dial_order_bytes}
 use Rattle.tape.specs.Kinds.TearDown.{tear_down_bytes}
 
 -- The switch that a tape is played on: its name is 0.
@@ -53,6 +55,7 @@ step_of rules h (Claim worker) = Some (Steps.Claim worker (claim_answer (tape_st
 step_of rules h (GiveBack claim) = option_map (λ note. Steps.GiveBack note None (give_back_of rules h note)) (kept_job h claim)
 step_of rules h (Abandon claim) = option_map (λ note. Steps.Abandon note None (abandon_of rules h note)) (kept_job h claim)
 step_of rules h (NextCell chan tick) = Some (Steps.NextCell chan tick (next_cell_answer rules h chan.0 tick))
+step_of rules h DialOrder = Some (Steps.DialOrder (dial_order_answer rules h))
 step_of rules h (TearDown circ reason) = Some (Steps.TearDown circ reason (tear_down_answer rules h circ.0 reason))
 
 -- How that answer is written; 04 to the return of a job that the tape doesn't keep.
@@ -65,6 +68,7 @@ answer_of rules h (Claim worker) = claim_bytes (claim_answer (tape_start rules) 
 answer_of rules h (GiveBack claim) = return_bytes 6 (option_map (give_back_of rules h) (kept_job h claim))
 answer_of rules h (Abandon claim) = return_bytes 7 (option_map (abandon_of rules h) (kept_job h claim))
 answer_of rules h (NextCell chan tick) = next_bytes (next_cell_answer rules h chan.0 tick)
+answer_of rules h DialOrder = dial_order_bytes (dial_order_answer rules h)
 answer_of rules h (TearDown circ reason) = tear_down_bytes (tear_down_answer rules h circ.0 reason)
 
 -- These steps with one more, if there is one.

@@ -13,6 +13,7 @@ use crate::job_calls::{abandon_job, claim_job, give_back_job};
 use crate::jobs::Jobs;
 use crate::kinds::channel_up::write_up;
 use crate::kinds::claim::write_claim;
+use crate::kinds::dial_order::write_dial_order;
 use crate::kinds::next_cell::write_next;
 use crate::kinds::open_circuit::{opening_kind, write_open};
 use crate::kinds::returns::write_return;
@@ -112,6 +113,10 @@ impl Player {
             Record::NextCell(chan, tick) => {
                 let answer = self.switch.next_cell(chan, tick);
                 write_next(&answer, &mut self.answers)
+            }
+            Record::DialOrder => {
+                let answer = self.switch.dial_order();
+                write_dial_order(answer, &mut self.answers)
             }
             Record::TearDown(circ, reason) => {
                 let answer = self.switch.tear_down(circ, reason);

@@ -5,7 +5,9 @@ ghost use Rattle.tape.specs.Fronts.{record_and, FrontIs, FrontMeetsCall, RestIsS
 ghost use Rattle.tape.specs.Records.{front_of};
 ghost use Rattle.tape.specs.Spelling.{spelling, FitsFields};
 
-use crate::kinds::{channel_up, claim, next_cell, open_circuit, returns, take, tear_down};
+use crate::kinds::{
+    channel_up, claim, dial_order, next_cell, open_circuit, returns, take, tear_down,
+};
 use crate::record::Front;
 use std::alloc::{AllocError, Global};
 
@@ -41,9 +43,10 @@ fn front(alloc: Global, bytes: &[u8]) -> Result<Front<'_>, AllocError>
         0x06 => returns::read_give_back(fields),
         0x07 => returns::read_abandon(fields),
         0x08 => next_cell::read(fields),
+        0x0c => dial_order::read(fields),
         0x0e => tear_down::read(fields),
         0x0f => open_circuit::read_padded(fields),
-        0x02 | 0x09..=0x0d => Front::NotBuilt(*kind),
+        0x02 | 0x09..=0x0b | 0x0d => Front::NotBuilt(*kind),
         _ => Front::Bad,
     })
 }

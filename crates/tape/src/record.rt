@@ -73,6 +73,8 @@ pub enum Record {
     Abandon(u64),
     /// `next_cell`: the channel, the tick.
     NextCell(ChanNo, u64),
+    /// `dial_order`.
+    DialOrder,
     /// `tear_down`: the circuit, the reason.
     TearDown(CircNo, u8),
 }

@@ -3,6 +3,7 @@
 ghost use Rattle.std.specs.Prelude.{◌≤◌};
 
 mod bad_tapes;
+mod dial_order;
 mod faults;
 mod jobs;
 mod round_trip;

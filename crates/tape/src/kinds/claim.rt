@@ -61,7 +61,12 @@ fn write_note(note: &ClaimNote, out: &mut Vec<u8>) -> Result<(), AllocError>
 }
 
 /// Appends a few bytes and two numbers.
-fn write_two(head: &[u8], first: &[u8], second: &[u8], out: &mut Vec<u8>) -> Result<(), AllocError>
+pub(super) fn write_two(
+    head: &[u8],
+    first: &[u8],
+    second: &[u8],
+    out: &mut Vec<u8>,
+) -> Result<(), AllocError>
     requires { length head.now + length first.now + length second.now ≤ 31 }
     ensures ok { OnOk result (out.new.items ≡ out.old.items ++ (head.now ++ (first.now ++ second.now))) }
     ensures err { OnErr result (out.new.items ≡ out.old.items) }

@@ -2,6 +2,7 @@
 mod back;
 pub mod channel_up;
 pub mod claim;
+pub mod dial_order;
 pub mod next_cell;
 pub mod open_circuit;
 pub mod returns;

@@ -36,6 +36,7 @@ fn bytes_that_begin_no_built_record_end_the_tape(rt: HostRuntime) -> Result<(), 
         ([0x05, 0, 0, 0, 64, 0], Status::BadTape(6)),
         ([0x07, 0, 0, 0, 0, 0], Status::BadTape(6)),
         ([0x09, 0, 0, 0, 0, 0], Status::NotBuilt(9)),
+        ([0x0b, 0, 0, 0, 0, 0], Status::NotBuilt(11)),
         ([0x0d, 0, 0, 0, 0, 0], Status::NotBuilt(13)),
         ([0x0e, 0, 0, 0, 0, 0], Status::BadTape(6)),
     ] {

@@ -1,4 +1,4 @@
-use Rattle.tape.proofs.Plays.{on_ok, plays_as, up_plays, opens_by, id_by, open_plays, take_plays, next_plays, tear_down_plays}
+use Rattle.tape.proofs.Plays.{on_ok, plays_as, up_plays, opens_by, id_by, open_plays, take_plays, next_plays, dial_order_plays, tear_down_plays}
 use Rattle.tape.proofs.player.Player.play.Goals as goal
 
 pub returns-in-ChannelUp-clause-ok : goal.returns-in-ChannelUp-clause-ok
@@ -35,6 +35,13 @@ returns-in-NextCell-clause-ok c =
     (λ written. plays_as _ _ _ _ _ _ _ c.in-NextCell.is
     (next_plays _ _ _ _ c.in-NextCell.chan c.in-NextCell.tick c.next_cell-answer.result _ _ c.requires.start
     c.next_cell-answer.ensures.whole written))
+
+pub returns-in-DialOrder-clause-ok : goal.returns-in-DialOrder-clause-ok
+returns-in-DialOrder-clause-ok c =
+    on_ok _ _ c.write_dial_order.result c.write_dial_order.ensures.ok
+    (λ written. plays_as _ _ _ _ _ _ _ c.in-DialOrder.is
+    (dial_order_plays _ _ _ _ _ _ _ c.requires.start c.dial_order-answer.ensures.whole c.dial_order-answer.ensures.oldest
+    written))
 
 pub returns-clause-ok : goal.returns-clause-ok
 returns-clause-ok c =
